@@ -1,5 +1,5 @@
 #!/usr/bin/env python3
-"""Times the commands that answer lines or write a script: seconds of processor, and memory, on inputs of up to 1 MiB.
+"""Times the commands that answer lines, write a script or sum up its run: seconds of processor, and memory, on inputs of up to 1 MiB.
 
 Run it at the top of the repository. It builds crates/evat. The figures should grow as the input does.
 """
@@ -57,9 +57,10 @@ def main() -> None:
             runs = [once([word], made(size)) for _ in range(TRIES)]
             seconds, memory, status = min(runs)
             print(f"{word + ': ' + what:32} {size:>10} {seconds * 1000:>9.1f} {memory / 1e6:>6.1f} {status:>6}")
-    for count in (30, 300, 3000):
-        seconds, memory, status = min(once(["gen", str(count)], b"") for _ in range(TRIES))
-        print(f"{'gen ' + str(count):32} {'':>10} {seconds * 1000:>9.1f} {memory / 1e6:>6.1f} {status:>6}")
+    for word in ("gen", "sum"):
+        for count in (30, 300, 3000):
+            seconds, memory, status = min(once([word, str(count)], b"") for _ in range(TRIES))
+            print(f"{word + ' ' + str(count):32} {'':>10} {seconds * 1000:>9.1f} {memory / 1e6:>6.1f} {status:>6}")
 
 
 if __name__ == "__main__":

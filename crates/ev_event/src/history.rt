@@ -64,6 +64,13 @@ impl History {
         Ok(())
     }
 
+    /// Forgets all events. The room that they took is kept for those to come.
+    pub fn clear(&mut self)
+        ensures { self.new ≡ [] }
+    {
+        self.events.clear();
+    }
+
     /// The lines of all events, each with its line feed.
     pub fn render(&self, alloc: Global, names: &Seq<Str>) -> Result<Str, Memory>
         ensures { IfOk result (λ text. text ≡ render names.now self.now) }

@@ -481,13 +481,17 @@ pub fn push_line(
     text.push(line.as_str())
 }
 
-/// The lines of events, each with its line feed.
+/// About how many bytes a line has.
+const LINE: usize = 32;
+
+/// The lines of events, each with its line feed. They are written into one text, which begins with room for lines of the usual length.
 pub(crate) fn render_all(alloc: Global, events: &[Event], names: &Seq<Str>) -> Result<Str, Memory>
     ensures { IfOk result (λ text. text ≡ render names.now events.now) }
 {
-    let mut text = Str::new(alloc);
+    let mut text = String::with_capacity(alloc, events.len().saturating_mul(LINE))?;
     for event in events {
-        push_line(alloc, event, names, &mut text)?;
+        push_event(alloc, &mut text, names.as_slice(), event)?;
+        text.push('\n')?;
     }
-    Ok(text)
+    Ok(Str::of(text))
 }

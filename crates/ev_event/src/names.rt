@@ -3,15 +3,16 @@
 ghost use Rattle.std.specs.Prelude.{◌≡◌, ◌<◌, ◌++◌, OnOk, string_bytes, decimal};
 ghost use Rattle.def_event.specs.Lines.{activation, primitive_name, vat, numbered, message, name};
 
-use ev_base::{Msg, Name, PrimId, Str, VatId};
+use ev_base::{Msg, Name, Str, VatId};
+use itoa::Buffer;
 use std::alloc::AllocError;
-use std::fmt::Write;
 
 /// Appends a number.
 pub(crate) fn push_number(out: &mut String, number: u64) -> Result<(), AllocError>
     ensures { OnOk result (string_bytes out.new ≡ string_bytes out.old ++ decimal number) }
 {
-    write!(out, "{number}")
+    let mut digits = Buffer::new();
+    out.push_str(digits.format(number))
 }
 
 /// Appends an activation of a vat by its number.

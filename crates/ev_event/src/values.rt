@@ -11,8 +11,8 @@ use crate::names::{push_name, push_numbered};
 use def_event::shown::Shown;
 use ev_base::{PrimId, Str};
 use ev_text::{push_quoted_character, push_shortened};
+use itoa::Buffer;
 use std::alloc::{AllocError, Global};
-use std::fmt::Write;
 
 /// The name of a primitive of the safe scope by its number.
 fn safe_name(number: u8) -> &'static str
@@ -60,7 +60,8 @@ fn push_primitive(out: &mut String, primitive: PrimId) -> Result<(), AllocError>
 fn push_integer(out: &mut String, number: i128) -> Result<(), AllocError>
     ensures { OnOk result (string_bytes out.new ≡ string_bytes out.old ++ signed_decimal number) }
 {
-    write!(out, "{number}")
+    let mut digits = Buffer::new();
+    out.push_str(digits.format(number))
 }
 
 /// Appends a value that is no list in a note. Of such a list it appends the bracket, and hands out the members.

@@ -1,6 +1,6 @@
 //! Numbers that a step tells of, and their names.
 
-ghost use Rattle.std.specs.Prelude.{◌≡◌, [], OnOk};
+ghost use Rattle.std.specs.Prelude.{◌≡◌, ◌++◌, ◌∷◌, [], None, OnOk, map};
 ghost use Rattle.ev_naming.specs.Names.{told_at, with_told};
 
 use ev_base::{Memory, Name, PromId};
@@ -8,19 +8,38 @@ use indexmap::IndexMap;
 use std::alloc::Global;
 use std::marker::Model;
 
+/// How many numbers are found by looking at each.
+const FEW: usize = 8;
+
 /// Numbers that a step tells of, and their names. The first that is told of a number counts.
+///
+/// Most steps tell of few, and these stand in a row. Those behind them stand in a map, so that each is found at once in a long step too.
 #[derive(Drop)]
 pub struct Told {
-    names: IndexMap<u64, Name>,
+    few: Vec<(u64, Name)>,
+    more: IndexMap<u64, Name>,
 }
 
 impl Model for Told {
-    ghost use Rattle.std.specs.Prelude.{List, map};
+    ghost use Rattle.std.specs.Prelude.{List, ◌++◌, map};
     ghost use Rattle.ev_naming.specs.Names.{Entry};
 
     ghost Value = { List Entry };
 
-    ghost view = { λ t. map (λ e. record { number = e.0; name = e.1 }) t.names.entries };
+    ghost view = { λ t. map (λ e. record { number = e.0; name = e.1 }) (t.few.items ++ t.more.entries) };
+}
+
+/// The name of a number in a row of these.
+#[tactic(auto, unfolding(crate::specs::Names::told_at))]
+fn found(row: &[(u64, Name)], number: u64) -> Option<Name>
+    ensures { result ≡ told_at number (map (λ e. record { number = e.0; name = e.1 }) row.now) }
+{
+    for entry in row {
+        if entry.0 == number {
+            return Some(entry.1);
+        }
+    }
+    None
 }
 
 impl Told {
@@ -29,7 +48,8 @@ impl Told {
         ensures { result ≡ [] }
     {
         Told {
-            names: IndexMap::new(alloc),
+            few: Vec::new(alloc),
+            more: IndexMap::new(alloc),
         }
     }
 
@@ -50,7 +70,26 @@ impl Told {
     fn seen(&self, number: u64) -> Option<Name>
         ensures { result ≡ told_at number self.now }
     {
-        self.names.get(&number).copied()
+        if let Some(name) = found(self.few.as_slice(), number) {
+            return Some(name);
+        }
+        if self.more.is_empty() {
+            return None;
+        }
+        self.more.get(&number).copied()
+    }
+
+    /// A number of which nothing was told yet has a name.
+    fn add(&mut self, number: u64, name: Name) -> Result<(), Memory>
+        requires new { told_at number self.old ≡ None }
+        ensures { OnOk result (self.new ≡ self.old ++ record { number = number; name = name } ∷ []) }
+    {
+        if self.more.is_empty() && self.few.len() < FEW {
+            self.few.push((number, name))?;
+            return Ok(());
+        }
+        self.more.insert(number, name)?;
+        Ok(())
     }
 
     fn put(&mut self, number: u64, name: Name) -> Result<(), Memory>
@@ -58,10 +97,7 @@ impl Told {
     {
         match self.seen(number) {
             Some(_) => Ok(()),
-            None => {
-                self.names.insert(number, name)?;
-                Ok(())
-            }
+            None => self.add(number, name),
         }
     }
 }

@@ -14,19 +14,21 @@ use Rattle.ev_reader.specs.declared.fault.ProgramFault.{ProgramFault}
 use Rattle.ev_reader.specs.declared.fault.ProgramFault.TheVariants as faults
 use Rattle.ev_reader.specs.declared.fault.Stage.{Stage as Part}
 use Rattle.ev_reader.specs.declared.fault.Stage.TheVariants as parts
+use Rattle.ev_generate.specs.Generated.{generated}
 use Rattle.ev_sturdy_text.specs.Telling as sturdy
 use Rattle.ev_mint_text.specs.Telling as mint
 use Rattle.ev_top.specs.Commands.{reads}
 use Rattle.ev_top.specs.Debt.{Debt, most_bytes}
 use Rattle.ev_top.specs.Lines.{IsDueOfMint, IsDueOfSturdy, status_of}
 use Rattle.ev_top.specs.Script.{script_from}
+use Rattle.ev_top.specs.Summary.{summary_of}
 use Rattle.ev_top.specs.Programs.{AreRead, IsFirstRefused, names_for, IsRead, safe_names, refusal, stage_of, trees_of, IsDueOfFault}
 use Rattle.ev_top.specs.Expansion.{text_from, nameless, IsDueOfText, IsDueOfForm}
 use Rattle.ev_top.specs.Machine.{script_of, text_of, vat_of_step}
-use Rattle.ev_top.specs.Due.{IsDue, IsDueOfInput, IsDueOfBytes, IsDueOfAnswer, IsDueOfScript, IsDueOfTrees, IsDueOfVats, Pays, PaysWith, due_of_run, astray}
-use Rattle.ev_top.specs.Causes.{IsInterrupted, Follows, ComesWhere, IsLong, Breaks, HasScript, HasPrograms, HasText, HasFault, HasNoTree, IsProgramRefused, GoesAstray, RepeatsWord, Stops, StopsIn, run_of}
+use Rattle.ev_top.specs.Due.{IsDue, IsDueOfInput, IsDueOfBytes, IsDueOfAnswer, IsDueOfScript, IsDueOfTrees, IsDueOfVats, Pays, PaysWith, due_of_run, astray, Telling}
+use Rattle.ev_top.specs.Causes.{IsInterrupted, Follows, ComesWhere, IsLong, Breaks, HasScript, HasPrograms, HasText, HasFault, HasNoTree, HasRefused, IsProgramRefused, GoesAstray, RepeatsWord, Stops, StopsIn, run_of}
 use Rattle.ev_top.specs.declared.command.Command.{Command}
-use Rattle.ev_top.specs.declared.command.Command.TheVariants.{Run, Expand, Generate, Sturdy, Mint}
+use Rattle.ev_top.specs.declared.command.Command.TheVariants.{Run, Expand, Generate, Sum, Sturdy, Mint}
 use Rattle.ev_top.specs.declared.status.Status.{Status}
 use Rattle.ev_top.specs.declared.status.Status.TheVariants.{Done, Usage, ReadFault, WriteFault, TooLong, ScriptRefused, ProgramRefused, FuelSpent, TooDeep, WordRepeated, Memory}
 use Rattle.ev_top.specs.declared.status.Stage.{Stage}
@@ -41,16 +43,16 @@ abbrev IsRefused : ℕ → Part → ℕ → ℕ → Status → Type 0
 IsRefused vat part kind place status = status ≡ ProgramRefused (refusal vat part kind place)
 
 -- what is due for the run of these programs
-abbrev ran : Bool → Script → List Scoped → Debt
-ran wire script programs = due_of_run script (text_of wire (script_of script (trees_of programs))) (run_of script programs)
+abbrev ran : Telling → Script → List Scoped → Debt
+ran tell script programs = due_of_run script (tell (script_of script (trees_of programs))) (run_of script programs)
 
 data Why (command : Option Command) (input : List ℕ) (status : Status) : Type 0 where
   Misused : status ≡ Usage → Why command input status
   Long : IsLong command input → status ≡ TooLong → Why command input status
   Broken : (rule : ℕ) → Breaks rule command input → status ≡ ScriptRefused rule → Why command input status
   Faulty : (vat : ℕ) (part : Part) (kind place : ℕ) → HasFault vat part kind place command input → IsRefused vat part kind place status → Why command input status
-  Ran : (wire : Bool) (script : Script) (programs : List Scoped) → command ≡ Some (Run wire) → HasPrograms input script programs
-      → status ≡ (ran wire script programs).status → Why command input status
+  Ran : (tell : Telling) (script : Script) (programs : List Scoped) → HasPrograms command input script programs
+      → status ≡ (ran tell script programs).status → Why command input status
   Drew : (first second : ℕ) → RepeatsWord first second command input → status ≡ WordRepeated first second → Why command input status
   Finished : status ≡ Done → Why command input status
 
@@ -65,34 +67,48 @@ of_text : (input : List ℕ) (found : Result (List ℕ) ℕ) (status : Status) (
 of_text input (Ok program) status text few e (answer, answers, due) = formed program input answer status text (few, e) answers due
 of_text input (Err rule) status text few e due = Broken rule (few, e) due.0
 
-first_refused : (wire : Bool) (input : List ℕ) (script : Script) (front : List VatScript) (vat : VatScript) (more : List VatScript) (programs : List Scoped) (fault : ProgramFault)
-    (status : Status) (text : List ℕ) → HasScript input script → script.vats ≡ front ++ vat ∷ more → AreRead script.vats front programs → IsRead script.vats vat (Err fault)
-    → IsDueOfFault (length (trees_of programs)) vat.name fault status text → Why (Some (Run wire)) input status
-first_refused wire input script front vat more programs (faults.At part kind place) status text has all are is due =
-    let count = trees_count script.vats front programs are in
-    Faulty (length front) part kind place (script, has, (front, vat, more, programs, all, refl, are, is))
-    (subst (λ (n : ℕ). IsRefused n part kind place status) count due.0)
-first_refused wire input script front vat more programs faults.Memory status text has all are is due = absurd due
+-- a command that runs a script refuses it by its first source that is refused
+refused_so : (vat : ℕ) (part : Part) (kind place : ℕ) (command : Option Command) (input : List ℕ) → HasRefused vat part kind place command input
+    → HasFault vat part kind place command input
+refused_so vat part kind place None input (script, has, refused) = absurd has
+refused_so vat part kind place (Some (Run wire)) input has = has
+refused_so vat part kind place (Some (Sum n)) input has = has
+refused_so vat part kind place (Some Expand) input (script, has, refused) = absurd has
+refused_so vat part kind place (Some (Generate n)) input (script, has, refused) = absurd has
+refused_so vat part kind place (Some Sturdy) input (script, has, refused) = absurd has
+refused_so vat part kind place (Some Mint) input (script, has, refused) = absurd has
 
-of_vats : (wire : Bool) (input : List ℕ) (script : Script) (front vats : List VatScript) (programs : List Scoped) (trees : List (List Node)) (status : Status) (text : List ℕ)
-    → HasScript input script → script.vats ≡ front ++ vats → AreRead script.vats front programs → trees_of programs ≡ trees → IsDueOfVats wire script trees vats status text
-    → Why (Some (Run wire)) input status
-of_vats wire input script front [] programs trees status text has all are same due =
+first_refused : (command : Option Command) (input : List ℕ) (script : Script) (front : List VatScript) (vat : VatScript) (more : List VatScript) (programs : List Scoped) (fault : ProgramFault)
+    (status : Status) (text : List ℕ) → HasScript command input script → script.vats ≡ front ++ vat ∷ more → AreRead script.vats front programs → IsRead script.vats vat (Err fault)
+    → IsDueOfFault (length (trees_of programs)) vat.name fault status text → Why command input status
+first_refused command input script front vat more programs (faults.At part kind place) status text has all are is due =
+    let count = trees_count script.vats front programs are in
+    Faulty (length front) part kind place
+    (refused_so (length front) part kind place command input (script, has, (front, vat, more, programs, all, refl, are, is)))
+    (subst (λ (n : ℕ). IsRefused n part kind place status) count due.0)
+first_refused command input script front vat more programs faults.Memory status text has all are is due = absurd due
+
+of_vats : (tell : Telling) (command : Option Command) (input : List ℕ) (script : Script) (front vats : List VatScript) (programs : List Scoped) (trees : List (List Node)) (status : Status) (text : List ℕ)
+    → HasScript command input script → script.vats ≡ front ++ vats → AreRead script.vats front programs → trees_of programs ≡ trees → IsDueOfVats tell script trees vats status text
+    → Why command input status
+of_vats tell command input script front [] programs trees status text has all are same due =
     let whole : script.vats ≡ front = all ∙ append-nil front in
-    Ran wire script programs refl (has, subst (λ (vs : List VatScript). AreRead script.vats vs programs) (sym whole) are)
-    (subst (λ (ts : List (List Node)). IsDueOfTrees wire script ts status text) (sym same) due).0
-of_vats wire input script front (vat ∷ more) programs trees status text has all are same (Ok scoped, answers, due) =
-    of_vats wire input script (front ++ vat ∷ []) more (programs ++ scoped ∷ []) (trees ++ scoped.tree ∷ []) status text has
+    Ran tell script programs (has, subst (λ (vs : List VatScript). AreRead script.vats vs programs) (sym whole) are)
+    (subst (λ (ts : List (List Node)). IsDueOfTrees tell script ts status text) (sym same) due).0
+of_vats tell command input script front (vat ∷ more) programs trees status text has all are same (Ok scoped, answers, due) =
+    of_vats tell command input script (front ++ vat ∷ []) more (programs ++ scoped ∷ []) (trees ++ scoped.tree ∷ []) status text has
     (all ∙ sym (append_assoc front (vat ∷ []) more)) (read_more script.vats front programs vat scoped are answers)
     (map-append (λ (s : Scoped). s.tree) programs (scoped ∷ []) ∙ ap (λ (ts : List (List Node)). ts ++ scoped.tree ∷ []) same) due
-of_vats wire input script front (vat ∷ more) programs trees status text has all are same (Err fault, answers, due) =
-    first_refused wire input script front vat more programs fault status text has all are answers
+of_vats tell command input script front (vat ∷ more) programs trees status text has all are same (Err fault, answers, due) =
+    first_refused command input script front vat more programs fault status text has all are answers
     (subst (λ (ts : List (List Node)). IsDueOfFault (length ts) vat.name fault status text) (sym same) due)
 
-of_script : (wire : Bool) (input : List ℕ) (found : Result Script ℕ) (status : Status) (text : List ℕ) → length input ≤ most_bytes → script_from input ≡ found
-    → IsDueOfScript wire found status text → Why (Some (Run wire)) input status
-of_script wire input (Ok script) status text few e due = of_vats wire input script [] script.vats [] [] status text (few, e) refl tt refl due
-of_script wire input (Err rule) status text few e due = Broken rule (few, e) due.0
+-- what a script is due that a command runs, by what is found in its bytes
+of_script : (tell : Telling) (command : Option Command) (input : List ℕ) (found : Result Script ℕ) (status : Status) (text : List ℕ)
+    → ((script : Script) → found ≡ Ok script → HasScript command input script) → ((rule : ℕ) → found ≡ Err rule → Breaks rule command input)
+    → IsDueOfScript tell found status text → Why command input status
+of_script tell command input (Ok script) status text has breaks due = of_vats tell command input script [] script.vats [] [] status text (has script refl) refl tt refl due
+of_script tell command input (Err rule) status text has breaks due = Broken rule (breaks rule refl) due.0
 
 at_long : (most n : ℕ) → nat_lt most n ≡ true → most < n
 at_long most n test = grind (arith, nat_tests)
@@ -117,9 +133,11 @@ of_mint input (Err rule) status text few e due = Broken rule (few, e) due.0
 
 of_bytes : (command : Command) (input : List ℕ) (status : Status) (text : List ℕ) → length input ≤ most_bytes → IsDueOfBytes command input status text
     → Why (Some command) input status
-of_bytes (Run wire) input status text few due = of_script wire input (script_from input) status text few refl due
+of_bytes (Run wire) input status text few due =
+    of_script (text_of wire) (Some (Run wire)) input (script_from input) status text (λ script e. (few, e)) (λ rule e. (few, e)) due
 of_bytes Expand input status text few due = of_text input (text_from input) status text few refl due
 of_bytes (Generate n) input status text few due = Finished due.0
+of_bytes (Sum n) input status text few due = of_script summary_of (Some (Sum n)) input (script_from (generated n)) status text (λ script e. e) (λ rule e. e) due
 of_bytes Sturdy input status text few due = of_sturdy input (sturdy.due input) status text few refl due
 of_bytes Mint input status text few due = of_mint input (mint.due input) status text few refl due
 
@@ -133,6 +151,7 @@ why None input status text due = Misused due.0
 why (Some (Run wire)) input status text due = of_input (nat_lt most_bytes (length input)) (Run wire) input status text refl refl due
 why (Some Expand) input status text due = of_input (nat_lt most_bytes (length input)) Expand input status text refl refl due
 why (Some (Generate n)) input status text due = Finished due.0
+why (Some (Sum n)) input status text due = of_script summary_of (Some (Sum n)) input (script_from (generated n)) status text (λ script e. e) (λ rule e. e) due
 why (Some Sturdy) input status text due = of_input (nat_lt most_bytes (length input)) Sturdy input status text refl refl due
 why (Some Mint) input status text due = of_input (nat_lt most_bytes (length input)) Mint input status text refl refl due
 
@@ -187,7 +206,7 @@ long_only command input status (Misused e) is = cc
 long_only command input status (Long long e) is = long
 long_only command input status (Broken rule breaks e) is = cc
 long_only command input status (Faulty vat part kind place fault e) is = cc
-long_only command input status (Ran wire script programs run has e) is =
+long_only command input status (Ran tell script programs has e) is =
     absurd (never (λ s. s ≡ TooLong) (λ h. cc) (λ k h. cc) (λ k h. cc) (λ i j h. cc) (λ v h. cc) script _ (run_of script programs) (sym e ∙ is))
 long_only command input status (Drew first second repeats e) is = cc
 long_only command input status (Finished e) is = cc
@@ -205,7 +224,7 @@ rule_only rule command input status (Long long e) is = cc
 rule_only rule command input status (Broken broken breaks e) is =
     let same : broken ≡ rule = cc in subst (λ (r : ℕ). Breaks r command input) same breaks
 rule_only rule command input status (Faulty vat part kind place fault e) is = cc
-rule_only rule command input status (Ran wire script programs run has e) is =
+rule_only rule command input status (Ran tell script programs has e) is =
     absurd (never (λ s. s ≡ ScriptRefused rule) (λ h. cc) (λ k h. cc) (λ k h. cc) (λ i j h. cc) (λ v h. cc) script _ (run_of script programs) (sym e ∙ is))
 rule_only rule command input status (Drew first second repeats e) is = cc
 rule_only rule command input status (Finished e) is = cc
@@ -223,6 +242,8 @@ rule_there rule None input status text due breaks = absurd breaks
 rule_there rule (Some (Run wire)) input status text due (few, refused) = (rw (is_few most_bytes (length input) few, refused) at due).0
 rule_there rule (Some Expand) input status text due (few, refused) = (rw (is_few most_bytes (length input) few, refused) at due).0
 rule_there rule (Some (Generate n)) input status text due breaks = absurd breaks
+rule_there rule (Some (Sum n)) input status text due refused =
+    (subst (λ (found : Result Script ℕ). IsDueOfScript summary_of found status text) refused due).0
 rule_there rule (Some Sturdy) input status text due (few, refused) =
     (subst (λ (found : Result sturdy.Ending ℕ). IsDueOfSturdy found status text) refused (few_due Sturdy input status text refl few due)).0
 rule_there rule (Some Mint) input status text due (few, refused) =
@@ -307,7 +328,7 @@ fault_only vat part kind place command input status (Long long e) is = cc
 fault_only vat part kind place command input status (Broken rule breaks e) is = cc
 fault_only vat part kind place command input status (Faulty u p k q fault e) is =
     fault_same u vat p part k kind q place command input (told_once u vat p part k kind q place (sym e ∙ is)) fault
-fault_only vat part kind place command input status (Ran wire script programs run has e) is =
+fault_only vat part kind place command input status (Ran tell script programs has e) is =
     absurd (never (IsRefused vat part kind place) (λ h. cc) (λ k h. cc) (λ k h. cc) (λ i j h. cc) (λ v. astray_apart v vat part kind place) script _ (run_of script programs) (sym e ∙ is))
 fault_only vat part kind place command input status (Drew first second repeats e) is = cc
 fault_only vat part kind place command input status (Finished e) is = cc
@@ -340,16 +361,16 @@ tree_same scoped (Err faults.Memory) vat name Due status text same due = absurd 
 tree_same scoped (Err (faults.At part kind place)) vat name Due status text same due = absurd same
 
 -- what is due for vats of which the first are read is what is due for those that come next
-due_behind : (wire : Bool) (script : Script) (trees : List (List Node)) (front vats : List VatScript) (programs : List Scoped) (status : Status) (text : List ℕ)
-    → AreRead script.vats front programs → IsDueOfVats wire script trees (front ++ vats) status text → IsDueOfVats wire script (trees ++ trees_of programs) vats status text
-due_behind wire script trees [] vats [] status text are due = subst (λ (ts : List (List Node)). IsDueOfVats wire script ts vats status text) (sym (append-nil trees)) due
-due_behind wire script trees (v ∷ front) vats (p ∷ programs) status text are (answer, answers, due) =
-    let next = tree_same p answer (length trees) v.name (λ tree. IsDueOfVats wire script (trees ++ tree ∷ []) (front ++ vats)) status text
+due_behind : (tell : Telling) (script : Script) (trees : List (List Node)) (front vats : List VatScript) (programs : List Scoped) (status : Status) (text : List ℕ)
+    → AreRead script.vats front programs → IsDueOfVats tell script trees (front ++ vats) status text → IsDueOfVats tell script (trees ++ trees_of programs) vats status text
+due_behind tell script trees [] vats [] status text are due = subst (λ (ts : List (List Node)). IsDueOfVats tell script ts vats status text) (sym (append-nil trees)) due
+due_behind tell script trees (v ∷ front) vats (p ∷ programs) status text are (answer, answers, due) =
+    let next = tree_same p answer (length trees) v.name (λ tree. IsDueOfVats tell script (trees ++ tree ∷ []) (front ++ vats)) status text
     (tree_once p v.source (names_for script.vats v) answer are.0 answers) due in
-    subst (λ (ts : List (List Node)). IsDueOfVats wire script ts vats status text) (one_behind trees p.tree (trees_of programs))
-    (due_behind wire script (trees ++ p.tree ∷ []) front vats programs status text are.1 next)
-due_behind wire script trees [] vats (p ∷ programs) status text are due = absurd are
-due_behind wire script trees (v ∷ front) vats [] status text are due = absurd are
+    subst (λ (ts : List (List Node)). IsDueOfVats tell script ts vats status text) (one_behind trees p.tree (trees_of programs))
+    (due_behind tell script (trees ++ p.tree ∷ []) front vats programs status text are.1 next)
+due_behind tell script trees [] vats (p ∷ programs) status text are due = absurd are
+due_behind tell script trees (v ∷ front) vats [] status text are due = absurd are
 
 answer_fault : (vat : ℕ) (part : Part) (kind place : ℕ) (name : List ℕ) (Due : List Node → Status → List ℕ → Type 0) (answer : Result Scoped ProgramFault) (status : Status) (text : List ℕ)
     → IsDueOfAnswer vat name Due answer status text → (answer ≡ Err faults.Memory) ⊎ (answer ≡ Err (faults.At part kind place)) → IsRefused vat part kind place status
@@ -357,26 +378,40 @@ answer_fault vat part kind place name Due (Ok scoped) status text due (inl none)
 answer_fault vat part kind place name Due (Ok scoped) status text due (inr same) = cc
 answer_fault vat part kind place name Due (Err fault) status text due same = of_fault vat part kind place name fault status text due same
 
-vats_fault : (wire : Bool) (vat : ℕ) (part : Part) (kind place : ℕ) (script : Script) (status : Status) (text : List ℕ) → IsFirstRefused script.vats vat (faults.At part kind place)
-    → IsDueOfVats wire script [] script.vats status text → IsRefused vat part kind place status
-vats_fault wire vat part kind place script status text (front, refused, more, programs, all, count, are, is) due =
-    let here = due_behind wire script [] front (refused ∷ more) programs status text are (subst (λ (vs : List VatScript). IsDueOfVats wire script [] vs status text) all due) in
+vats_fault : (tell : Telling) (vat : ℕ) (part : Part) (kind place : ℕ) (script : Script) (status : Status) (text : List ℕ) → IsFirstRefused script.vats vat (faults.At part kind place)
+    → IsDueOfVats tell script [] script.vats status text → IsRefused vat part kind place status
+vats_fault tell vat part kind place script status text (front, refused, more, programs, all, count, are, is) due =
+    let here = due_behind tell script [] front (refused ∷ more) programs status text are (subst (λ (vs : List VatScript). IsDueOfVats tell script [] vs status text) all due) in
     let number : length (trees_of programs) ≡ vat = trees_count script.vats front programs are ∙ count in
     subst (λ (n : ℕ). IsRefused n part kind place status) number
-    (answer_fault (length (trees_of programs)) part kind place refused.name (λ tree. IsDueOfVats wire script (trees_of programs ++ tree ∷ []) more) here.0 status text here.2
+    (answer_fault (length (trees_of programs)) part kind place refused.name (λ tree. IsDueOfVats tell script (trees_of programs ++ tree ∷ []) more) here.0 status text here.2
     (fault_once part kind place refused.source (names_for script.vats refused) here.0 is here.1))
 
--- what is due for a script that the whole input is
-script_due : (wire : Bool) (input : List ℕ) (script : Script) (status : Status) (text : List ℕ) → HasScript input script → IsDue (Some (Run wire)) input status text
-    → IsDueOfVats wire script [] script.vats status text
-script_due wire input script status text (few, found) due =
-    subst (λ (r : Result Script ℕ). IsDueOfScript wire r status text) found (few_due (Run wire) input status text refl few due)
+-- what a command that runs a script tells of the run
+abbrev told_of : Option Command → Telling
+told_of (Some (Run wire)) theirs = text_of wire theirs
+told_of (Some (Sum n)) theirs = summary_of theirs
+told_of _ theirs = []
+
+-- what is due for the script that a command runs
+script_due : (command : Option Command) (input : List ℕ) (script : Script) (status : Status) (text : List ℕ) → HasScript command input script → IsDue command input status text
+    → IsDueOfVats (told_of command) script [] script.vats status text
+script_due None input script status text has due = absurd has
+script_due (Some (Run wire)) input script status text (few, found) due =
+    subst (λ (r : Result Script ℕ). IsDueOfScript (text_of wire) r status text) found (few_due (Run wire) input status text refl few due)
+script_due (Some (Sum n)) input script status text found due = subst (λ (r : Result Script ℕ). IsDueOfScript summary_of r status text) found due
+script_due (Some Expand) input script status text has due = absurd has
+script_due (Some (Generate n)) input script status text has due = absurd has
+script_due (Some Sturdy) input script status text has due = absurd has
+script_due (Some Mint) input script status text has due = absurd has
 
 fault_there : (vat : ℕ) (part : Part) (kind place : ℕ) (command : Option Command) (input : List ℕ) (status : Status) (text : List ℕ)
     → IsDue command input status text → HasFault vat part kind place command input → IsRefused vat part kind place status
 fault_there vat part kind place None input status text due has = absurd has
 fault_there vat part kind place (Some (Run wire)) input status text due (script, has, refused) =
-    vats_fault wire vat part kind place script status text refused (script_due wire input script status text has due)
+    vats_fault (text_of wire) vat part kind place script status text refused (script_due (Some (Run wire)) input script status text has due)
+fault_there vat part kind place (Some (Sum n)) input status text due (script, has, refused) =
+    vats_fault summary_of vat part kind place script status text refused (script_due (Some (Sum n)) input script status text has due)
 fault_there vat part kind place (Some Expand) input status text due (none, program, (few, found), fault) =
     let d = rw (is_few most_bytes (length input) few, found) at due in
     subst (λ (n : ℕ). IsRefused n part kind place status) (sym none)
@@ -402,20 +437,22 @@ none_some e = cc
 some_is : {A : Type 0} {x y : A} → Some x ≡ Some y → x ≡ y
 some_is e = cc
 
-no_vats : (wire : Bool) (script : Script) (trees : List (List Node)) (vats : List VatScript) (place : ℕ) (vat : VatScript) (status : Status) (text : List ℕ)
-    → slice_get vats place ≡ Some vat → ((scoped : Scoped) → IsRead script.vats vat (Ok scoped) → ⊥) → IsDueOfVats wire script trees vats status text → IsProgramRefused status
-no_vats wire script trees [] place vat status text is none due = absurd (none_some is)
-no_vats wire script trees (v ∷ more) place vat status text is none (Err fault, answers, due) = fault_refuses (length trees) v.name fault status text due
-no_vats wire script trees (v ∷ more) zero vat status text is none (Ok scoped, answers, due) =
+no_vats : (tell : Telling) (script : Script) (trees : List (List Node)) (vats : List VatScript) (place : ℕ) (vat : VatScript) (status : Status) (text : List ℕ)
+    → slice_get vats place ≡ Some vat → ((scoped : Scoped) → IsRead script.vats vat (Ok scoped) → ⊥) → IsDueOfVats tell script trees vats status text → IsProgramRefused status
+no_vats tell script trees [] place vat status text is none due = absurd (none_some is)
+no_vats tell script trees (v ∷ more) place vat status text is none (Err fault, answers, due) = fault_refuses (length trees) v.name fault status text due
+no_vats tell script trees (v ∷ more) zero vat status text is none (Ok scoped, answers, due) =
     absurd (none scoped (subst (λ (u : VatScript). IsRead script.vats u (Ok scoped)) (some_is is) answers))
-no_vats wire script trees (v ∷ more) (suc place) vat status text is none (Ok scoped, answers, due) =
-    no_vats wire script (trees ++ scoped.tree ∷ []) more place vat status text is none due
+no_vats tell script trees (v ∷ more) (suc place) vat status text is none (Ok scoped, answers, due) =
+    no_vats tell script (trees ++ scoped.tree ∷ []) more place vat status text is none due
 
 tree_there : (command : Option Command) (input : List ℕ) (status : Status) (text : List ℕ) → IsDue command input status text
     → HasNoTree command input → IsProgramRefused status
 tree_there None input status text due has = absurd has
 tree_there (Some (Run wire)) input status text due (script, has, place, vat, is, none) =
-    no_vats wire script [] script.vats place vat status text is none (script_due wire input script status text has due)
+    no_vats (text_of wire) script [] script.vats place vat status text is none (script_due (Some (Run wire)) input script status text has due)
+tree_there (Some (Sum n)) input status text due (script, has, place, vat, is, none) =
+    no_vats summary_of script [] script.vats place vat status text is none (script_due (Some (Sum n)) input script status text has due)
 tree_there (Some Expand) input status text due (program, (few, found), none) =
     let d = rw (is_few most_bytes (length input) few, found) at due in no_form program d.0 status text d.1 d.2 none
 tree_there (Some (Generate n)) input status text due has = absurd has
@@ -460,8 +497,8 @@ astray_only vat command input status (Misused e) is = cc
 astray_only vat command input status (Long long e) is = cc
 astray_only vat command input status (Broken rule breaks e) is = cc
 astray_only vat command input status (Faulty u part kind place fault e) is = absurd (astray_apart vat u part kind place (sym is ∙ e))
-astray_only vat command input status (Ran wire script programs run has e) is =
-    let stop = astray_stop vat script _ (run_of script programs) (sym e ∙ is) in (script, stop.0, (wire, run, programs, has, stop.2, stop.3), stop.1)
+astray_only vat command input status (Ran tell script programs has e) is =
+    let stop = astray_stop vat script _ (run_of script programs) (sym e ∙ is) in (script, stop.0, (programs, has, stop.2, stop.3), stop.1)
 astray_only vat command input status (Drew first second repeats e) is = cc
 astray_only vat command input status (Finished e) is = cc
 
@@ -470,8 +507,8 @@ fuel_only step command input status (Misused e) is = cc
 fuel_only step command input status (Long long e) is = cc
 fuel_only step command input status (Broken rule breaks e) is = cc
 fuel_only step command input status (Faulty vat part kind place fault e) is = cc
-fuel_only step command input status (Ran wire script programs run has e) is =
-    let stop = fuel_stop step script _ (run_of script programs) (sym e ∙ is) in (script, (wire, run, programs, has, stop.0, stop.1))
+fuel_only step command input status (Ran tell script programs has e) is =
+    let stop = fuel_stop step script _ (run_of script programs) (sym e ∙ is) in (script, (programs, has, stop.0, stop.1))
 fuel_only step command input status (Drew first second repeats e) is = cc
 fuel_only step command input status (Finished e) is = cc
 
@@ -480,8 +517,8 @@ deep_only step command input status (Misused e) is = cc
 deep_only step command input status (Long long e) is = cc
 deep_only step command input status (Broken rule breaks e) is = cc
 deep_only step command input status (Faulty vat part kind place fault e) is = cc
-deep_only step command input status (Ran wire script programs run has e) is =
-    let stop = deep_stop step script _ (run_of script programs) (sym e ∙ is) in (script, (wire, run, programs, has, stop.0, stop.1))
+deep_only step command input status (Ran tell script programs has e) is =
+    let stop = deep_stop step script _ (run_of script programs) (sym e ∙ is) in (script, (programs, has, stop.0, stop.1))
 deep_only step command input status (Drew first second repeats e) is = cc
 deep_only step command input status (Finished e) is = cc
 
@@ -499,20 +536,19 @@ drew_only first second command input status (Misused e) is = cc
 drew_only first second command input status (Long long e) is = cc
 drew_only first second command input status (Broken rule breaks e) is = cc
 drew_only first second command input status (Faulty vat part kind place fault e) is = cc
-drew_only first second command input status (Ran wire script programs run has e) is =
+drew_only first second command input status (Ran tell script programs has e) is =
     let stop = drew_stop first second script _ (run_of script programs) (sym e ∙ is) in
-    inr (stop.0, (script, (wire, run, programs, has, stop.1, stop.2)))
+    inr (stop.0, (script, (programs, has, stop.1, stop.2)))
 drew_only first second command input status (Drew one other repeats e) is = drew_once one other first second command input (sym e ∙ is) repeats
 drew_only first second command input status (Finished e) is = cc
 
 -- ---- what is due where the programs of a script are read
 
-read_due : (wire : Bool) (command : Option Command) (input : List ℕ) (script : Script) (programs : List Scoped) (status : Status) (text : List ℕ)
-    → command ≡ Some (Run wire) → HasPrograms input script programs → IsDue command input status text → IsDueOfTrees wire script (trees_of programs) status text
-read_due wire command input script programs status text run (has, are) due =
-    let d : IsDue (Some (Run wire)) input status text = subst (λ (c : Option Command). IsDue c input status text) run due in
-    due_behind wire script [] script.vats [] programs status text are
-    (subst (λ (vs : List VatScript). IsDueOfVats wire script [] vs status text) (sym (append-nil script.vats)) (script_due wire input script status text has d))
+read_due : (command : Option Command) (input : List ℕ) (script : Script) (programs : List Scoped) (status : Status) (text : List ℕ)
+    → HasPrograms command input script programs → IsDue command input status text → IsDueOfTrees (told_of command) script (trees_of programs) status text
+read_due command input script programs status text (has, are) due =
+    due_behind (told_of command) script [] script.vats [] programs status text are
+    (subst (λ (vs : List VatScript). IsDueOfVats (told_of command) script [] vs status text) (sym (append-nil script.vats)) (script_due command input script status text has due))
 
 -- the status of a run that stops
 abbrev stopped_as : Script → Stop → ℕ → Status
@@ -529,9 +565,9 @@ stop_due script text Astray step w = refl
 
 stop_there : (script : Script) (stop : Stop) (step : ℕ) (command : Option Command) (input : List ℕ) (status : Status) (text : List ℕ) → IsDue command input status text
     → StopsIn script stop step command input → status ≡ stopped_as script stop step
-stop_there script stop step command input status text due (wire, run, programs, has, world, stops) =
-    let written = text_of wire (script_of script (trees_of programs)) in
-    (read_due wire command input script programs status text run has due).0 ∙ ap (λ (r : machine.Run). (due_of_run script written r).status) stops
+stop_there script stop step command input status text due (programs, has, world, stops) =
+    let written = told_of command (script_of script (trees_of programs)) in
+    (read_due command input script programs status text has due).0 ∙ ap (λ (r : machine.Run). (due_of_run script written r).status) stops
     ∙ stop_due script written stop step world
 
 astray_there : (vat : ℕ) (command : Option Command) (input : List ℕ) (status : Status) (text : List ℕ) → IsDue command input status text

@@ -1,5 +1,5 @@
 -- What is due for a command, by how many bytes there are, and what pays for it.
-use Rattle.std.proofs.Common.{◌≡◌, inl, inr, ◌<◌, ◌≤◌, ℕ, ◌+◌, nat_lt, length, length-append, List, [], ◌∷◌, ◌&&◌, ◌++◌, append-nil, ap, ◌∙◌, codes, Bool, true, false, Option, Some, None, IfSome, IsSome, Result, Ok, Err, refl, sym, subst, arith}
+use Rattle.std.proofs.Common.{◌≡◌, ◌⊎◌, inl, inr, ◌<◌, ◌≤◌, ℕ, ◌+◌, nat_lt, length, length-append, List, [], ◌∷◌, ◌&&◌, ◌++◌, append-nil, ap, ◌∙◌, codes, Bool, true, false, Option, Some, None, IfSome, IsSome, Result, Ok, Err, refl, sym, subst, arith}
 use Rattle.std.specs.Io.KnownBytes.{IsAtEnd}
 use Rattle.std.proofs.KnownBytes.{Appends-nil}
 use Rattle.ev_io.specs.Ends.{Takes}
@@ -14,19 +14,21 @@ use Rattle.def_run.specs.World.{run, Goes, Stopped}
 use Rattle.ev_scope.specs.declared.accepted.Scoped.{Scoped}
 use Rattle.ev_script.specs.declared.script.Script.{Script}
 use Rattle.ev_script.specs.declared.script.VatScript.{VatScript}
+use Rattle.ev_generate.specs.Generated.{generated}
 use Rattle.ev_sturdy_text.specs.Telling as sturdy
 use Rattle.ev_mint_text.specs.Telling as mint
 use Rattle.ev_top.specs.Commands.{reads}
 use Rattle.ev_top.specs.Lines.{IsDueOfMint, IsDueOfSturdy, status_of}
 use Rattle.ev_top.specs.Words.{line}
-use Rattle.ev_top.specs.Debt.{IsFor, most_bytes, too_long}
+use Rattle.ev_top.specs.Debt.{Debt, IsFor, most_bytes, too_long}
 use Rattle.ev_top.specs.Script.{script_from}
+use Rattle.ev_top.specs.Summary.{summary_of}
 use Rattle.ev_top.specs.Programs.{IsDueOfFault}
 use Rattle.ev_top.specs.Expansion.{text_from, nameless, IsDueOfText, IsDueOfForm}
-use Rattle.ev_top.specs.Due.{IsDue, IsDueOfBytes, IsDueOfInput, IsDueOfScript, IsDueOfTrees, IsDueOfVats, IsOfWhole, IsOfRead, Finishes, Pays, PaysWith, due_of_run}
+use Rattle.ev_top.specs.Due.{IsDue, IsDueOfBytes, IsDueOfInput, IsDueOfScript, IsDueOfTrees, IsDueOfVats, IsOfWhole, IsOfRead, Finishes, Pays, PaysWith, Reads, Settles, Telling, TookFor, due_of_run}
 use Rattle.ev_top.specs.Machine.{script_of, text_of}
 use Rattle.ev_top.specs.declared.command.Command.{Command}
-use Rattle.ev_top.specs.declared.command.Command.TheVariants.{Run, Expand, Generate, Sturdy, Mint}
+use Rattle.ev_top.specs.declared.command.Command.TheVariants.{Run, Expand, Generate, Sum, Sturdy, Mint}
 use Rattle.ev_top.specs.declared.status.Status.{Status}
 use Rattle.ev_top.specs.declared.status.Status.TheVariants.{Done, Usage, ReadFault, WriteFault, TooLong, ScriptRefused, ProgramRefused, FuelSpent, TooDeep, WordRepeated, Memory}
 
@@ -51,19 +53,19 @@ of_end script text (Stopped Deep step w) = tt
 of_end script text (Stopped (Repeated i j) step w) = tt
 of_end script text (Stopped Astray step w) = tt
 
-of_trees : (wire : Bool) (script : Script) (trees : List (List Node)) (status : Status) (text : List ℕ) → IsDueOfTrees wire script trees status text → IsOfWhole status
-of_trees wire script trees status text due =
-    let theirs = script_of script trees in subst IsOfWhole (sym due.0) (of_end script (text_of wire theirs) (run theirs))
+of_trees : (tell : Telling) (script : Script) (trees : List (List Node)) (status : Status) (text : List ℕ) → IsDueOfTrees tell script trees status text → IsOfWhole status
+of_trees tell script trees status text due =
+    let theirs = script_of script trees in subst IsOfWhole (sym due.0) (of_end script (tell theirs) (run theirs))
 
-of_vats : (wire : Bool) (script : Script) (trees : List (List Node)) (vats : List VatScript) (status : Status) (text : List ℕ)
-    → IsDueOfVats wire script trees vats status text → IsOfWhole status
-of_vats wire script trees [] status text due = of_trees wire script trees status text due
-of_vats wire script trees (vat ∷ more) status text (Ok scoped, answers, due) = of_vats wire script (trees ++ scoped.tree ∷ []) more status text due
-of_vats wire script trees (vat ∷ more) status text (Err fault, answers, due) = of_fault (length trees) vat.name fault status text due
+of_vats : (tell : Telling) (script : Script) (trees : List (List Node)) (vats : List VatScript) (status : Status) (text : List ℕ)
+    → IsDueOfVats tell script trees vats status text → IsOfWhole status
+of_vats tell script trees [] status text due = of_trees tell script trees status text due
+of_vats tell script trees (vat ∷ more) status text (Ok scoped, answers, due) = of_vats tell script (trees ++ scoped.tree ∷ []) more status text due
+of_vats tell script trees (vat ∷ more) status text (Err fault, answers, due) = of_fault (length trees) vat.name fault status text due
 
-of_script : (wire : Bool) (found : Result Script ℕ) (status : Status) (text : List ℕ) → IsDueOfScript wire found status text → IsOfWhole status
-of_script wire (Ok script) status text due = of_vats wire script [] script.vats status text due
-of_script wire (Err rule) status text due = subst IsOfWhole (sym due.0) tt
+of_script : (tell : Telling) (found : Result Script ℕ) (status : Status) (text : List ℕ) → IsDueOfScript tell found status text → IsOfWhole status
+of_script tell (Ok script) status text due = of_vats tell script [] script.vats status text due
+of_script tell (Err rule) status text due = subst IsOfWhole (sym due.0) tt
 
 of_repeated : (repeated : Option (ℕ × ℕ)) → IsOfWhole (status_of repeated)
 of_repeated None = tt
@@ -78,9 +80,10 @@ of_mint (Ok told) status text due = subst IsOfWhole (sym due.0) tt
 of_mint (Err rule) status text due = subst IsOfWhole (sym due.0) tt
 
 pub whole : (command : Command) (input : List ℕ) (status : Status) (text : List ℕ) → IsDueOfBytes command input status text → IsOfWhole status
-whole (Run wire) input status text due = of_script wire (script_from input) status text due
+whole (Run wire) input status text due = of_script (text_of wire) (script_from input) status text due
 whole Expand input status text due = of_text (text_from input) status text due
 whole (Generate n) input status text due = subst IsOfWhole (sym due.0) tt
+whole (Sum n) input status text due = of_script summary_of (script_from (generated n)) status text due
 whole Sturdy input status text due = of_sturdy (sturdy.due input) status text due
 whole Mint input status text due = of_mint (mint.due input) status text due
 
@@ -182,7 +185,49 @@ pays command input status text held held' result kind due (written, appends, inl
 pays command input status text held held' result kind due (written, appends, inr (fault, front)) =
     (written, appends, rw fault (record { status = status; text = text }, due, front))
 
--- the same for all that a source has left
+-- what is owed was written, or a front of it before memory ran out
+pub settled : (command : Command) (input : List ℕ) (debt : Debt) (held held' : Option (List ℕ)) (result : Status) → IsPlain debt.status → IsDue (Some command) input debt.status debt.text
+    → Settles held held' debt result → Pays held held' result (Some command) input
+settled command input debt held held' result kind due (inl finishes) = pays (Some command) input debt.status debt.text held held' result kind due finishes
+settled command input debt held held' result kind due (inr (wants, written, appends, front)) = (written, appends, rw wants (refl, inr (debt, due, front)))
+
+-- and so for all that a source has left
+pub settled_left : (command : Command) (left : Option (List ℕ)) (debt : Debt) (held held' : Option (List ℕ)) (result : Status) → IsPlain debt.status
+    → IfSome left (λ input. IsDue (Some command) input debt.status debt.text) → Settles held held' debt result → IfSome left (λ input. Pays held held' result (Some command) input)
+settled_left command None debt held held' result kind due settles = tt
+settled_left command (Some input) debt held held' result kind due settles = settled command input debt held held' result kind due settles
+
+-- what was written is what was owed, or its writing did not come to its end
+pub settles_as : (Is : Status → Type 0) (held held' : Option (List ℕ)) (debt : Debt) (result : Status) → Settles held held' debt result → Is result → (Is WriteFault → ⊥) → (Is Memory → ⊥) → (result ≡ debt.status) × Is debt.status
+settles_as Is held held' debt result (inl (written, appends, inl (same, whole))) is fault want = (same, subst Is same is)
+settles_as Is held held' debt result (inl (written, appends, inr (failed, front))) is fault want = absurd (fault (subst Is failed is))
+settles_as Is held held' debt result (inr (wants, written, appends, front)) is fault want = absurd (want (subst Is wants is))
+
+-- a status that a reading came to is no fault of writing
+pub no_fault : (status result : Status) (rose : Type 0) → IsOfRead status → result ≡ status ⊎ rose → result ≡ WriteFault → rose
+no_fault status result rose kind (inl same) is = absurd (subst IsOfRead (sym same ∙ is) kind)
+no_fault status result rose kind (inr rises) is = rises
+
+-- each call takes at most one byte more than the most
+took_most : (status : Status) (count : ℕ) → TookFor status count → count ≤ most_bytes + 1
+took_most Done count took = omega (arith, took)
+took_most Usage count took = omega (arith, took)
+took_most ReadFault count took = omega (arith, took)
+took_most WriteFault count took = took
+took_most TooLong count took = omega (arith, took)
+took_most (ScriptRefused r) count took = omega (arith, took)
+took_most (ProgramRefused r) count took = omega (arith, took)
+took_most (FuelSpent step) count took = omega (arith, took)
+took_most (TooDeep step) count took = omega (arith, took)
+took_most (WordRepeated first second) count took = omega (arith, took)
+took_most Memory count took = took
+
+pub settled_reads : (held held' left left' : Option (List ℕ)) (debt : Debt) (result : Status) → Settles held held' debt result → Reads left left' debt.status → Reads left left' result
+settled_reads held held' left left' debt result (inl (written, appends, inl (same, whole))) reads = subst (Reads left left') (sym same) reads
+settled_reads held held' left left' debt result (inl (written, appends, inr (failed, front))) (taken, consumes, took) = subst (Reads left left') (sym failed) (taken, consumes, took_most debt.status (length taken) took)
+settled_reads held held' left left' debt result (inr (wants, written, appends, front)) (taken, consumes, took) = subst (Reads left left') (sym wants) (taken, consumes, took_most debt.status (length taken) took)
+
+-- the same of a reply
 pub pays_left : (command : Option Command) (left : Option (List ℕ)) (status : Status) (text : List ℕ) (held held' : Option (List ℕ)) (result : Status)
     → IsPlain status → IfSome left (λ input. IsDue command input status text) → Finishes held held' status text result
     → IfSome left (λ input. Pays held held' result command input)
@@ -194,7 +239,7 @@ pays_left command (Some input) status text held held' result kind due finishes =
 pub pays_memory : (command : Option Command) (left held : Option (List ℕ)) → IsSome command
     → IfSome left (λ input. Pays held held Memory command input)
 pays_memory command None held some = tt
-pays_memory command (Some input) held some = ([], Appends-nil held, (some, refl))
+pays_memory command (Some input) held some = ([], Appends-nil held, (some, inl refl))
 
 pub pays_read_fault : (command : Option Command) (left held : Option (List ℕ)) → IsSome command
     → IfSome left (λ input. Pays held held ReadFault command input)

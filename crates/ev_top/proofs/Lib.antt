@@ -3,6 +3,7 @@ pub mod DueLemmas
 pub mod OneReading
 pub mod Steady
 pub mod Ended
+pub mod Summed
 pub mod ReadLemmas
 pub mod CauseLemmas
 pub mod Lawful
@@ -10,4 +11,5 @@ pub mod Fates
 pub mod Reach
 pub mod Severed
 pub mod Unread
+pub mod Generated
 pub mod Told

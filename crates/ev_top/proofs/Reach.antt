@@ -1,7 +1,9 @@
 -- In the run that a call owes, what bears DeepFrozen's stamp reaches frozen values alone, and what is used is connected.
-use Rattle.std.proofs.Common.{◌≡◌, ◌++◌, ◌⊎◌, inl, inr, ℕ, List, Option, Some, None, IfSome}
+use Rattle.std.proofs.Common.{inl, inr, ℕ, List, Option, Some, None, IfSome}
 use Rattle.def_run.specs.World as machine
 use Rattle.def_run.specs.World.{World}
+use Rattle.law_connected.specs.Begotten.{LinesConnected, TakenBegotten}
+use Rattle.law_connected.proofs.RunKnows.{opened_connected, run_connected, ended_connected, opened_begotten, run_begotten, ended_begotten}
 use Rattle.law_connected.proofs.FineRuns.{opened_connect, run_connect}
 use Rattle.law_frozen.specs.Runs.{ReachIsFrozenIn}
 use Rattle.law_frozen.proofs.RunSound.{reach_at_the_end, reach_in_runs}
@@ -17,6 +19,11 @@ pub frozen_alone : (left : Option (List ℕ)) (command : Option Command) → IfS
 frozen_alone None command = tt
 frozen_alone (Some input) command = λ script runs world comes. frozen_in script world comes
 
+lines_in : (script : machine.Script) (world : World) → ComesTo script world → LinesConnected script world × TakenBegotten script world
+lines_in script world (inl (ps, rest, split, opened)) = (opened_connected script ps rest world split opened, opened_begotten script ps rest world split opened)
+lines_in script world (inr (inl (es, rest, split, lead))) = (run_connected script lead.0 world es 1 lead.1 lead.2, run_begotten script lead.0 world es 1 lead.1 lead.2)
+lines_in script world (inr (inr ends)) = (ended_connected script world ends, ended_begotten script world ends)
+
 pub uses_connected : (left : Option (List ℕ)) (command : Option Command) → IfSome left (λ input. UsesAreConnected command input)
 uses_connected None command = tt
-uses_connected (Some input) command = λ script runs. (λ ps rest w e i. opened_connect script ps w i, λ w x es k e i. run_connect script w x es k e i)
+uses_connected (Some input) command = λ script runs. ((λ ps rest w e i. opened_connect script ps w i, λ w x es k e i. run_connect script w x es k e i), λ world comes. lines_in script world comes)

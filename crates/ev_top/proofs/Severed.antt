@@ -1,7 +1,5 @@
 -- In the run that a call owes, what is broken or severed at a vat stays so.
 use Rattle.std.proofs.Common.{◌≡◌, ◌+◌, ◌++◌, ℕ, List, [], length, Option, Some, None, IfSome, sym, ◌∙◌, subst, append_assoc}
-use Rattle.def_machine.specs.Values.{Words, Value, Broken, Ref, Name, Foreign, spot_of}
-use Rattle.def_machine.specs.State.{Vat}
 use Rattle.def_run.specs.World as machine
 use Rattle.def_run.specs.World.{World, names}
 use Rattle.law_name.proofs.Laws.{severed_broken}

@@ -1,5 +1,5 @@
 -- Why each answer comes.
-use Rattle.std.specs.Prelude.{◌≡◌, ◌⊎◌, ◌<◌, ◌≤◌, ℕ, Bool, true, List, length, slice_get, Some, None, Ok, Err}
+use Rattle.std.specs.Prelude.{◌≡◌, ◌⊎◌, ◌<◌, ◌≤◌, ℕ, true, List, length, slice_get, Some, None, Ok, Err}
 use Rattle.std.specs.declared.option.Option.{Option}
 use Rattle.def_machine.specs.State.{Stop, Repeated, Astray}
 use Rattle.ev_reader.specs.Program.{Answers}
@@ -9,6 +9,7 @@ use Rattle.def_run.specs.World.{run, Run as Machine, World, Stopped}
 use Rattle.ev_scope.specs.declared.accepted.Scoped.{Scoped}
 use Rattle.ev_script.specs.declared.script.Script.{Script}
 use Rattle.ev_script.specs.declared.script.VatScript.{VatScript}
+use Rattle.ev_generate.specs.Generated.{generated}
 use Rattle.ev_sturdy_text.specs.Telling as sturdy
 use Rattle.ev_mint_text.specs.Telling as mint
 use Rattle.ev_top.specs.Commands.{reads}
@@ -18,7 +19,7 @@ use Rattle.ev_top.specs.Machine.{script_of, vat_of_step}
 use Rattle.ev_top.specs.Programs.{AreRead, IsFirstRefused, IsRead, safe_names, trees_of}
 use Rattle.ev_top.specs.Script.{script_from}
 use Rattle.ev_top.specs.declared.command.Command.{Command}
-use Rattle.ev_top.specs.declared.command.Command.TheVariants.{Run, Expand, Generate, Sturdy, Mint}
+use Rattle.ev_top.specs.declared.command.Command.TheVariants.{Run, Expand, Generate, Sum, Sturdy, Mint}
 use Rattle.ev_top.specs.declared.status.Status.{Status}
 use Rattle.ev_top.specs.declared.status.Status.TheVariants.{ReadFault, WriteFault, ProgramRefused, Memory}
 
@@ -42,12 +43,13 @@ abbrev pub IsLong : Option Command → List ℕ → Type 0
 IsLong None input = ⊥
 IsLong (Some command) input = (reads command ≡ true) × (most_bytes < length input)
 
--- the whole input breaks the rule of this number
+-- the whole input breaks the rule of this number, or the script that is generated and run does
 abbrev pub Breaks : ℕ → Option Command → List ℕ → Type 0
 Breaks rule None input = ⊥
 Breaks rule (Some (Run wire)) input = (length input ≤ most_bytes) × (script_from input ≡ Err rule)
 Breaks rule (Some Expand) input = (length input ≤ most_bytes) × (text_from input ≡ Err rule)
 Breaks rule (Some (Generate n)) input = ⊥
+Breaks rule (Some (Sum n)) input = script_from (generated n) ≡ Err rule
 Breaks rule (Some Sturdy) input = (length input ≤ most_bytes) × (sturdy.due input ≡ Err rule)
 Breaks rule (Some Mint) input = (length input ≤ most_bytes) × (mint.due input ≡ Err rule)
 
@@ -58,31 +60,43 @@ DrawsAgain first second command input = (command ≡ Some Sturdy) × (length inp
 
 -- ---- programs
 
--- the whole input is that script
-abbrev pub HasScript : List ℕ → Script → Type 0
-HasScript input script = (length input ≤ most_bytes) × (script_from input ≡ Ok script)
+-- the command runs that script: the whole input is it, or it is generated
+abbrev pub HasScript : Option Command → List ℕ → Script → Type 0
+HasScript None input script = ⊥
+HasScript (Some (Run wire)) input script = (length input ≤ most_bytes) × (script_from input ≡ Ok script)
+HasScript (Some (Sum n)) input script = script_from (generated n) ≡ Ok script
+HasScript (Some _) input script = ⊥
 
 -- and the sources of its vats are read to these programs, in order
-abbrev pub HasPrograms : List ℕ → Script → List Scoped → Type 0
-HasPrograms input script programs = HasScript input script × AreRead script.vats script.vats programs
+abbrev pub HasPrograms : Option Command → List ℕ → Script → List Scoped → Type 0
+HasPrograms command input script programs = HasScript command input script × AreRead script.vats script.vats programs
 
 -- the whole input is the text of that program, which is of no vat
 abbrev pub HasText : List ℕ → List ℕ → Type 0
 HasText input program = (length input ≤ most_bytes) × (text_from input ≡ Ok program)
 
--- The whole input is a script, and the vat of that number is the first whose source is refused, with this fault; or it is a text
--- that is refused so, and the number is 0.
+-- the command runs a script, and the vat of that number is the first whose source is refused, with this fault
+abbrev pub HasRefused : ℕ → Part → ℕ → ℕ → Option Command → List ℕ → Type 0
+HasRefused vat part kind place command input = (script : Script) × HasScript command input script × IsFirstRefused script.vats vat (At part kind place)
+
+-- The same; or the whole input is a text that is refused so, and the number is 0.
 abbrev pub HasFault : ℕ → Part → ℕ → ℕ → Option Command → List ℕ → Type 0
 HasFault vat part kind place None input = ⊥
-HasFault vat part kind place (Some (Run wire)) input = (script : Script) × HasScript input script × IsFirstRefused script.vats vat (At part kind place)
+HasFault vat part kind place (Some (Run wire)) input = HasRefused vat part kind place (Some (Run wire)) input
+HasFault vat part kind place (Some (Sum n)) input = HasRefused vat part kind place (Some (Sum n)) input
 HasFault vat part kind place (Some Expand) input = (vat ≡ 0) × (program : List ℕ) × HasText input program × Answers (Err (At part kind place)) program safe_names
 HasFault vat part kind place (Some _) input = ⊥
 
--- The whole input is a script, and no tree is read of the source of one of its vats; or it is a text of which none is read.
+-- the command runs a script, and no tree is read of the source of one of its vats
+abbrev pub HasUnread : Option Command → List ℕ → Type 0
+HasUnread command input = (script : Script) × HasScript command input script × (place : ℕ) × (vat : VatScript) × (slice_get script.vats place ≡ Some vat)
+    × ((scoped : Scoped) → IsRead script.vats vat (Ok scoped) → ⊥)
+
+-- The same; or the whole input is a text of which no tree is read.
 abbrev pub HasNoTree : Option Command → List ℕ → Type 0
 HasNoTree None input = ⊥
-HasNoTree (Some (Run wire)) input = (script : Script) × HasScript input script × (place : ℕ) × (vat : VatScript) × (slice_get script.vats place ≡ Some vat)
-    × ((scoped : Scoped) → IsRead script.vats vat (Ok scoped) → ⊥)
+HasNoTree (Some (Run wire)) input = HasUnread (Some (Run wire)) input
+HasNoTree (Some (Sum n)) input = HasUnread (Some (Sum n)) input
 HasNoTree (Some Expand) input = (program : List ℕ) × HasText input program × ((scoped : Scoped) → Answers (Ok scoped) program safe_names → ⊥)
 HasNoTree (Some _) input = ⊥
 
@@ -94,9 +108,9 @@ IsProgramRefused _ = ⊥
 abbrev pub run_of : Script → List Scoped → Machine
 run_of script programs = run (script_of script (trees_of programs))
 
--- the whole input is that script, whose programs are read, and its run stops in this step
+-- the command runs that script, whose programs are read, and its run stops in this step
 abbrev pub StopsIn : Script → Stop → ℕ → Option Command → List ℕ → Type 0
-StopsIn script stop step command input = (wire : Bool) × (command ≡ Some (Run wire)) × (programs : List Scoped) × HasPrograms input script programs
+StopsIn script stop step command input = (programs : List Scoped) × HasPrograms command input script programs
     × (world : World) × (run_of script programs ≡ Stopped stop step world)
 
 -- the same of some script

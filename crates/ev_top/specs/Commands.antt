@@ -4,7 +4,7 @@ use Rattle.std.specs.declared.option.Option.{Option}
 use Rattle.std.specs.Str.{bytes_eq}
 use Rattle.ev_command_lines.specs.Lines.{number}
 use Rattle.ev_top.specs.declared.command.Command.{Command}
-use Rattle.ev_top.specs.declared.command.Command.TheVariants.{Run, Expand, Generate, Sturdy, Mint}
+use Rattle.ev_top.specs.declared.command.Command.TheVariants.{Run, Expand, Generate, Sum, Sturdy, Mint}
 
 -- the greatest number of a script that is generated
 abbrev pub most_generated : ℕ
@@ -25,11 +25,15 @@ command_of_run next = if bytes_eq next (codes "wire") then Some (Run true) else 
 abbrev pub command_of_number : List ℕ → Option Command
 command_of_number next = option_map Generate (number most_generated next)
 
--- the command that two words are: `run` and `wire`, or `gen` and a number
+abbrev pub command_of_sum : List ℕ → Option Command
+command_of_sum next = option_map Sum (number most_generated next)
+
+-- the command that two words are: `run` and `wire`, or `gen` or `sum` and a number
 abbrev pub command_with : List ℕ → List ℕ → Option Command
 command_with word next =
     if bytes_eq word (codes "run") then command_of_run next
     else if bytes_eq word (codes "gen") then command_of_number next
+    else if bytes_eq word (codes "sum") then command_of_sum next
     else None
 
 -- one word alone, or two
@@ -39,17 +43,10 @@ command_of (word ∷ []) = command_alone word
 command_of (word ∷ next ∷ []) = command_with word next
 command_of (word ∷ next ∷ other ∷ rest) = None
 
--- the number of the script that a command generates
-abbrev pub generated_number : Command → Option ℕ
-generated_number (Generate n) = Some n
-generated_number (Run wire) = None
-generated_number Expand = None
-generated_number Sturdy = None
-generated_number Mint = None
-
--- each other command reads what the source has
+-- each other command than those of a script that is generated reads what the source has
 abbrev pub reads : Command → Bool
 reads (Generate n) = false
+reads (Sum n) = false
 reads (Run wire) = true
 reads Expand = true
 reads Sturdy = true

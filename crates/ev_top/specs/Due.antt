@@ -1,5 +1,5 @@
 -- What a call owes: its status and its text, by its command and the bytes that were read.
-use Rattle.std.specs.Prelude.{◌≡◌, ◌⊎◌, ◌≤◌, ◌+◌, ℕ, Bool, true, false, nat_lt, ◌&&◌, List, [], ◌∷◌, ◌++◌, length, codes, Some, None, IsSome, Result, Ok, Err}
+use Rattle.std.specs.Prelude.{◌≡◌, ◌⊎◌, ◌≤◌, ◌+◌, ℕ, Bool, true, false, nat_lt, ◌&&◌, List, [], ◌∷◌, ◌++◌, length, Some, None, IsSome, Result, Ok, Err, string_bytes}
 use Rattle.std.specs.declared.option.Option.{Option}
 use Rattle.std.specs.Io.KnownBytes.{Appends, Consumes}
 use Rattle.def_kernel.specs.declared.node.Node.{Node}
@@ -8,21 +8,25 @@ use Rattle.ev_reader.specs.declared.fault.ProgramFault.{ProgramFault}
 use Rattle.def_run.specs.World as machine
 use Rattle.def_run.specs.World.{run, Goes, Stopped}
 use Rattle.ev_scope.specs.declared.accepted.Scoped.{Scoped}
+use Rattle.ev_script.specs.Rules.{IsAdmitted}
 use Rattle.ev_script.specs.declared.script.Script.{Script}
 use Rattle.ev_script.specs.declared.script.VatScript.{VatScript}
+use Rattle.ev_generate.specs.Generated.{generated}
 use Rattle.ev_top.specs.Words.{IsPrefix}
-use Rattle.ev_top.specs.Debt.{Debt, IsFor, most_bytes, usage, too_long, bytes_refused, program_refused}
+use Rattle.ev_top.specs.Debt.{Debt, IsFor, most_bytes, usage, too_long, bytes_refused}
 use Rattle.ev_top.specs.Expansion.{IsDueOfText, text_from}
 use Rattle.ev_sturdy_text.specs.Telling as sturdy
 use Rattle.ev_mint_text.specs.Telling as mint
 use Rattle.ev_top.specs.Commands.{reads}
 use Rattle.ev_top.specs.Lines.{IsDueOfGenerated, IsDueOfMint, IsDueOfSturdy}
 use Rattle.ev_top.specs.Machine.{script_of, text_of, vat_of_step}
-use Rattle.ev_top.specs.Programs.{ReadAs, IsDueOfFault, name_of, names_for}
+use Rattle.ev_top.specs.Programs.{AreRead, ReadAs, IsDueOfFault, names_for, trees_of}
 use Rattle.ev_top.specs.Script.{script_from}
+use Rattle.ev_top.specs.Summary.{summary_of}
 use Rattle.ev_top.specs.declared.command.Command.{Command}
-use Rattle.ev_top.specs.declared.command.Command.TheVariants.{Run, Expand, Generate, Sturdy, Mint}
-use Rattle.ev_top.specs.declared.reply.Reply.{Reply}
+use Rattle.ev_top.specs.declared.command.Command.TheVariants.{Run, Expand, Generate, Sum, Sturdy, Mint}
+use Rattle.ev_top.specs.declared.reply.Owed.{Owed}
+use Rattle.ev_top.specs.declared.reply.Owed.TheVariants as owing
 use Rattle.ev_top.specs.declared.program.Early.{Early}
 use Rattle.ev_top.specs.declared.program.Early.TheVariants as early
 use Rattle.ev_top.specs.declared.status.Refusal.{Refusal}
@@ -36,27 +40,27 @@ use Rattle.ev_top.specs.declared.status.Status.TheVariants.{Done, Usage, ReadFau
 abbrev pub astray : ℕ → Refusal
 astray vat = record { vat = vat; stage = stages.Astray; kind = 0; place = 0 }
 
--- what is due for a run that goes astray in a step of that vat
-abbrev pub gone_astray : Script → ℕ → Debt
-gone_astray script vat = program_refused (name_of script.vats vat) (astray vat) (codes "astray 0 0")
-
 -- What is due for a run with this text: its status tells how it ended, at its end or in a step that stopped, for fuel or for
 -- depth, or where a draw gave what an earlier one gave. A run goes astray where a noun is met that nothing binds; then the program
--- of the vat whose step it was is refused.
+-- of the vat whose step it was is refused, and its text ends with the line of that stop.
 abbrev pub due_of_run : Script → List ℕ → machine.Run → Debt
 due_of_run script text (Goes w) = record { status = Done; text = text }
 due_of_run script text (Stopped Fuel step w) = record { status = FuelSpent step; text = text }
 due_of_run script text (Stopped Deep step w) = record { status = TooDeep step; text = text }
-due_of_run script text (Stopped Astray step w) = gone_astray script (vat_of_step script step)
+due_of_run script text (Stopped Astray step w) = record { status = ProgramRefused (astray (vat_of_step script step)); text = text }
 due_of_run script text (Stopped (Repeated i j) step w) = record { status = WordRepeated i j; text = text }
 
--- the same for the machine's run on a script, with the frames in the text where they are asked for
-abbrev pub due_of_machine : Bool → Script → machine.Script → Debt
-due_of_machine wire script theirs = due_of_run script (text_of wire theirs) (run theirs)
+-- what is told of the machine's run on a script: its text, say, or a summary
+abbrev pub Telling : Type 0
+Telling = machine.Script → List ℕ
+
+-- the same for the machine's run on a script, of which that is told
+abbrev pub due_of_machine : Telling → Script → machine.Script → Debt
+due_of_machine tell script theirs = due_of_run script (tell theirs) (run theirs)
 
 -- what is due for a script whose programs have these trees: its run
-abbrev pub IsDueOfTrees : Bool → Script → List (List Node) → Status → List ℕ → Type 0
-IsDueOfTrees wire script trees status text = IsFor status text (due_of_machine wire script (script_of script trees))
+abbrev pub IsDueOfTrees : Telling → Script → List (List Node) → Status → List ℕ → Type 0
+IsDueOfTrees tell script trees status text = IsFor status text (due_of_machine tell script (script_of script trees))
 
 -- what is due by what the source of the vat of that number and name is read as: what is due for its tree, or its refusal
 abbrev pub IsDueOfAnswer : ℕ → List ℕ → (List Node → Status → List ℕ → Type 0) → Result Scoped ProgramFault → Status → List ℕ → Type 0
@@ -65,23 +69,24 @@ IsDueOfAnswer vat name Due (Err fault) status text = IsDueOfFault vat name fault
 
 -- What is due for a script, where the sources of its first vats were read to these trees, by the vats that come next: the first
 -- source that is refused is the answer, and else the run.
-abbrev pub IsDueOfVats : Bool → Script → List (List Node) → List VatScript → Status → List ℕ → Type 0
-IsDueOfVats wire script trees [] status text = IsDueOfTrees wire script trees status text
-IsDueOfVats wire script trees (vat ∷ more) status text = ReadAs vat.source (names_for script.vats vat)
-    (λ answer. IsDueOfAnswer (length trees) vat.name (λ tree. IsDueOfVats wire script (trees ++ tree ∷ []) more) answer status text)
+abbrev pub IsDueOfVats : Telling → Script → List (List Node) → List VatScript → Status → List ℕ → Type 0
+IsDueOfVats tell script trees [] status text = IsDueOfTrees tell script trees status text
+IsDueOfVats tell script trees (vat ∷ more) status text = ReadAs vat.source (names_for script.vats vat)
+    (λ answer. IsDueOfAnswer (length trees) vat.name (λ tree. IsDueOfVats tell script (trees ++ tree ∷ []) more) answer status text)
 
 -- what is due for a script, or for bytes that are none
-abbrev pub IsDueOfScript : Bool → Result Script ℕ → Status → List ℕ → Type 0
-IsDueOfScript wire (Ok script) status text = IsDueOfVats wire script [] script.vats status text
-IsDueOfScript wire (Err rule) status text = IsFor status text (bytes_refused rule)
+abbrev pub IsDueOfScript : Telling → Result Script ℕ → Status → List ℕ → Type 0
+IsDueOfScript tell (Ok script) status text = IsDueOfVats tell script [] script.vats status text
+IsDueOfScript tell (Err rule) status text = IsFor status text (bytes_refused rule)
 
 -- ---- a call
 
--- what is due for bytes that were all read; a script is generated whatever they are
+-- what is due for bytes that were all read; a script is generated, and its run summed up, whatever they are
 abbrev pub IsDueOfBytes : Command → List ℕ → Status → List ℕ → Type 0
-IsDueOfBytes (Run wire) input status text = IsDueOfScript wire (script_from input) status text
+IsDueOfBytes (Run wire) input status text = IsDueOfScript (text_of wire) (script_from input) status text
 IsDueOfBytes Expand input status text = IsDueOfText (text_from input) status text
 IsDueOfBytes (Generate n) input status text = IsDueOfGenerated n status text
+IsDueOfBytes (Sum n) input status text = IsDueOfScript summary_of (script_from (generated n)) status text
 IsDueOfBytes Sturdy input status text = IsDueOfSturdy (sturdy.due input) status text
 IsDueOfBytes Mint input status text = IsDueOfMint (mint.due input) status text
 
@@ -100,11 +105,11 @@ abbrev pub IsFrontOfDue : Option Command → List ℕ → List ℕ → Type 0
 IsFrontOfDue command input written = (debt : Debt) × IsDue command input debt.status debt.text × IsPrefix written debt.text
 
 -- What was answered and appended for a command: just what is due, but a fault or want of memory may stand in its place.
--- With a fault of writing a front of the text was appended, else nothing.
+-- With a fault of writing a front of the text was appended; with want of memory too, or nothing; with a fault of reading nothing.
 abbrev pub PaysWith : Status → List ℕ → Option Command → List ℕ → Type 0
 PaysWith ReadFault written command input = IsSome command × (written ≡ [])
 PaysWith WriteFault written command input = IsFrontOfDue command input written
-PaysWith Memory written command input = IsSome command × (written ≡ [])
+PaysWith Memory written command input = IsSome command × ((written ≡ []) ⊎ IsFrontOfDue command input written)
 PaysWith status written command input = IsDue command input status written
 
 abbrev pub Pays : Option (List ℕ) → Option (List ℕ) → Status → Option Command → List ℕ → Type 0
@@ -135,6 +140,25 @@ abbrev pub Finishes : Option (List ℕ) → Option (List ℕ) → Status → Lis
 Finishes held held' status text result = (written : List ℕ) × Appends held held' written
     × (((result ≡ status) × (written ≡ text)) ⊎ ((result ≡ WriteFault) × IsPrefix written text))
 
+-- so, or want of memory with a front of it
+abbrev pub Settles : Option (List ℕ) → Option (List ℕ) → Debt → Status → Type 0
+Settles held held' debt result = Finishes held held' debt.status debt.text result
+    ⊎ ((result ≡ Memory) × (written : List ℕ) × Appends held held' written × IsPrefix written debt.text)
+
+-- ---- what is owed
+
+-- what is due for what is owed: a reply, or the run of a script whose programs are read
+abbrev pub debt_of : Owed → Debt
+debt_of (owing.Reply reply) = record { status = reply.status; text = string_bytes reply.text }
+debt_of (owing.Run run) = due_of_machine (text_of run.wire) run.script (script_of run.script (trees_of run.programs.items))
+
+-- the script of a run that is owed is one, and its programs are those of its vats
+abbrev pub MayRun : Owed → Type 0
+MayRun (owing.Reply reply) = Unit {0}
+MayRun (owing.Run run) = IsAdmitted run.script × AreRead run.script.vats run.script.vats run.programs.items
+
+-- ---- what is read
+
 -- how many bytes of the source a call took, by its status
 abbrev pub TookFor : Status → ℕ → Type 0
 TookFor Usage count = count ≡ 0
@@ -146,8 +170,8 @@ TookFor _ count = count ≤ most_bytes
 abbrev pub Reads : Option (List ℕ) → Option (List ℕ) → Status → Type 0
 Reads left left' status = (taken : List ℕ) × Consumes left left' taken × TookFor status (length taken)
 
--- the same for a reply, or for what came in its place
-abbrev pub ReadsFor : Option (List ℕ) → Option (List ℕ) → Result Reply Early → Type 0
-ReadsFor left left' (Ok reply) = Reads left left' reply.status
+-- the same for what is owed, or for what came in its place
+abbrev pub ReadsFor : Option (List ℕ) → Option (List ℕ) → Result Owed Early → Type 0
+ReadsFor left left' (Ok owed) = Reads left left' (debt_of owed).status
 ReadsFor left left' (Err early.ReadFault) = Reads left left' ReadFault
 ReadsFor left left' (Err early.Memory) = Reads left left' Memory

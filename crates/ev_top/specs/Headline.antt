@@ -1,6 +1,7 @@
 -- What holds of the machine's run that a call owes for a script.
-use Rattle.std.specs.Prelude.{◌≡◌, ◌⊎◌, ◌≤◌, ◌+◌, ℕ, zero, Bool, true, List, ◌++◌, length, codes, Some}
+use Rattle.std.specs.Prelude.{◌≡◌, ◌⊎◌, ◌≤◌, ◌+◌, ◌*◌, ℕ, zero, true, List, ◌++◌, length, codes, Some}
 use Rattle.std.specs.declared.option.Option.{Option}
+use Rattle.def_kernel.specs.declared.node.Node.{Node}
 use Rattle.def_machine.specs.Values.{Words, Value, Broken, Ref, Name, Foreign, spot_of}
 use Rattle.def_machine.specs.State.{Vat, is_in}
 use Rattle.def_machine.specs.Refs.{follow}
@@ -11,19 +12,24 @@ use Rattle.law_run.specs.Runs.{EachVat}
 use Rattle.law_fate.specs.Fate.{fates, sent}
 use Rattle.law_fate.specs.Carry.{carries}
 use Rattle.law_frozen.specs.Runs.{ReachIsFrozenIn}
+use Rattle.law_connected.specs.Begotten.{LinesConnected, TakenBegotten}
 use Rattle.law_connected.specs.UseLaws.{RunConnected}
 use Rattle.ev_scope.specs.declared.accepted.Scoped.{Scoped}
 use Rattle.ev_script.specs.declared.script.Script.{Script}
-use Rattle.ev_top.specs.Causes.{HasPrograms}
+use Rattle.law_generated.specs.Accepted.{generated_script}
+use Rattle.ev_top.specs.Causes.{HasPrograms, HasScript}
 use Rattle.ev_top.specs.Machine.{script_of}
 use Rattle.ev_top.specs.Programs.{trees_of}
+use Rattle.ev_top.specs.Summary.{steps_of}
 use Rattle.ev_top.specs.declared.command.Command.{Command}
-use Rattle.ev_top.specs.declared.command.Command.TheVariants.{Run}
+use Rattle.ev_top.specs.declared.command.Command.TheVariants.{Sum}
+use Rattle.ev_top.specs.declared.status.Status.{Status}
+use Rattle.ev_top.specs.declared.status.Status.TheVariants.{Usage, ReadFault, TooLong, ScriptRefused}
 
--- the whole input is a script whose programs are read, and this is the machine's
+-- the command runs a script whose programs are read, and this is the machine's
 abbrev pub IsToRun : Option Command → List ℕ → machine.Script → Type 0
-IsToRun command input script = (wire : Bool) × (command ≡ Some (Run wire)) × (read : Script) × (programs : List Scoped)
-    × HasPrograms input read programs × (script ≡ script_of read (trees_of programs))
+IsToRun command input script = (read : Script) × (programs : List Scoped) × HasPrograms command input read programs
+    × (script ≡ script_of read (trees_of programs))
 
 -- ---- the worlds of a run
 
@@ -60,9 +66,10 @@ StampedReachFrozenAlone command input = (script : machine.Script) → IsToRun co
 
 -- ---- uses
 
--- In that run an object uses a reference only by initial conditions, endowment, parenthood or introduction: each step that a vat may begin in any of its worlds is connected, however it ends.
+-- In that run an object uses a reference only by initial conditions, endowment, parenthood or introduction: each step that a vat may begin in any of its worlds is connected, however it ends;
+-- each line of the history of each of its worlds is connected in the step that the run took, in which an opening turn is given the roots that its vat knows by the script; and what a message brings that was taken, who sent it knew.
 abbrev pub UsesAreConnected : Option Command → List ℕ → Type 0
-UsesAreConnected command input = (script : machine.Script) → IsToRun command input script → RunConnected script
+UsesAreConnected command input = (script : machine.Script) → IsToRun command input script → RunConnected script × ((world : World) → ComesTo script world → LinesConnected script world × TakenBegotten script world)
 
 -- ---- partitions
 
@@ -80,3 +87,21 @@ pub record StaysSevered (script : machine.Script) (v : ℕ) (s t : Vat Name) : T
 abbrev pub SeveredStaysBroken : Option Command → List ℕ → Type 0
 SeveredStaysBroken command input = (script : machine.Script) → IsToRun command input script → (first later : World) → GoesOn script first later
     → EachVat (λ v s t. StaysSevered script v s t) first later
+
+-- ---- summaries
+
+-- a status that a summary may have: no fault of reading, and no refusal of bytes
+abbrev pub IsOfSum : Status → Type 0
+IsOfSum Usage = ⊥
+IsOfSum ReadFault = ⊥
+IsOfSum TooLong = ⊥
+IsOfSum (ScriptRefused rule) = ⊥
+IsOfSum _ = Unit {0}
+
+-- Where a summary is asked for, the script that is generated for the number is read and run, and it breaks no rule.
+abbrev pub SumsUp : Status → Option Command → List ℕ → Type 0
+SumsUp result command input = (n : ℕ) → command ≡ Some (Sum n) → IsOfSum result × HasScript command input (generated_script n)
+
+-- The steps of its run are told by the number.
+abbrev pub StepsAreKnown : Type 0
+StepsAreKnown = (n : ℕ) (trees : List (List Node)) → steps_of (script_of (generated_script n) trees) ≡ 28 * n + 93

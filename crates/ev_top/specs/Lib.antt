@@ -7,6 +7,7 @@ pub mod Commands
 pub mod Programs
 pub mod Given
 pub mod Expansion
+pub mod Summary
 pub mod Due
 pub mod Unread
 pub mod Ends

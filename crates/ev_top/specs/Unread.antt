@@ -1,7 +1,7 @@
 -- What is known of the sources of a script once they were read.
-use Rattle.std.specs.Prelude.{Bool, [], string_bytes, Result, Ok, Err}
+use Rattle.std.specs.Prelude.{[], string_bytes, Result, Ok, Err}
 use Rattle.ev_script.specs.declared.script.Script.{Script}
-use Rattle.ev_top.specs.Due.{IsDueOfVats}
+use Rattle.ev_top.specs.Due.{IsDueOfVats, Telling}
 use Rattle.ev_top.specs.declared.reply.Reply.{Reply}
 use Rattle.ev_top.specs.declared.sources.Unread.{Unread}
 use Rattle.ev_top.specs.declared.sources.Unread.TheVariants.{Refused, Memory}
@@ -11,7 +11,7 @@ abbrev pub IfRefused : Unread → (Reply → Type 0) → Type 0
 IfRefused (Refused reply) Is = Is reply
 IfRefused Memory Is = Unit {0}
 
--- A refusal is what is due for the script, whether its frames are asked for or not.
+-- A refusal is what is due for the script, whatever is to be told of its run.
 abbrev pub IsDueHoweverRun : {A : Type 0} → Result A Unread → Script → Type 0
 IsDueHoweverRun (Ok programs) script = Unit {0}
-IsDueHoweverRun (Err unread) script = IfRefused unread (λ reply. (wire : Bool) → IsDueOfVats wire script [] script.vats reply.status (string_bytes reply.text))
+IsDueHoweverRun (Err unread) script = IfRefused unread (λ reply. (tell : Telling) → IsDueOfVats tell script [] script.vats reply.status (string_bytes reply.text))

@@ -1,7 +1,7 @@
 //! The commands.
 
 ghost use Rattle.std.specs.Prelude.{◌≡◌};
-ghost use Rattle.ev_top.specs.Commands.{command_alone, command_of, command_of_number, command_of_run, command_with, generated_number};
+ghost use Rattle.ev_top.specs.Commands.{command_alone, command_of, command_of_number, command_of_run, command_of_sum, command_with, reads};
 
 use ev_base::{Seq, Str};
 use ev_command_lines::number;
@@ -18,6 +18,8 @@ pub enum Command {
     Expand,
     /// Writes the script that is generated for a number. It reads nothing.
     Generate(u32),
+    /// Runs the script that is generated for a number, and writes a summary of its run. It reads nothing.
+    Sum(u32),
     /// Answers lines on sturdy references.
     Sturdy,
     /// Answers lines on brands and mints.
@@ -55,6 +57,14 @@ fn command_of_number(next: &str) -> Option<Command>
     Some(Command::Generate(count as u32))
 }
 
+/// The command that the word behind `sum` asks for.
+fn command_of_sum(next: &str) -> Option<Command>
+    ensures { result ≡ command_of_sum next.now }
+{
+    let count = number(next, MOST_GENERATED)?;
+    Some(Command::Sum(count as u32))
+}
+
 /// The command that two words are.
 fn command_with(word: &str, next: &str) -> Option<Command>
     ensures { result ≡ command_with word.now next.now }
@@ -62,6 +72,7 @@ fn command_with(word: &str, next: &str) -> Option<Command>
     match word {
         "run" => command_of_run(next),
         "gen" => command_of_number(next),
+        "sum" => command_of_sum(next),
         _ => None,
     }
 }
@@ -77,12 +88,12 @@ pub fn command_of(words: &Seq<Str>) -> Option<Command>
     }
 }
 
-/// The number of the script that a command generates.
-pub fn generated_number(command: Command) -> Option<u32>
-    ensures { result ≡ generated_number command }
+/// Whether a command reads what the source has.
+pub fn reads(command: Command) -> bool
+    ensures { result ≡ reads command }
 {
     match command {
-        Command::Generate(count) => Some(count),
-        _ => None,
+        Command::Generate(_) | Command::Sum(_) => false,
+        Command::Run { .. } | Command::Expand | Command::Sturdy | Command::Mint => true,
     }
 }

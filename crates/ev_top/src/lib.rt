@@ -12,6 +12,7 @@ mod run;
 mod script;
 mod sources;
 mod status;
+mod summary;
 
 pub use program::top;
 pub use status::{Refusal, Stage, Status};

@@ -8,16 +8,17 @@ ghost use Rattle.ev_top.specs.Debt.{most_bytes};
 ghost use Rattle.def_machine.specs.State.{Fuel, Deep};
 ghost use Rattle.ev_reader.specs.declared.fault.Stage.{Stage as Part};
 ghost use Rattle.ev_top.specs.Causes.{Breaks, ComesWhere, Follows, GoesAstray, HasFault, HasNoTree, IsLong, IsProgramRefused, RepeatsWord, Stops};
-ghost use Rattle.ev_top.specs.Due.{IsDue, IsOfWhole, IsReading, Pays, IsOfRead, Finishes, Reads, ReadsFor, astray};
-ghost use Rattle.ev_top.specs.Headline.{MessagesHaveOneFate, SeveredStaysBroken, StampedReachFrozenAlone, UsesAreConnected};
+ghost use Rattle.ev_top.specs.Due.{IsDue, IsOfWhole, IsReading, Pays, IsOfRead, Finishes, MayRun, Reads, ReadsFor, Settles, astray, debt_of};
+ghost use Rattle.ev_top.specs.Headline.{MessagesHaveOneFate, SeveredStaysBroken, StampedReachFrozenAlone, SumsUp, UsesAreConnected};
 ghost use Rattle.ev_top.specs.Programs.{refusal};
 
-use crate::command::{Command, command_of, generated_number};
+use crate::command::{Command, command_of, reads};
 use crate::expansion::expand_bytes;
 use crate::lines::{mint_bytes, reply_generated, sturdy_bytes};
-use crate::reply::{Reply, reply_line};
-use crate::run::run_bytes;
+use crate::reply::{Owed, Reply, reply_line};
+use crate::run::{owed_bytes, write_prepared};
 use crate::status::Status;
+use crate::summary::sum_generated;
 use ev_base::{Memory, Seq, Str};
 use ev_io::{ReadEnd, Sink, Source, read_all, write_all};
 use std::alloc::Global;
@@ -45,17 +46,19 @@ impl From<Memory> for Early {
 
 /// What a command asks for, of bytes that are few enough.
 #[tactic(auto, using(crate::proofs::DueLemmas::due_few, crate::proofs::DueLemmas::whole))]
-fn reply_bytes(alloc: Global, command: Command, bytes: &[u8]) -> Result<Reply, Memory>
+fn reply_bytes(alloc: Global, command: Command, bytes: &[u8]) -> Result<Owed, Memory>
     requires { length bytes.now ≤ most_bytes }
-    ensures due { IfOk result (λ reply. IsDue (Some command) bytes.now reply.status (string_bytes reply.text)) }
-    ensures whole { IfOk result (λ reply. IsOfWhole reply.status) }
+    ensures due { IfOk result (λ owed. IsDue (Some command) bytes.now (debt_of owed).status (debt_of owed).text) }
+    ensures whole { IfOk result (λ owed. IsOfWhole (debt_of owed).status) }
+    ensures ready { IfOk result MayRun }
 {
     match command {
-        Command::Run { wire } => run_bytes(alloc, bytes, wire),
-        Command::Expand => expand_bytes(alloc, bytes),
-        Command::Generate(number) => reply_generated(alloc, number),
-        Command::Sturdy => sturdy_bytes(alloc, bytes),
-        Command::Mint => mint_bytes(alloc, bytes),
+        Command::Run { wire } => owed_bytes(alloc, bytes, wire),
+        Command::Expand => Ok(Owed::Reply(expand_bytes(alloc, bytes)?)),
+        Command::Generate(number) => Ok(Owed::Reply(reply_generated(alloc, number)?)),
+        Command::Sum(number) => Ok(Owed::Reply(sum_generated(alloc, number)?)),
+        Command::Sturdy => Ok(Owed::Reply(sturdy_bytes(alloc, bytes)?)),
+        Command::Mint => Ok(Owed::Reply(mint_bytes(alloc, bytes)?)),
     }
 }
 
@@ -71,48 +74,54 @@ fn reply_long(alloc: Global, command: Command) -> Result<Reply, Memory>
 
 /// What a command asks for, of what the source has.
 #[tactic(auto, using(crate::proofs::DueLemmas::due_read, crate::proofs::DueLemmas::due_unread))]
-fn reply_to<S: Source>(alloc: Global, command: Command, src: &mut S) -> Result<Reply, Early>
+fn reply_to<S: Source>(alloc: Global, command: Command, src: &mut S) -> Result<Owed, Early>
     requires { reads command ≡ true }
     ensures due { IfSome (S.left src.old)
-        (λ input. IfOk result (λ reply. IsDue (Some command) input reply.status (string_bytes reply.text))) }
-    ensures kind { IfOk result (λ reply. IsOfRead reply.status) }
+        (λ input. IfOk result (λ owed. IsDue (Some command) input (debt_of owed).status (debt_of owed).text)) }
+    ensures kind { IfOk result (λ owed. IsOfRead (debt_of owed).status) }
+    ensures ready { IfOk result MayRun }
     ensures reads { ReadsFor (S.left src.old) (S.left src.new) result }
-    ensures end { IfOk result (λ reply. IsOfWhole reply.status → IsAtEnd (S.left src.new)) }
+    ensures end { IfOk result (λ owed. IsOfWhole (debt_of owed).status → IsAtEnd (S.left src.new)) }
     ensures fault { result ≡ Err Early.ReadFault → Rose (S.faults src.old) (S.faults src.new) }
     ensures later { S.faults src.old ≤ S.faults src.new }
 {
     match read_all(alloc, src, MOST_BYTES) {
         Ok(bytes) => Ok(reply_bytes(alloc, command, bytes.as_slice())?),
-        Err(ReadEnd::TooLong) => Ok(reply_long(alloc, command)?),
+        Err(ReadEnd::TooLong) => Ok(Owed::Reply(reply_long(alloc, command)?)),
         Err(ReadEnd::Failed) => Err(Early::ReadFault),
         Err(ReadEnd::Memory) => Err(Early::Memory),
     }
 }
 
-/// The script that a command generates. Nothing is read.
-fn reply_unread(alloc: Global, number: u32) -> Result<Reply, Memory>
-    ensures due { (input : List ℕ) → IfOk result (λ reply. IsDue (Some (Command.Generate number)) input reply.status (string_bytes reply.text)) }
-    ensures kind { IfOk result (λ reply. reply.status ≡ Status.Done) }
+/// What a command asks for that reads nothing.
+#[tactic(auto, using(crate::proofs::Unread::due_whatever))]
+fn reply_unread(alloc: Global, command: Command) -> Result<Owed, Memory>
+    requires { reads command ≡ false }
+    ensures due { (input : List ℕ) → IfOk result (λ owed. IsDue (Some command) input (debt_of owed).status (debt_of owed).text) }
+    ensures whole { IfOk result (λ owed. IsOfWhole (debt_of owed).status) }
+    ensures ready { IfOk result MayRun }
 {
-    reply_generated(alloc, number)
+    reply_bytes(alloc, command, b"")
 }
 
 /// What a command asks for.
-#[tactic(auto, using(crate::proofs::Unread::for_all, crate::proofs::Unread::nothing_read, crate::proofs::Unread::is_read))]
-fn reply_for<S: Source>(alloc: Global, command: Command, src: &mut S) -> Result<Reply, Early>
+#[tactic(auto, using(crate::proofs::Unread::for_all, crate::proofs::Unread::nothing_read, crate::proofs::Unread::nothing_taken, crate::proofs::Unread::whole_of_read))]
+fn reply_for<S: Source>(alloc: Global, command: Command, src: &mut S) -> Result<Owed, Early>
     ensures due { IfSome (S.left src.old)
-        (λ input. IfOk result (λ reply. IsDue (Some command) input reply.status (string_bytes reply.text))) }
-    ensures kind { IfOk result (λ reply. IsOfRead reply.status) }
+        (λ input. IfOk result (λ owed. IsDue (Some command) input (debt_of owed).status (debt_of owed).text)) }
+    ensures kind { IfOk result (λ owed. IsOfRead (debt_of owed).status) }
+    ensures ready { IfOk result MayRun }
     ensures reads { ReadsFor (S.left src.old) (S.left src.new) result }
-    ensures end { IfOk result (λ reply. reads command ≡ true → IsOfWhole reply.status → IsAtEnd (S.left src.new)) }
+    ensures end { IfOk result (λ owed. reads command ≡ true → IsOfWhole (debt_of owed).status → IsAtEnd (S.left src.new)) }
     ensures nothing { reads command ≡ false → src.new ≡ src.old }
+    ensures unread { reads command ≡ false → ¬ (result ≡ Err Early.ReadFault) }
     ensures fault { result ≡ Err Early.ReadFault → Rose (S.faults src.old) (S.faults src.new) }
     ensures later { S.faults src.old ≤ S.faults src.new }
 {
-    match generated_number(command) {
-        Some(number) => Ok(reply_unread(alloc, number)?),
-        None => reply_to(alloc, command, src),
+    if reads(command) {
+        return reply_to(alloc, command, src);
     }
+    Ok(reply_unread(alloc, command)?)
 }
 
 /// Writes the text of a status.
@@ -127,12 +136,27 @@ fn finish<K: Sink>(out: &mut K, status: Status, text: &[u8]) -> Status
     }
 }
 
+/// Writes what is owed. Of a run that is what it tells, as it happens.
+fn pay<K: Sink>(alloc: Global, owed: Owed, out: &mut K) -> Status
+    requires ready { MayRun owed }
+    requires kind { IsOfRead (debt_of owed).status }
+    ensures text { Settles (K.written out.old) (K.written out.new) (debt_of owed) result }
+    ensures later { K.faults out.old ≤ K.faults out.new }
+    ensures fault { result ≡ Status.WriteFault → Rose (K.faults out.old) (K.faults out.new) }
+{
+    match owed {
+        Owed::Reply(reply) => finish(out, reply.status, reply.text.as_bytes()),
+        Owed::Run(prepared) => write_prepared(alloc, prepared, out),
+    }
+}
+
 /// Answers a call, without the causes of each answer.
 #[tactic(auto, using(crate::proofs::DueLemmas::plain, crate::proofs::DueLemmas::no_usage, crate::proofs::DueLemmas::pays_left, crate::proofs::DueLemmas::pays_memory, crate::proofs::DueLemmas::pays_read_fault))]
 fn answer<S: Source, K: Sink>(alloc: Global, words: &Seq<Str>, src: &mut S, out: &mut K) -> Status
     ensures due { IfSome (S.left src.old) (λ input. Pays (K.written out.old) (K.written out.new) result (command_of words.now) input) }
     ensures end { IsReading (command_of words.now) → IsOfWhole result → IsAtEnd (S.left src.new) }
     ensures nothing { ¬ IsReading (command_of words.now) → src.new ≡ src.old }
+    ensures unread { ¬ IsReading (command_of words.now) → ¬ (result ≡ Status.ReadFault) }
     ensures reads { Reads (S.left src.old) (S.left src.new) result }
     ensures usage { (result ≡ Status.Usage → command_of words.now ≡ None)
         × (command_of words.now ≡ None → result ≡ Status.Usage ⊎ result ≡ Status.WriteFault) }
@@ -143,7 +167,7 @@ fn answer<S: Source, K: Sink>(alloc: Global, words: &Seq<Str>, src: &mut S, out:
         return finish(out, Status::Usage, b"refused usage\n");
     };
     match reply_for(alloc, command, src) {
-        Ok(reply) => finish(out, reply.status, reply.text.as_bytes()),
+        Ok(owed) => pay(alloc, owed, out),
         Err(Early::ReadFault) => Status::ReadFault,
         Err(Early::Memory) => Status::Memory,
     }
@@ -155,8 +179,9 @@ pub fn top<S: Source, K: Sink>(alloc: Global, words: &Seq<Str>, src: &mut S, out
     ensures due { IfSome (S.left src.old) (λ input. Pays (K.written out.old) (K.written out.new) result (command_of words.now) input) }
     ensures end { IsReading (command_of words.now) → IsOfWhole result → IsAtEnd (S.left src.new) }
     ensures reads { Reads (S.left src.old) (S.left src.new) result }
-    // Words that are no command, and a script that is generated, leave the source as it was.
+    // Words that are no command, and a script that is generated, leave the source as it was, and tell no fault of it.
     ensures nothing { ¬ IsReading (command_of words.now) → src.new ≡ src.old }
+    ensures unread { ¬ IsReading (command_of words.now) → ¬ (result ≡ Status.ReadFault) }
 
     // Each answer has its cause.
     ensures usage { (result ≡ Status.Usage → command_of words.now ≡ None)
@@ -177,6 +202,8 @@ pub fn top<S: Source, K: Sink>(alloc: Global, words: &Seq<Str>, src: &mut S, out
         (RepeatsWord first second (command_of words.now) input)) }
     ensures read_fault { result ≡ Status.ReadFault → Rose (S.faults src.old) (S.faults src.new) }
     ensures write_fault { result ≡ Status.WriteFault → Rose (K.faults out.old) (K.faults out.new) }
+    // A summary is of the script that is generated for its number, which breaks no rule.
+    ensures sum { IfSome (S.left src.old) (λ input. SumsUp result (command_of words.now) input) }
     // In the history that is due each message is sent once at most, carried twice at most, and has one fate.
     ensures fates { IfSome (S.left src.old) (λ input. MessagesHaveOneFate (command_of words.now) input) }
     // In each world of its run what DeepFrozen stamped reaches no assignable state.

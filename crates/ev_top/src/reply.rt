@@ -8,6 +8,8 @@ ghost use Rattle.ev_top.specs.Words.{line};
 use crate::status::{Refusal, Stage, Status};
 use ev_base::Memory;
 use ev_reader::ProgramFault;
+use ev_scope::Scoped;
+use ev_script::Script;
 use std::alloc::Global;
 
 /// What is to be answered and written.
@@ -15,6 +17,22 @@ use std::alloc::Global;
 pub struct Reply {
     pub status: Status,
     pub text: String,
+}
+
+/// A script whose programs were read: those of its vats, in order.
+#[derive(Drop)]
+pub struct Prepared {
+    pub script: Script,
+    pub programs: Vec<Scoped>,
+    /// Whether what is told has the frames.
+    pub wire: bool,
+}
+
+/// What a call owes: a reply, or the run of a script, whose text is written as it happens.
+#[derive(Drop)]
+pub enum Owed {
+    Reply(Reply),
+    Run(Prepared),
 }
 
 /// A reply of one line.

@@ -1,27 +1,25 @@
 //! What is due for the bytes of a script: its run, or a refusal.
 
-ghost use Rattle.std.specs.Prelude.{◌≡◌, [], IfOk, string_bytes};
+ghost use Rattle.std.specs.Prelude.{◌≡◌, ◌≤◌, [], IfOk};
+ghost use Rattle.ev_io.specs.Causes.{Rose};
 ghost use Rattle.ev_script.specs.Rules.{IsAdmitted};
-ghost use Rattle.ev_top.specs.Debt.{IsFor};
-ghost use Rattle.ev_top.specs.Due.{IsDueOfScript, IsDueOfTrees, IsDueOfVats, gone_astray};
-ghost use Rattle.ev_top.specs.Ends.{due_by};
-ghost use Rattle.ev_top.specs.Machine.{vat_of_entry, vat_of_step};
-ghost use Rattle.ev_top.specs.Programs.{AreRead, trees_of};
+ghost use Rattle.ev_top.specs.Due.{IsDueOfScript, IsDueOfVats, MayRun, Settles, debt_of};
+ghost use Rattle.ev_top.specs.Ends.{status_by};
+ghost use Rattle.ev_top.specs.Machine.{text_of, vat_of_entry, vat_of_step};
 ghost use Rattle.ev_top.specs.Script.{script_from};
 
-use crate::given::name_of;
-use crate::reply::{Reply, reply_rule};
+use crate::reply::{Owed, Prepared, reply_rule};
 use crate::script::script_from;
 use crate::sources::{Unread, read_sources};
 use crate::status::{Refusal, Stage, Status};
 use ev_base::{Limits, Memory, VatId};
-use ev_scope::Scoped;
+use ev_io::Sink;
 use ev_script::{Entry, Script, ScriptFault};
-use ev_world::{RunEnd, run_script};
+use ev_world::{RunEnd, Unfinished, write_run};
 use std::alloc::Global;
 
-/// The greatest depth at which a node begins.
-const GREATEST_DEPTH: u32 = 20_000;
+/// The limits of each run: the greatest depth at which a node begins.
+pub const LIMITS: Limits = Limits { depth: 20_000 };
 
 /// The vat that an entry has take a step. No vat takes one in a cut.
 fn vat_of_entry(entry: Entry) -> VatId
@@ -50,75 +48,69 @@ fn vat_of_step(script: &Script, step: u64) -> VatId
     }
 }
 
-/// The refusal of the program of a vat in whose step a run went astray.
-fn reply_astray(alloc: Global, script: &Script, vat: VatId) -> Result<Reply, Memory>
-    ensures { IfOk result (λ reply. IsFor reply.status (string_bytes reply.text) (gone_astray script.now vat)) }
-{
-    let name = name_of(script.vats.as_slice(), vat);
-    let refusal = Refusal {
-        vat: vat.0,
-        stage: Stage::Astray,
-        kind: 0,
-        place: 0,
-    };
-    Ok(Reply {
-        status: Status::ProgramRefused(refusal),
-        text: format!(in alloc; "refused program {name} astray 0 0\n")?,
-    })
-}
-
-/// The run of a script that ended so, with its text, or the refusal of a program where the run went astray.
-fn reply_told(alloc: Global, script: &Script, end: RunEnd, text: String) -> Result<Reply, Memory>
+/// The status of a run of a script that ended so.
+pub fn status_by(script: &Script, end: RunEnd) -> Status
     requires { IsAdmitted script.now }
-    ensures { IfOk result (λ reply. IsFor reply.status (string_bytes reply.text) (due_by script.now (string_bytes text) end)) }
+    ensures { result ≡ status_by script.now end }
 {
-    let status = match end {
+    match end {
         RunEnd::Done => Status::Done,
         RunEnd::FuelSpent(step) => Status::FuelSpent(step),
         RunEnd::TooDeep(step) => Status::TooDeep(step),
         RunEnd::WordRepeated(first, second) => Status::WordRepeated(first, second),
-        RunEnd::Astray(step) => return reply_astray(alloc, script, vat_of_step(script, step)),
-    };
-    Ok(Reply { status, text })
+        RunEnd::Astray(step) => Status::ProgramRefused(Refusal {
+            vat: vat_of_step(script, step).0,
+            stage: Stage::Astray,
+            kind: 0,
+            place: 0,
+        }),
+    }
 }
 
-/// The run of a script whose programs are these.
-fn reply_run(
-    alloc: Global,
-    script: &Script,
-    programs: Vec<Scoped>,
-    wire: bool,
-) -> Result<Reply, Memory>
-    requires admitted { IsAdmitted script.now }
-    requires read { AreRead script.now.vats script.now.vats programs.items }
-    ensures { IfOk result (λ reply. IsDueOfTrees wire script.now (trees_of programs.items) reply.status (string_bytes reply.text)) }
+/// Has a script run whose programs were read, and writes what the run tells as it happens.
+pub fn write_prepared<K: Sink>(alloc: Global, prepared: Prepared, out: &mut K) -> Status
+    requires { MayRun (Owed.Run prepared) }
+    ensures text { Settles (K.written out.old) (K.written out.new) (debt_of (Owed.Run prepared)) result }
+    ensures later { K.faults out.old ≤ K.faults out.new }
+    ensures fault { result ≡ Status.WriteFault → Rose (K.faults out.old) (K.faults out.new) }
 {
-    let limits = Limits {
-        depth: GREATEST_DEPTH,
-    };
-    let told = run_script(alloc, script, programs, limits, wire)?;
-    reply_told(alloc, script, told.end, told.text)
+    let Prepared {
+        script,
+        programs,
+        wire,
+    } = prepared;
+    match write_run(alloc, &script, programs, LIMITS, wire, out) {
+        Ok(end) => status_by(&script, end),
+        Err(Unfinished::WriteFault) => Status::WriteFault,
+        Err(Unfinished::Memory) => Status::Memory,
+    }
 }
 
 /// The run of a script, or the refusal of the first source that is refused.
-fn reply_script(alloc: Global, script: &Script, wire: bool) -> Result<Reply, Memory>
-    requires { IsAdmitted script.now }
-    ensures { IfOk result (λ reply. IsDueOfVats wire script.now [] script.now.vats reply.status (string_bytes reply.text)) }
+fn owed_script(alloc: Global, script: Script, wire: bool) -> Result<Owed, Memory>
+    requires { IsAdmitted script }
+    ensures due { IfOk result (λ owed. IsDueOfVats (text_of wire) script [] script.vats (debt_of owed).status (debt_of owed).text) }
+    ensures ready { IfOk result MayRun }
 {
-    match read_sources(alloc, script) {
-        Ok(programs) => reply_run(alloc, script, programs, wire),
-        Err(Unread::Refused(reply)) => Ok(reply),
+    match read_sources(alloc, &script) {
+        Ok(programs) => Ok(Owed::Run(Prepared {
+            script,
+            programs,
+            wire,
+        })),
+        Err(Unread::Refused(reply)) => Ok(Owed::Reply(reply)),
         Err(Unread::Memory) => Err(Memory),
     }
 }
 
 /// The run of the script that bytes spell, or their refusal. The text has the frames where `wire` asks for them.
-pub fn run_bytes(alloc: Global, bytes: &[u8], wire: bool) -> Result<Reply, Memory>
-    ensures { IfOk result (λ reply. IsDueOfScript wire (script_from bytes.now) reply.status (string_bytes reply.text)) }
+pub fn owed_bytes(alloc: Global, bytes: &[u8], wire: bool) -> Result<Owed, Memory>
+    ensures due { IfOk result (λ owed. IsDueOfScript (text_of wire) (script_from bytes.now) (debt_of owed).status (debt_of owed).text) }
+    ensures ready { IfOk result MayRun }
 {
     match script_from(alloc, bytes) {
-        Ok(script) => reply_script(alloc, &script, wire),
-        Err(ScriptFault::Rule(rule)) => reply_rule(alloc, rule),
+        Ok(script) => owed_script(alloc, script, wire),
+        Err(ScriptFault::Rule(rule)) => Ok(Owed::Reply(reply_rule(alloc, rule)?)),
         Err(ScriptFault::Memory) => Err(Memory),
     }
 }

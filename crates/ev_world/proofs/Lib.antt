@@ -21,3 +21,9 @@ pub mod Stepping
 pub mod Telling
 pub mod Turning
 pub mod Wholes
+pub mod EventRuns
+pub mod Fronts
+pub mod Untold
+pub mod WrittenLoops
+pub mod WrittenRuns
+pub mod WrittenSteps

@@ -1,5 +1,5 @@
 -- What the openings and the entries of a run come to one after the other, the run comes to.
-use Rattle.std.proofs.Common.{◌≡◌, ℕ, zero, suc, ◌+◌, ◌-◌, ◌<◌, ◌≤◌, Bool, List, [], ◌∷◌, ◌++◌, Some, length, map, refl, sym, ap, subst, ◌∙◌, append_assoc, append-nil, arith}
+use Rattle.std.proofs.Common.{◌≡◌, ℕ, zero, suc, ◌+◌, ◌<◌, ◌≤◌, Bool, List, [], ◌∷◌, ◌++◌, Some, length, map, refl, sym, ap, subst, ◌∙◌, append_assoc, append-nil, arith}
 use Rattle.std.specs.Prelude.{get_or, pred, slice_get}
 use Rattle.std.proofs.lemmas.List.{length-append, length-map}
 use Rattle.std.proofs.lemmas.Option.{slice_get_read}
@@ -64,7 +64,7 @@ none_past all before k e many less =
 -- ---- openings
 
 module _ (S : Script) where
-  openings_joined : (u : ℕ) (ps qs : List Program) (w : Vats) → open_from S u (ps ++ qs) w ≡ then_runs (open_from S u ps w) (open_from S (u + length ps) qs)
+  pub openings_joined : (u : ℕ) (ps qs : List Program) (w : Vats) → open_from S u (ps ++ qs) w ≡ then_runs (open_from S u ps w) (open_from S (u + length ps) qs)
   unfolding then_runs open_from
   openings_joined u [] qs w = let i : u ≡ u + zero = omega arith in ap (λ (v : ℕ). open_from S v qs w) i
   openings_joined u (p ∷ ps) qs w =
@@ -76,7 +76,7 @@ module _ (S : Script) where
   unfolding open_from
   one_opened u p w = then_end (open_member S u p w (slice_get w.members u)) (open_from S (suc u) []) (λ y. refl)
 
-  opened_last : (ps : List Program) (p : Program) (v w : Vats) → open_from S zero ps v ≡ Runs w → open_from S zero (ps ++ p ∷ []) v ≡ open_member S (length ps) p w (slice_get w.members (length ps))
+  pub opened_last : (ps : List Program) (p : Program) (v w : Vats) → open_from S zero ps v ≡ Runs w → open_from S zero (ps ++ p ∷ []) v ≡ open_member S (length ps) p w (slice_get w.members (length ps))
   opened_last ps p v w e =
       let i : 0 + length ps ≡ length ps = omega arith in
       openings_joined zero ps (p ∷ []) v ∙ ap (λ (k : ℕ). then_runs (open_from S zero ps v) (open_from S k (p ∷ []))) i ∙ runs_on (open_from S zero ps v) (open_from S (length ps) (p ∷ [])) w e ∙ one_opened (length ps) p w
@@ -130,7 +130,7 @@ opened_halts S e j k wire told o =
 -- ---- entries
 
 module _ (S : Script) where
-  steps_joined : (k : ℕ) (es fs : List Entry) (w : Vats) → steps_from S (es ++ fs) k w ≡ then_runs (steps_from S es k w) (steps_from S fs (k + length es))
+  pub steps_joined : (k : ℕ) (es fs : List Entry) (w : Vats) → steps_from S (es ++ fs) k w ≡ then_runs (steps_from S es k w) (steps_from S fs (k + length es))
   unfolding then_runs steps_from
   steps_joined k [] fs w = let i : k ≡ k + zero = omega arith in ap (λ (j : ℕ). steps_from S fs j w) i
   steps_joined k (e ∷ es) fs w =
@@ -142,7 +142,7 @@ module _ (S : Script) where
   unfolding steps_from
   one_stepped k e w = then_end (step S e k w) (steps_from S [] (suc k)) (λ y. refl)
 
-  stepped_last : (es : List Entry) (e : Entry) (v w : Vats) → steps_from S es 1 v ≡ Runs w → steps_from S (es ++ e ∷ []) 1 v ≡ step S e (suc (length es)) w
+  pub stepped_last : (es : List Entry) (e : Entry) (v w : Vats) → steps_from S es 1 v ≡ Runs w → steps_from S (es ++ e ∷ []) 1 v ≡ step S e (suc (length es)) w
   stepped_last es e v w runs =
       let i : 1 + length es ≡ suc (length es) = omega arith in
       steps_joined 1 es (e ∷ []) v ∙ ap (λ (k : ℕ). then_runs (steps_from S es 1 v) (steps_from S (e ∷ []) k)) i ∙ runs_on (steps_from S es 1 v) (steps_from S (e ∷ []) (suc (length es))) w runs ∙ one_stepped (suc (length es)) e w

@@ -49,14 +49,14 @@ whole_is : (S : Script) → run S ≡ then_runs (course_of S) (close S)
 unfolding run
 whole_is S = joined (open_from S zero S.vats (begins S)) (steps_from S S.schedule 1) (close S)
 
-run_goes : (S : Script) (w y : Vats) → course_of S ≡ Runs w → close S w ≡ Runs y → run S ≡ Runs y
+pub run_goes : (S : Script) (w y : Vats) → course_of S ≡ Runs w → close S w ≡ Runs y → run S ≡ Runs y
 run_goes S w y e f = whole_is S ∙ runs_on (course_of S) (close S) w e ∙ f
 
-halts_whole : (c : Course) (f : Vats → Course) (s : machine.Stop) (k : ℕ) (w : Vats) → c ≡ Halts s k w → then_runs c f ≡ Halts s k w
+pub halts_whole : (c : Course) (f : Vats → Course) (s : machine.Stop) (k : ℕ) (w : Vats) → c ≡ Halts s k w → then_runs c f ≡ Halts s k w
 unfolding then_runs
 halts_whole c f s k w e = rw e refl
 
-run_halts : (S : Script) (s : machine.Stop) (k : ℕ) (w : Vats) → course_of S ≡ Halts s k w → run S ≡ Halts s k w
+pub run_halts : (S : Script) (s : machine.Stop) (k : ℕ) (w : Vats) → course_of S ≡ Halts s k w → run S ≡ Halts s k w
 run_halts S s k w e = whole_is S ∙ halts_whole (course_of S) (close S) s k w e
 
 -- ---- the names of the vats
@@ -78,12 +78,12 @@ many_are script programs depth = many_from (tree_in programs) zero script.vats
 
 -- ---- the text
 
-text_goes : (S : Script) (wire : Bool) (y : Vats) (told : List ShownEvent) → run S ≡ Runs y → told ≡ told_so wire (shown_events y.drawn y.history) → render (vat_names S) told ≡ told_text wire S
+pub text_goes : (S : Script) (wire : Bool) (y : Vats) (told : List ShownEvent) → run S ≡ Runs y → told ≡ told_so wire (shown_events y.drawn y.history) → render (vat_names S) told ≡ told_text wire S
 unfolding text wire_text
 text_goes S true y told e t = ap (λ (es : List ShownEvent). render (vat_names S) es) t ∙ sym (ap (λ (c : Course). wire_text S c) e)
 text_goes S false y told e t = ap (λ (es : List ShownEvent). render (vat_names S) es) t ∙ sym (ap (λ (c : Course). text S c) e)
 
-text_halts : (S : Script) (wire : Bool) (s : machine.Stop) (k : ℕ) (w : Vats) (told : List ShownEvent) → run S ≡ Halts s k w → told ≡ told_so wire (shown_events w.drawn w.history)
+pub text_halts : (S : Script) (wire : Bool) (s : machine.Stop) (k : ℕ) (w : Vats) (told : List ShownEvent) → run S ≡ Halts s k w → told ≡ told_so wire (shown_events w.drawn w.history)
     → stopped_text (vat_names S) told s k ≡ told_text wire S
 unfolding text wire_text
 text_halts S true s k w told e t = ap (λ (es : List ShownEvent). stopped_text (vat_names S) es s k) t ∙ sym (ap (λ (c : Course). wire_text S c) e)

@@ -8,3 +8,5 @@ pub mod Pushing
 pub mod Closing
 pub mod Starting
 pub mod Carrying
+pub mod Events
+pub mod Writing

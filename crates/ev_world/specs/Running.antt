@@ -1,5 +1,5 @@
 -- The run of a script in numbers, as the code tells it.
-use Rattle.std.specs.Prelude.{ℕ, Bool, true, false, List, [], ◌∷◌, get_or, map}
+use Rattle.std.specs.Prelude.{ℕ, Bool, true, false, List, [], get_or, map}
 use Rattle.def_kernel.specs.declared.node.Node.{Node}
 use Rattle.def_machine.specs.State.{Stop, Fuel, Deep, Repeated, Astray}
 use Rattle.def_run.specs.World as machine

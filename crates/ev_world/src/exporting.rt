@@ -99,7 +99,7 @@ pub(crate) fn tell_exports(
 pub(crate) fn exports_of(alloc: Global, member: &Member, count: usize) -> Result<Vec<u64>, Memory>
     ensures { IfOk result (λ counts. AreCounted member.now count counts.items) }
 {
-    let mut counts = Vec::new(alloc);
+    let mut counts = Vec::with_capacity(alloc, count)?;
     for peer in 0..count {
         let Ok(number) = u8::try_from(peer) else {
             return Err(Memory);

@@ -39,7 +39,7 @@ pub struct Told {
 }
 
 /// The names of the vats of a script.
-fn names_of(alloc: Global, vats: &[VatScript]) -> Result<Seq<Str>, Memory>
+pub(crate) fn names_of(alloc: Global, vats: &[VatScript]) -> Result<Seq<Str>, Memory>
     ensures { IfOk result (λ names. names ≡ map (λ vat. vat.name) vats.now) }
 {
     let mut names = Seq::new(alloc);
@@ -57,7 +57,7 @@ fn rendered(alloc: Global, names: &Seq<Str>, history: &History) -> Result<String
 }
 
 /// The answer of a run that stopped: the lines of the steps before, and one that tells the stop.
-fn stopped(
+pub(crate) fn stopped(
     alloc: Global,
     names: &Seq<Str>,
     history: &History,

@@ -54,7 +54,7 @@ pub(crate) struct World {
 
 impl World {
     /// The opening turn of that vat.
-    fn open(&mut self, alloc: Global, vat: usize) -> Result<(), VatStop>
+    pub(crate) fn open(&mut self, alloc: Global, vat: usize) -> Result<(), VatStop>
         requires ready { AreReady self.old.residents.items }
         ensures step { (S : TheirScript) (w : Vats) (p : Program) → slice_get S.vats vat ≡ Some p → IsWorld S w self.old → OpensSteadily S vat p w
             → CourseIs S result vat (open_member S vat p w (slice_get w.members vat)) self.new }
@@ -170,7 +170,7 @@ impl World {
     }
 
     /// The step of the entry of that number, counted from 1.
-    fn step(&mut self, alloc: Global, entry: Entry, number: u64) -> Result<(), VatStop>
+    pub(crate) fn step(&mut self, alloc: Global, entry: Entry, number: u64) -> Result<(), VatStop>
         requires ready { AreReady self.old.residents.items }
         ensures step { (S : TheirScript) (w : Vats) → IsWorld S w self.old → StepsSteadily S (machine_entry entry) number w
             → CourseIs S result (step_number S number) (step S (machine_entry entry) number w) self.new }

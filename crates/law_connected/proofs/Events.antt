@@ -1,9 +1,9 @@
 -- The lines of a step among the events of a run.
-use Rattle.std.proofs.Common.{◌≡◌, ℕ, Bool, true, false, List, [], ◌∷◌, ◌++◌, Option, Some, None, refl, sym, subst, ◌⊎◌, inl, inr}
+use Rattle.std.proofs.Common.{◌≡◌, ℕ, Bool, true, false, List, [], ◌∷◌, ◌++◌, Option, Some, None, refl, sym, subst, map, ◌⊎◌, inl, inr}
 use Rattle.def_machine.specs.Values.{Name}
-use Rattle.def_machine.specs.State.{Note, Deliver, Open, Ask, SettledTo, Elsewhere, Shorten, Happened, Took, Called, Back, Thrown, Left, Got, SlotMade, SlotRead, SlotWrote, ListMade, ListCame, EjectorMade, AuditionMade, PromiseMade, ObjectMade, Sends, Reacts, Finished, Threw, Settles, Waits, Views, Lost, Posted}
+use Rattle.def_machine.specs.State.{Known, Vat, Note, Deliver, Open, Ask, SettledTo, Elsewhere, Shorten, Happened, Took, Called, Back, Thrown, Left, Got, SlotMade, SlotRead, SlotWrote, ListMade, ListCame, EjectorMade, AuditionMade, PromiseMade, ObjectMade, Sends, Reacts, Finished, Threw, Settles, Waits, Views, Lost, Posted}
 use Rattle.def_run.specs.World as world
-use Rattle.def_run.specs.World.{Script, Event, Here, LostCut, Link}
+use Rattle.def_run.specs.World.{Script, Event, Here, LostCut, LeftQueue, LeftHeld, LeftWait, LeftLink, Link}
 use Rattle.law_connected.specs.Known.{IsAmong, AllOf}
 use Rattle.law_connected.proofs.FineSteps.{among_left, among_right}
 use Rattle.law_fate.proofs.RunCounts.{pick}
@@ -108,7 +108,38 @@ nobodys_join xs ys h k u f i = either (among_either (Here u f) xs ys i)
     either (inl j) = h u f j
     either (inr j) = k u f j
 
+nobodys_map : {A : Type 0} (f : A → Event) → ((x : A) (u : ℕ) (e : Happened Name) → Here u e ≡ f x → ⊥) → (xs : List A) → IsNobodys (map f xs)
+nobodys_map f h [] u e i = i
+nobodys_map f h (x ∷ xs) u e (inl i) = h x u e i
+nobodys_map f h (x ∷ xs) u e (inr i) = nobodys_map f h xs u e i
+
 module _ (script : Script) where
+  -- the closing list is of no vat
+  held_nobodys : (v : ℕ) (ks : List (Known Name)) → IsNobodys (world.left_held script v ks)
+  unfolding world.left_held
+  held_nobodys v [] u e i = i
+  held_nobodys v (k ∷ ks) u e i = (nobodys_join (map (λ m. LeftHeld v k.name m.id) k.held) (world.left_held script v ks) (nobodys_map (λ m. LeftHeld v k.name m.id) (λ m v f j. cc) k.held) (held_nobodys v ks)) u e i
+
+  wait_nobodys : (v : ℕ) (ks : List (Known Name)) → IsNobodys (world.left_wait script v ks)
+  unfolding world.left_wait
+  wait_nobodys v [] u e i = i
+  wait_nobodys v (k ∷ ks) u e i = (nobodys_join (map (λ m. LeftWait v k.name m.id) k.reactions) (world.left_wait script v ks) (nobodys_map (λ m. LeftWait v k.name m.id) (λ m v f j. cc) k.reactions) (wait_nobodys v ks)) u e i
+
+  vat_nobodys : (s : Vat Name) → IsNobodys (world.left_vat script s)
+  unfolding world.left_vat
+  vat_nobodys s = let queue : List Event = map (λ m. LeftQueue s.number m.id) s.queue in nobodys_join (queue ++ world.left_held script s.number s.known) (world.left_wait script s.number s.known)
+      (nobodys_join queue (world.left_held script s.number s.known) (nobodys_map (λ m. LeftQueue s.number m.id) (λ m v f j. cc) s.queue) (held_nobodys s.number s.known)) (wait_nobodys s.number s.known)
+
+  pub vats_nobodys : (ss : List (Vat Name)) → IsNobodys (world.left_vats script ss)
+  unfolding world.left_vats
+  vats_nobodys [] u e i = i
+  vats_nobodys (s ∷ ss) u e i = (nobodys_join (world.left_vat script s) (world.left_vats script ss) (vat_nobodys s) (vats_nobodys ss)) u e i
+
+  pub links_nobodys : (ls : List Link) → IsNobodys (world.left_links script ls)
+  unfolding world.left_links
+  links_nobodys [] u e i = i
+  links_nobodys (l ∷ ls) u e i = (nobodys_join (map (λ n. LeftLink l.from l.to n) l.notes) (world.left_links script ls) (nobodys_map (λ n. LeftLink l.from l.to n) (λ n v f j. cc) l.notes) (links_nobodys ls)) u e i
+
   lost_nobodys : (ns : List (Note Name)) → IsNobodys (world.lost_by script ns)
   unfolding world.lost_by
   lost_nobodys [] u f i = i

@@ -1,23 +1,27 @@
 -- What an activation does from a connected history, under facts on what it knows, ends in a connected history with facts on what it gives.
 use Rattle.std.proofs.Common.{◌≡◌, ℕ, zero, suc, ◌-◌, ◌⊎◌, inl, inr, Bool, true, false, List, [], ◌∷◌, ◌++◌, Option, Some, None, if◌then◌else◌, refl, sym, ap, ◌∙◌, subst, length, map}
-use Rattle.std.specs.Prelude.{slice_get, nat_le}
+use Rattle.std.specs.Prelude.{slice_get, nat_le, codes}
 use Rattle.def_machine.specs.Values.{Words, Value, Null, Prim, Items, Naming}
 use Rattle.def_machine.specs.State.{Bound, Fixed, Slot, Binding, Scope, Cell, View, Thing, Made, Ejector, Audition, Resolver, Happened, Called, SlotMade, SlotRead, SlotWrote, ListMade, EjectorMade, Vat, Stop, Done, Gives, Throws, Ejects, Stops, Act, ◌>>=◌, ◌>>◌, and_then, for_some, end_by, ending, give, throw, stop, eject, look, tell, spend, spent, new_thing, kill, change, dead, new_slot, holding, write_slot, new_list}
+use Rattle.def_machine.specs.Refs.{Place}
 use Rattle.def_machine.specs.Native.{Reply, Says, Writes, Lists as Listed, Iterates, Fails, Asked, MakesList, Ranges, Same as SameEver, Compares, Loops, SendsTo, CallsTo, MakesPromise, Breaks, Tells, Whens, ThrowsIt, IsStamped, Coerces, AddsNull, NoMethod}
-use Rattle.def_machine.specs.Scopes.{Answer, Answers, AuditionAsk, GetsForm, GetsGuard, Asks, NoAuditionAsk}
+use Rattle.def_machine.specs.Scopes.{Answer, Answers, AuditionAsk, GetsForm, GetsGuard, Asks, NoAuditionAsk, ResolverAsk, Resolves, Smashes, NoResolverAsk}
 use Rattle.law_machine.proofs.StepLaws.{get_append}
-use Rattle.law_connected.specs.Known.{Item, AValue, ASlot, IsAmong, AllOf, Reaches, IsThing, IsPlain, Knows, told as told_by, tells, by, values}
+use Rattle.law_connected.specs.Known.{Item, AValue, ASlot, IsAmong, AllOf, IsThing, Knows, told as told_by, tells, by, values}
 use Rattle.law_connected.specs.Natives.{ReplyHas}
 use Rattle.law_connected.specs.Connected.{served, open_after, Judges, GivenBack, LineWell, uses, itself}
 use Rattle.law_connected.specs.ConnectedLaws as laws
-use Rattle.law_connected.proofs.Traces.{traces_tell, Traces, Ends as TracesEnds, among_last}
+use Rattle.law_connected.proofs.Traces.{among_last}
+use Rattle.law_connected.specs.Settlings.{IsCaused, IsResolver, IsHanded, IsGiven, SettlesWell, Follows}
+use Rattle.law_connected.proofs.Causes.{Causes, Ends as CausesEnds, Any, Steady, handed_more, follows_more, given_more, settles_more}
+use Rattle.law_connected.proofs.RefsCauses.{IsAt as PlacedAt}
 use Rattle.law_connected.specs.Activations.{Rises}
 use Rattle.law_connected.specs.Told.{ReadTold}
 use Rattle.law_connected.specs.News.{thing_made, slot_made, list_made}
 use Rattle.law_connected.proofs.Rising.{rises_line, rises_new, length_end}
 use Rattle.law_connected.proofs.Idle.{Idle, IdleEnds}
 use Rattle.law_connected.proofs.Asked.{AskedHas}
-use Rattle.law_connected.proofs.Ground.{Ground, all_map, opens, with_line, opens_last, idles_opens, held, Has, Knew, ViewKnown, Judged, Grows, Good, has_up, reaches_up, thing_up, among_up, judges_up, view_up, judged_up, given_up, grows_same, grows_line, grows_trans, grows_by, PutTold, put_up, CellTold, makes_none, good_block, good_line, good_by, idles_grows, idles_good}
+use Rattle.law_connected.proofs.Ground.{Ground, all_map, opens, with_line, opens_last, idles_opens, held, Has, Knew, ViewKnown, Judged, Grows, Good, has_up, resolver_up, thing_up, among_up, judges_up, view_up, judged_up, given_up, grows_same, grows_line, grows_trans, grows_by, PutTold, put_up, CellTold, makes_none, good_block, good_line, good_by, idles_grows, idles_good}
 
 abbrev pub MayBe : {A : Type 0} → (A → Type 0) → Option A → Type 0
 MayBe P (Some x) = P x
@@ -61,6 +65,17 @@ pub data Fact (N : Type 0) : Type 0 where
   -- what a receiver that begins no activation may give back
   MayGive : Value N → Value N → Fact N
   MayThing : ℕ → Option (Thing N) → Fact N
+  -- where a followed value is
+  IsPlaced : Value N → Place N → Fact N
+  -- a line was told
+  IsLine : Happened N → Fact N
+  -- what bears that number is the resolver of that promise, and what it was handed
+  ResolverOf : ℕ → N → Fact N
+  HandedTo : ℕ → Words → Value N → Fact N
+  MayAsk : ℕ → ResolverAsk N → Fact N
+  -- a name is given that value, and may settle to it
+  GivenTo : N → Value N → Fact N
+  MaySettle : N → Value N → Fact N
 
 -- what each kind of outcome is known to be
 abbrev pub answer : {N : Type 0} → Answer N → Fact N
@@ -160,7 +175,7 @@ written_guards (x ∷ cs) zero (suc k) v c e = (c, e, refl)
 written_guards (x ∷ cs) (suc n) zero v c e = (c, e, refl)
 written_guards (x ∷ cs) (suc n) (suc k) v c e = written_guards cs n k v c e
 
-module _ {N W : Type 0} (K : Naming N W) (E : Ground N) (a : ℕ) where
+module _ {N W : Type 0} (K : Naming N W) (E : Ground N W) (a : ℕ) where
   abbrev pub BoundKnown : Vat N → Bound N → Type 0
   BoundKnown s (Fixed v g) = Knew K E s a v × Knew K E s a g
   BoundKnown s (Slot k) = Has K E s a (ASlot k)
@@ -178,13 +193,13 @@ module _ {N W : Type 0} (K : Naming N W) (E : Ground N) (a : ℕ) where
   AuditionAskKnown s NoAuditionAsk = Unit {0}
 
   abbrev pub Handed : Vat N → ℕ → Value N → Type 0
-  Handed s n v = (b : ℕ) × (x : Value N) × (verb : Words) × (args : List (Value N)) × IsAmong (Called b x verb args None) s.happened × IsThing K E.before s.happened x n × IsAmong v (Null ∷ args)
+  Handed s n v = (b : ℕ) × (x : Value N) × (verb : Words) × (args : List (Value N)) × IsAmong (Called b x verb args None) s.happened × IsThing K E.start.vat.known s.happened x n × IsAmong v (Null ∷ args)
 
   abbrev pub Serving : Vat N → Value N → Words → List (Value N) → Type 0
   Serving s x verb args = (b : ℕ) × IsAmong (Called b x verb args None) s.happened × (served (opens s) ≡ Some x)
 
   abbrev pub Judging : Vat N → View N → Type 0
-  Judging s view = ((served (opens s) ≡ None) × ViewKnown K E s a view) ⊎ ((x : Value N) × (j b : ℕ) × (served (opens s) ≡ Some x) × IsThing K E.before s.happened x j × Judges K (held K E s) s.happened b j × ViewKnown K E s b view)
+  Judging s view = ((served (opens s) ≡ None) × ViewKnown K E s a view) ⊎ ((x : Value N) × (j b : ℕ) × (served (opens s) ≡ Some x) × IsThing K E.start.vat.known s.happened x j × Judges K (held K E s) s.happened b j × ViewKnown K E s b view)
 
   -- the captures of an object are there, and what a live audition tells is known to who judges
   abbrev pub ThingThere : Vat N → ℕ → Thing N → Type 0
@@ -192,7 +207,12 @@ module _ {N W : Type 0} (K : Naming N W) (E : Ground N) (a : ℕ) where
   ThingThere s i (Audition true view) = Judged K E s i view
   ThingThere s i (Audition false view) = Unit {0}
   ThingThere s i (Ejector b) = Unit {0}
-  ThingThere s i (Resolver p) = Unit {0}
+  ThingThere s i (Resolver p) = IsResolver K E.start s.happened i p
+
+  abbrev pub AskHas : Vat N → ℕ → ResolverAsk N → Type 0
+  AskHas s i (Resolves v) = IsHanded K E.start s.happened i (codes "resolve") v
+  AskHas s i (Smashes v) = IsHanded K E.start s.happened i (codes "smash") v
+  AskHas s i NoResolverAsk = Unit {0}
 
   abbrev pub Holds : Vat N → Fact N → Type 0
   Holds s Nothing = Unit {0}
@@ -208,7 +228,7 @@ module _ {N W : Type 0} (K : Naming N W) (E : Ground N) (a : ℕ) where
   Holds s (MayBound o) = MayBe (BoundKnown s) o
   Holds s (MayCell k o) = MayBe (λ c. Knew K E s a c.guard × PutTold K E s k c.value) o
   Holds s (WasPut k v) = PutTold K E s k v
-  Holds s (Leads x y) = Reaches K E.before s.happened x y ⊎ IsPlain y
+  Holds s (Leads x y) = Follows K E.start s.happened x y
   Holds s (IsReply r) = ReplyHas (Knew K E s a) r
   Holds s (IsAsked q) = AskedKnown s q
   Holds s (IsAuditionAsk q) = AuditionAskKnown s q
@@ -216,11 +236,18 @@ module _ {N W : Type 0} (K : Naming N W) (E : Ground N) (a : ℕ) where
   Holds s (WasHanded n v) = Handed s n v
   Holds s (MayHand n o) = MayBe (Handed s n) o
   Holds s (WasCalled x verb args) = Serving s x verb args
-  Holds s (IsAt x i) = IsThing K E.before s.happened x i
+  Holds s (IsAt x i) = IsThing K E.start.vat.known s.happened x i
   Holds s (IsJudging view) = Judging s view
   Holds s (IsJudged i view) = Judged K E s i view
   Holds s (MayGive x v) = GivenBack K (held K E s) s.happened a x None v
   Holds s (MayThing i o) = MayBe (ThingThere s i) o
+  Holds s (IsPlaced y p) = PlacedAt K E.start y p
+  Holds s (IsLine e) = IsAmong e s.happened
+  Holds s (ResolverOf i p) = IsResolver K E.start s.happened i p
+  Holds s (HandedTo i name v) = IsHanded K E.start s.happened i name v
+  Holds s (MayAsk i q) = AskHas s i q
+  Holds s (GivenTo p x) = IsGiven K E.start s.happened p x
+  Holds s (MaySettle p y) = SettlesWell K E.start s.happened p y
 
   -- what follows from a fact
   pub record Gets (C F : Fact N) : Type 0 where
@@ -304,11 +331,21 @@ module _ {N W : Type 0} (K : Naming N W) (E : Ground N) (a : ℕ) where
     there_up i (Audition true view) h = judged_up K E s t g i view h
     there_up i (Audition false view) h = tt
     there_up i (Ejector b) h = tt
-    there_up i (Resolver p) h = tt
+    there_up i (Resolver p) h = resolver_up K E s t g i p h
 
-    leads_up : (x y : Value N) → Reaches K E.before s.happened x y ⊎ IsPlain y → Reaches K E.before t.happened x y ⊎ IsPlain y
-    leads_up x y (inl h) = inl (reaches_up K E s t g x y h)
-    leads_up x y (inr h) = inr h
+    told_up : (F : List (Happened N) → Type 0) → ((so more : List (Happened N)) → F so → F (so ++ more)) → F s.happened → F t.happened
+    told_up F f h = subst F (sym g.lines) (f s.happened g.more h)
+
+    handed_to_up : (i : ℕ) (name : Words) (v : Value N) → IsHanded K E.start s.happened i name v → IsHanded K E.start t.happened i name v
+    handed_to_up i name v h = told_up (λ so. IsHanded K E.start so i name v) (λ so more k. handed_more K E.start so more i name v k) h
+
+    ask_has_up : (i : ℕ) (q : ResolverAsk N) → AskHas s i q → AskHas t i q
+    ask_has_up i (Resolves v) h = handed_to_up i (codes "resolve") v h
+    ask_has_up i (Smashes v) h = handed_to_up i (codes "smash") v h
+    ask_has_up i NoResolverAsk h = tt
+
+    leads_up : (x y : Value N) → Follows K E.start s.happened x y → Follows K E.start t.happened x y
+    leads_up x y h = told_up (λ so. Follows K E.start so x y) (λ so more k. follows_more K E.start so more x y k) h
 
     pub holds_up : (F : Fact N) → Keeps s t F → Holds s F → Holds t F
     holds_up Nothing e h = tt
@@ -337,6 +374,13 @@ module _ {N W : Type 0} (K : Naming N W) (E : Ground N) (a : ℕ) where
     holds_up (IsJudged i view) e h = judged_up K E s t g i view h
     holds_up (MayGive x v) e h = given_up K E s t g a x None v h
     holds_up (MayThing i o) e h = may_up _ _ (there_up i) o h
+    holds_up (IsPlaced y p) e h = h
+    holds_up (IsLine l) e h = among_up K E s t g l h
+    holds_up (ResolverOf i p) e h = resolver_up K E s t g i p h
+    holds_up (HandedTo i name v) e h = handed_to_up i name v h
+    holds_up (MayAsk i q) e h = ask_has_up i q h
+    holds_up (GivenTo p x) e h = told_up (λ so. IsGiven K E.start so p x) (λ so more k. given_more K E.start so more p x k) h
+    holds_up (MaySettle p y) e h = told_up (λ so. SettlesWell K E.start so p y) (λ so more k. settles_more K E.start so more p y k) h
 
   all_keep : (s t : Vat N) → opens t ≡ opens s → (F : Fact N) → Keeps s t F
   all_keep s t e Nothing = tt
@@ -365,6 +409,13 @@ module _ {N W : Type 0} (K : Naming N W) (E : Ground N) (a : ℕ) where
   all_keep s t e (IsJudged i view) = tt
   all_keep s t e (MayGive x v) = tt
   all_keep s t e (MayThing i o) = tt
+  all_keep s t e (IsPlaced y p) = tt
+  all_keep s t e (IsLine l) = tt
+  all_keep s t e (ResolverOf i p) = tt
+  all_keep s t e (HandedTo i name v) = tt
+  all_keep s t e (MayAsk i q) = tt
+  all_keep s t e (GivenTo p x) = tt
+  all_keep s t e (MaySettle p y) = tt
 
   pub still_holds : (s t : Vat N) → Passes s t → (F : Fact N) → Holds s F → Holds t F
   still_holds s t p F h = holds_up s t p.0 F (all_keep s t p.1 F) h
@@ -486,12 +537,12 @@ module _ {N W : Type 0} (K : Naming N W) (E : Ground N) (a : ℕ) where
   -- ---- lines
 
   -- a line that is connected and ends no call, with what it tells
-  pub then_line : {B : Type 0} {C D : Fact N} (e : Happened N) {m : Act N B} {H : B → Fact N} → thing_made K e ≡ None → slot_made e ≡ None → list_made e ≡ None → ((s : Vat N) → open_after (opens s) e ≡ opens s) → ((s : Vat N) → Good K E s → Holds s C → LineWell K (held K E s) s.happened e)
+  pub then_line : {B : Type 0} {C D : Fact N} (e : Happened N) {m : Act N B} {H : B → Fact N} → thing_made K e ≡ None → slot_made e ≡ None → list_made e ≡ None → ((so : List (Happened N)) → IsCaused K E.start so e) → ((s : Vat N) → open_after (opens s) e ≡ opens s) → ((s : Vat N) → Good K E s → Holds s C → LineWell K (held K E s) s.happened e)
       → ((s : Vat N) → Holds s C → ReadTold E.slots s.happened e) → ((s : Vat N) → Holds s C → Holds (with_line s e) D) → Fine (Also C D) m H → Fine C (tell e >> m) H
   unfolding tell ◌>>◌ and_then
-  then_line {C = C} {D = D} e {m = m} {H = H} nil none new o l rd d h = record {
+  then_line {C = C} {D = D} e {m = m} {H = H} nil none new cz o l rd d h = record {
     after = λ s g c. let t : Vat N = with_line s e in let p : Passes s t = (grows_line K E s e, opens_last s e ∙ o s) in
-        widen H s t (m t) p (h.after t (good_line K E s e nil none new g (l s g c) (rd s c)) (still_holds s t p C c, d s c));
+        widen H s t (m t) p (h.after t (good_line K E s e nil none new (cz s.happened) g (l s g c) (rd s c)) (still_holds s t p C c, d s c));
   }
 
   pub uses_values : (s : Vat N) (Q : List (Item N)) (vs : List (Value N)) → AllOf (Knew K E s a) vs → AllOf (λ u. Knows K (held K E s) s.happened u.0 u.1 ⊎ IsAmong u.1 Q) (by a (values vs))
@@ -505,7 +556,7 @@ module _ {N W : Type 0} (K : Naming N W) (E : Ground N) (a : ℕ) where
 
   read_now : {B : Type 0} {C : Fact N} (k : ℕ) (v : Value N) {m : Act N B} {H : B → Fact N} → Gets C (IsSlot k) → Gets C (WasPut k v) → Fine (Also C (IsValue v)) m H → Fine C (tell (SlotRead a k v) >> m) H
   unfolding uses by tells open_after itself
-  read_now k v g p h = then_line (SlotRead a k v) refl refl refl (λ s. refl) (λ s i c. ((inl (g.at s c), tt), tt)) (λ s c. p.at s c) (λ s c. is_told s (SlotRead a k v) (AValue v) (inl refl)) h
+  read_now k v g p h = then_line (SlotRead a k v) refl refl refl (λ so. tt) (λ s. refl) (λ s i c. ((inl (g.at s c), tt), tt)) (λ s c. p.at s c) (λ s c. is_told s (SlotRead a k v) (AValue v) (inl refl)) h
 
   pub then_read : {B : Type 0} {C : Fact N} (act : ℕ) (k : ℕ) (v : Value N) {m : Act N B} {H : B → Fact N} → Gets C (IsAct act) → Gets C (IsSlot k) → Gets C (WasPut k v) → Fine (Also C (IsValue v)) m H → Fine C (tell (SlotRead act k v) >> m) H
   then_read act k v {m = m} i g p h = act_is act (λ b. tell (SlotRead b k v) >> m) i (read_now k v g p h)
@@ -514,7 +565,7 @@ module _ {N W : Type 0} (K : Naming N W) (E : Ground N) (a : ℕ) where
 
   spend_ends : (s : Vat N) (n : ℕ) (b : Bool) → Good K E s → Ends nothing s (spent n b s)
   unfolding spent
-  spend_ends s n true h = ((grows_by K E s (record s { fuel = s.fuel - n }) refl (grows_same K E s).grown, refl), good_by K E s (record s { fuel = s.fuel - n }) refl refl (grows_same K E s).grown (makes_none K E s (record s { fuel = s.fuel - n }) refl refl) refl h, tt)
+  spend_ends s n true h = ((grows_by K E s (record s { fuel = s.fuel - n }) refl (grows_same K E s).grown, refl), good_by K E s (record s { fuel = s.fuel - n }) refl (refl, refl, refl, refl, refl) (grows_same K E s).grown (makes_none K E s (record s { fuel = s.fuel - n }) refl refl) refl h, tt)
   spend_ends s n false h = h
 
   pub fine_spend : {C : Fact N} (n : ℕ) → Fine C (spend n) nothing
@@ -546,21 +597,28 @@ module _ {N W : Type 0} (K : Naming N W) (E : Ground N) (a : ℕ) where
   no_object (Resolver p) node caught stamps n e = cc
   no_object (Audition b v) node caught stamps n e = elim n [ ]
 
-  old_thing : (ts : List (Thing N)) (x y : Thing N) (i : ℕ) → (x ≡ y → ⊥) → (slice_get ts i ≡ Some y) ⊎ ((i ≡ length ts) × (x ≡ y)) → slice_get ts i ≡ Some y
+  pub old_thing : (ts : List (Thing N)) (x y : Thing N) (i : ℕ) → (x ≡ y → ⊥) → (slice_get ts i ≡ Some y) ⊎ ((i ≡ length ts) × (x ≡ y)) → slice_get ts i ≡ Some y
   old_thing ts x y i n (inl e) = e
   old_thing ts x y i n (inr e) = absurd (n e.1)
 
+  -- a resolver was there, or is the one that is made
+  new_resolver : (s : Vat N) (x : Thing N) (e : Happened N) → ((p : N) → x ≡ Resolver p → IsResolver K E.start (s.happened ++ e ∷ []) (length s.things) p) → (i : ℕ) (p : N) → (slice_get s.things i ≡ Some (Resolver p)) ⊎ ((i ≡ length s.things) × (x ≡ Resolver p))
+      → (slice_get s.things i ≡ Some (Resolver p)) ⊎ IsResolver K E.start (s.happened ++ e ∷ []) i p
+  new_resolver s x e f i p (inl q) = inl q
+  new_resolver s x e f i p (inr q) = inr (subst (λ k. IsResolver K E.start (s.happened ++ e ∷ []) k p) (sym q.0) (f p q.1))
+
   -- a thing is made, and its line told
-  pub thing_block : {B : Type 0} {C : Fact N} (x : Thing N) → IsInert x → (e : ℕ → Happened N) → ((n : ℕ) → thing_made K (e n) ≡ Some n) → ((n : ℕ) → slot_made (e n) ≡ None) → ((n : ℕ) → list_made (e n) ≡ None) → ((so : List (Happened N)) (n : ℕ) → ReadTold E.slots so (e n)) → (D : ℕ → Fact N) → {f : ℕ → Act N B} {H : B → Fact N}
+  pub thing_block : {B : Type 0} {C : Fact N} (x : Thing N) → IsInert x → (e : ℕ → Happened N) → ((n : ℕ) → thing_made K (e n) ≡ Some n) → ((n : ℕ) → slot_made (e n) ≡ None) → ((n : ℕ) → list_made (e n) ≡ None) → ((so : List (Happened N)) (n : ℕ) → ReadTold E.slots so (e n)) → ((so : List (Happened N)) (n : ℕ) → IsCaused K E.start so (e n)) → ((so : List (Happened N)) (n : ℕ) (p : N) → x ≡ Resolver p → IsResolver K E.start (so ++ e n ∷ []) n p) → (D : ℕ → Fact N) → {f : ℕ → Act N B} {H : B → Fact N}
       → ((s : Vat N) (n : ℕ) → open_after (opens s) (e n) ≡ opens s) → ((s : Vat N) (n : ℕ) → LineWell K (held K E s) s.happened (e n)) → ((s : Vat N) (n : ℕ) → Holds (with_line s (e n)) (D n))
       → ((n : ℕ) → Fine (Also C (D n)) (f n) H) → Fine C (new_thing x >>= (λ n. tell (e n) >> f n)) H
   unfolding new_thing ◌>>=◌ tell ◌>>◌ and_then
-  thing_block {C = C} x inert e some none new rd D {f = f} {H = H} o l d h = record {
+  thing_block {C = C} x inert e some none new rd cz rt D {f = f} {H = H} o l d h = record {
     after = λ s g c. let n = length s.things in let u : Vat N = record s { things = s.things ++ x ∷ [] } in let t : Vat N = with_line u (e n) in
         let r : Grows K E s t = grows_trans K E s u t (grows_thing s x) (grows_line K E u (e n)) in
         let p : Passes s t = (r, opens_last u (e n) ∙ o u n) in
-        let good : Good K E t = good_block K E s t (e n) refl ((traces_tell K E.before (e n)).after u g.told) (grown_thing s x) (l u n) (rd s.happened n)
+        let good : Good K E t = good_block K E s t (e n) refl (refl, refl, refl, refl, refl) (cz s.happened n) (grown_thing s x) (l u n) (rd s.happened n)
         (λ i view q. inl (old_thing s.things x (Audition true view) i (no_audition x view inert) (get_or_last s.things x (Audition true view) i q)))
+        (λ i p q. new_resolver s x (e n) (rt s.happened n) i p (get_or_last s.things x (Resolver p) i q))
         (λ i node caught stamps q. inl (old_thing s.things x (Made node caught stamps) i (no_object x node caught stamps inert) (get_or_last s.things x (Made node caught stamps) i q)))
         (λ i y q. inl q)
         (λ q. subst (λ m. Rises (length E.things) (map (thing_made K) (s.happened ++ e n ∷ [])) m) (sym (length_end s.things x)) (rises_new (thing_made K) (length E.things) n s.happened (e n) (some n) q))
@@ -568,12 +626,23 @@ module _ {N W : Type 0} (K : Naming N W) (E : Ground N) (a : ℕ) where
         widen H s t (f n t) p ((h n).after t good (still_holds s t p C c, d u n));
   }
 
+  dead_resolvers : (ts : List (Thing N)) (k i : ℕ) (p : N) → slice_get (change dead k ts) i ≡ Some (Resolver p) → slice_get ts i ≡ Some (Resolver p)
+  unfolding change dead
+  dead_resolvers [] k i p e = e
+  dead_resolvers (Made m c ys ∷ ts) zero zero p e = cc
+  dead_resolvers (Ejector b ∷ ts) zero zero p e = cc
+  dead_resolvers (Audition b v ∷ ts) zero zero p e = cc
+  dead_resolvers (Resolver q ∷ ts) zero zero p e = cc
+  dead_resolvers (t ∷ ts) zero (suc i) p e = e
+  dead_resolvers (t ∷ ts) (suc k) zero p e = e
+  dead_resolvers (t ∷ ts) (suc k) (suc i) p e = dead_resolvers ts k i p e
+
   grown_dead : (s : Vat N) (n : ℕ) → laws.Grown (held K E s) (held K E (record s { things = change dead n s.things }))
   grown_dead s n = record { objects = λ i node caught stamps e. dead_objects s.things n i node caught stamps e; lists = λ k vs e. e; guards = λ k c e. (c, e, refl); before = refl; given = refl }
 
   pub fine_kill : {C : Fact N} (n : ℕ) → Fine C (kill n) nothing
   unfolding kill
-  fine_kill n = record { after = λ s h c. let t : Vat N = record s { things = change dead n s.things } in ((grows_by K E s t refl (grown_dead s n), refl), good_by K E s t refl refl (grown_dead s n) (record { auditions = λ i view e. dead_auditions s.things n i view e; objects = λ i node caught stamps e. were_objects s.things n i node caught stamps e; cells = λ k c e. e; things = dead_length s.things n; slots = refl }) refl h, tt) }
+  fine_kill n = record { after = λ s h c. let t : Vat N = record s { things = change dead n s.things } in ((grows_by K E s t refl (grown_dead s n), refl), good_by K E s t refl (refl, refl, refl, refl, refl) (grown_dead s n) (record { auditions = λ i view e. dead_auditions s.things n i view e; resolvers = λ i p e. dead_resolvers s.things n i p e; objects = λ i node caught stamps e. were_objects s.things n i node caught stamps e; cells = λ k c e. e; things = dead_length s.things n; slots = refl }) refl h, tt) }
 
   grown_slot : (s : Vat N) (c : Cell N) → laws.Grown (held K E s) (held K E (record s { slots = s.slots ++ c ∷ [] }))
   grown_slot s x = record { objects = λ i node caught stamps e. e; lists = λ k vs e. e; guards = λ k c e. (c, get_append s.slots (x ∷ []) k c e, refl); before = refl; given = refl }
@@ -594,8 +663,8 @@ module _ {N W : Type 0} (K : Naming N W) (E : Ground N) (a : ℕ) where
         let w : Grows K E s u = grows_by K E s u refl (grown_slot s x) in
         let r : Grows K E s t = grows_trans K E s u t w (grows_line K E u e) in
         let p : Passes s t = (r, opens_last u e) in
-        let good : Good K E t = good_block K E s t e refl ((traces_tell K E.before e).after u q.told) (grown_slot s x) ((inl (has_up K E s u w a (AValue v) (j.at s c)), tt), (x, get_end s.slots x, has_up K E s u w a (AValue g) (i.at s c)))
-        tt (λ n view f. inl f) (λ n node caught stamps f. inl f) (λ n y f. slot_told s v g n y (get_or_last s.slots x y n f))
+        let good : Good K E t = good_block K E s t e refl (refl, refl, refl, refl, refl) tt (grown_slot s x) ((inl (has_up K E s u w a (AValue v) (j.at s c)), tt), (x, get_end s.slots x, has_up K E s u w a (AValue g) (i.at s c)))
+        tt (λ n view f. inl f) (λ n p f. inl f) (λ n node caught stamps f. inl f) (λ n y f. slot_told s v g n y (get_or_last s.slots x y n f))
         (rises_line (thing_made K) (length E.things) (length s.things) s.happened e refl)
         (λ y. subst (λ m. Rises (length E.slots) (map slot_made (s.happened ++ e ∷ [])) m) (sym (length_end s.slots x)) (rises_new slot_made (length E.slots) k s.happened e refl y)) (rises_line list_made E.lists (length s.lists) s.happened e refl) q in
         widen H s t (m k t) p ((h k).after t good (still_holds s t p C c, is_told u e (ASlot k) (inl refl)));
@@ -619,8 +688,8 @@ module _ {N W : Type 0} (K : Naming N W) (E : Ground N) (a : ℕ) where
         let w : Grows K E s u = grows_by K E s u refl (grown_write s n v) in
         let r : Grows K E s t = grows_trans K E s u t w (grows_line K E u e) in
         let p : Passes s t = (r, opens_last u e) in
-        let good : Good K E t = good_block K E s t e refl ((traces_tell K E.before e).after u q.told) (grown_write s n v) ((inl (has_up K E s u w a (ASlot n) (i.at s c)), (inl (has_up K E s u w a (AValue v) (j.at s c)), tt)), tt)
-        tt (λ l view f. inl f) (λ l node caught stamps f. inl f) (λ l y f. write_told s n v l y (written_cells s.slots n l v y f))
+        let good : Good K E t = good_block K E s t e refl (refl, refl, refl, refl, refl) tt (grown_write s n v) ((inl (has_up K E s u w a (ASlot n) (i.at s c)), (inl (has_up K E s u w a (AValue v) (j.at s c)), tt)), tt)
+        tt (λ l view f. inl f) (λ l p f. inl f) (λ l node caught stamps f. inl f) (λ l y f. write_told s n v l y (written_cells s.slots n l v y f))
         (rises_line (thing_made K) (length E.things) (length s.things) s.happened e refl)
         (λ y. subst (λ m. Rises (length E.slots) (map slot_made (s.happened ++ e ∷ [])) m) (sym (written_length s.slots n v)) (rises_line slot_made (length E.slots) (length s.slots) s.happened e refl y)) (rises_line list_made E.lists (length s.lists) s.happened e refl) q in
         widen H s t (m t) p (h.after t good (still_holds s t p C c));
@@ -640,8 +709,8 @@ module _ {N W : Type 0} (K : Naming N W) (E : Ground N) (a : ℕ) where
         let w : Grows K E s u = grows_by K E s u refl (grown_list s vs) in
         let r : Grows K E s t = grows_trans K E s u t w (grows_line K E u e) in
         let p : Passes s t = (r, opens_last u e) in
-        let good : Good K E t = good_block K E s t e refl ((traces_tell K E.before e).after u q.told) (grown_list s vs) (uses_values u [] vs (holds_up s u w (AreValues vs) tt (i.at s c)), tt)
-        tt (λ n view f. inl f) (λ n node caught stamps f. inl f) (λ n y f. inl f)
+        let good : Good K E t = good_block K E s t e refl (refl, refl, refl, refl, refl) tt (grown_list s vs) (uses_values u [] vs (holds_up s u w (AreValues vs) tt (i.at s c)), tt)
+        tt (λ n view f. inl f) (λ n p f. inl f) (λ n node caught stamps f. inl f) (λ n y f. inl f)
         (rises_line (thing_made K) (length E.things) (length s.things) s.happened e refl)
         (rises_line slot_made (length E.slots) (length s.slots) s.happened e refl)
         (λ y. subst (λ n. Rises E.lists (map list_made (s.happened ++ e ∷ [])) n) (sym (length_end s.lists vs)) (rises_new list_made E.lists k s.happened e refl y)) q in
@@ -652,12 +721,16 @@ module _ {N W : Type 0} (K : Naming N W) (E : Ground N) (a : ℕ) where
   pub bind_list : {B : Type 0} {C : Fact N} (act : ℕ) (vs : List (Value N)) {m : ℕ → Act N B} {H : B → Fact N} → Gets C (IsAct act) → Gets C (AreValues vs) → ((k : ℕ) → Fine (Also C (IsValue (Items k))) (m k) H) → Fine C (new_list vs >>= (λ k. tell (ListMade act k vs) >> m k)) H
   bind_list act vs {m = m} k i h = act_is act (λ b. new_list vs >>= (λ n. tell (ListMade b n vs) >> m n)) k (list_now vs i h)
 
-  idle_ends : {A : Type 0} (s : Vat N) (d : Done N A) → Good K E s → IdleEnds s d → TracesEnds K E.before d → Ends nothing s d
-  idle_ends s (Gives x t) h i r = ((idles_grows K E s t i, idles_opens s t i), idles_good K E s t i r h, tt)
-  idle_ends s (Throws p t) h i r = ((idles_grows K E s t i, idles_opens s t i), idles_good K E s t i r h)
-  idle_ends s (Stops c t) h i r = idles_good K E s t i r h
+  pub idle_ends : {A : Type 0} (s : Vat N) (d : Done N A) → Good K E s → IdleEnds s d → CausesEnds K E.start s (Any K E.start) d → Ends nothing s d
+  idle_ends s (Gives x t) h i r = ((idles_grows K E s t i, idles_opens s t i), idles_good K E s t i r.1 h, tt)
+  idle_ends s (Throws p t) h i r = ((idles_grows K E s t i, idles_opens s t i), idles_good K E s t i r.1 h)
+  idle_ends s (Stops c t) h i r = idles_good K E s t i r.1 h
   idle_ends s (Ejects n v t) h i r = absurd i
 
-  -- what is idle, and by which each standing stays told
-  pub fine_idle : {A : Type 0} {C : Fact N} {m : Act N A} → Idle m → Traces K E.before m → Fine C m nothing
-  fine_idle {m = m} i r = record { after = λ s h c. idle_ends s (m s) h (i.after s) (r.after s h.told) }
+  -- what is idle, and in which each settling has its cause
+  pub fine_idle : {A : Type 0} {C : Fact N} {m : Act N A} → Idle m → ((s : Vat N) → Causes K E.start s → Holds s C → CausesEnds K E.start s (Any K E.start) (m s)) → Fine C m nothing
+  fine_idle {m = m} i r = record { after = λ s h c. idle_ends s (m s) h (i.after s) (r s h.causes c) }
+
+  -- that by itself
+  pub fine_steady : {A : Type 0} {C : Fact N} {m : Act N A} → Idle m → Steady K E.start m → Fine C m nothing
+  fine_steady {m = m} i r = fine_idle i (λ s h c. r.after s h)

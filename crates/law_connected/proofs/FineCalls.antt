@@ -1,9 +1,9 @@
 -- Evaluation, from a connected history, ends in a connected history: calls.
 use Rattle.std.proofs.Common.{◌≡◌, ℕ, zero, suc, Bool, true, false, List, [], ◌∷◌, ◌++◌, Option, Some, None, refl, sym, ap, ◌∙◌, subst, length, map, ◌⊎◌, inl, inr}
-use Rattle.std.specs.Prelude.{slice_get}
+use Rattle.std.specs.Prelude.{slice_get, codes}
 use Rattle.def_machine.specs.Values.{Words, Value, Null, Flag, Number, Letter, Text, Prim, Broken, Items, Ref, Naming, Spot, Own, Foreign, NoObject}
 use Rattle.def_machine.specs.State.{Bound, Fixed, Slot, Scope, Binding, Cell, View, Thing, Made, Ejector, Audition, Resolver, Standing, Unsettled, Happened, Called, AuditionMade, Vat, Done, Gives, Throws, Ejects, Stops, Act, ◌>>=◌, ◌>>◌, and_then, ending, give, throw, eject, look, tell, new_thing, new_activation}
-use Rattle.def_machine.specs.Refs.{Place, Near, follow}
+use Rattle.def_machine.specs.Refs.{Place, Near, follow, settle, resolve}
 use Rattle.def_machine.specs.Form.{Item as Piece, Begin, End, Word, Fact as Fixing, literal_value}
 use Rattle.def_machine.specs.Native.{Reply, Says, Writes, Lists as Listed, Iterates, Fails, Guard, Asked, MakesList, Ranges, Same as SameEver, Compares, Loops, SendsTo, CallsTo, MakesPromise, Breaks, Tells, Whens, ThrowsIt, IsStamped, Coerces, AddsNull, NoMethod}
 use Rattle.def_machine.specs.Scopes as scopes
@@ -11,27 +11,28 @@ use Rattle.def_machine.specs.Perform as perform
 use Rattle.def_machine.specs.Calls as calls
 use Rattle.def_machine.specs.Scopes.{Answer, Evaluator, Caller, Body, Case, AuditionAsk, GetsForm, GetsGuard, Asks, NoAuditionAsk, ResolverAsk, Resolves, Smashes, NoResolverAsk}
 use Rattle.def_kernel.specs.declared.node.Node.{Node}
-use Rattle.law_connected.specs.Known.{AValue, IsAmong, AllOf, tells, by, values, Runs, called, told, endowed}
+use Rattle.law_connected.specs.Known.{AValue, itself as at_itself, IsAmong, AllOf, tells, by, values, Runs, called, told, endowed}
 use Rattle.law_connected.specs.Connected.{served, unless_begun, open_after, uses, evaluates, asks}
-use Rattle.law_connected.proofs.Traces.{among_last, traces_tell}
+use Rattle.law_connected.specs.Settlings.{resolved, smashed}
+use Rattle.law_connected.proofs.Traces.{among_last}
 use Rattle.law_connected.specs.Activations.{Rises}
 use Rattle.law_connected.specs.News.{own_number, thing_made, slot_made, list_made}
 use Rattle.law_connected.proofs.Rising.{rises_line, rises_new, length_end}
 use Rattle.law_connected.proofs.Ground.{Ground, opens, with_line, opens_last, held, Knew, Judged, Grows, Good, has_up, thing_up, judges_up, view_up, judged_up, grows_line, grows_trans, grows_by, grows_same, makes_none, good_block, good_line, good_by}
-use Rattle.law_connected.proofs.Fine.{Fact, Also, IsAct, IsValue, AreValues, AreLists, IsSlot, IsScope, MayBound, MayCell, WasPut, Leads, IsReply, IsAsked, IsAuditionAsk, MadeEjector, WasHanded, MayHand, WasCalled, IsAt, IsJudging, IsJudged, MayGive, MayThing, answer, nothing, NounKnown, Judging, Holds, Gets, Passes, Ends, Fine, get_or_last, grows_thing, holds_up, still_holds, passes_same, widen, fine_bind, fine_less, fine_ending, fine_more, fine_left, fine_give, fine_throw, fine_eject, fine_stop, fine_look, act_is, is_told}
-use Rattle.law_connected.proofs.Looks.{look_cell, got, got_left, got_itself, got_flag, got_text, got_no_lists, got_lists, got_literal, got_asked, got_audition_ask, got_hand, got_may_give, got_item, got_judged, look_thing, look_leads, GuardReply, guard_asked_known}
-use Rattle.law_connected.proofs.Rules.{fine, bind_flag, bind_resolver, fine_promise, fine_send, fine_react, if_same, then_got, called_well, CallEnds, ended_ends, fine_with_lines, nouns_from, fine_send_only}
+use Rattle.law_connected.proofs.Fine.{Fact, Also, IsAct, IsValue, AreValues, AreLists, IsSlot, IsScope, MayBound, MayCell, WasPut, Leads, IsReply, IsAsked, IsAuditionAsk, MadeEjector, WasHanded, MayHand, WasCalled, IsAt, IsJudging, IsJudged, MayGive, MayThing, answer, nothing, NounKnown, Judging, Holds, Gets, Passes, Ends, Fine, get_or_last, old_thing, ResolverOf, HandedTo, MayAsk, GivenTo, MaySettle, grows_thing, holds_up, still_holds, passes_same, widen, fine_bind, fine_less, fine_ending, fine_more, fine_left, fine_give, fine_throw, fine_eject, fine_stop, fine_look, act_is, is_told}
+use Rattle.law_connected.proofs.Looks.{look_cell, got, got_left, got_itself, got_flag, got_text, got_no_lists, got_lists, got_literal, got_asked, got_audition_ask, got_hand, got_may_ask, look_lead, got_may_give, got_item, got_judged, look_thing, look_leads, GuardReply, guard_asked_known}
+use Rattle.law_connected.proofs.Rules.{fine, bind_flag, bind_resolver, fine_promise, fine_send, fine_react, if_same, then_got, called_well, CallEnds, ended_ends, fine_with_lines, nouns_from, fine_send_only, bind_standing, fine_settle, fine_resolve}
 
 -- a call by the activation, whatever is called
-abbrev pub GoodCaller : {N W : Type 0} (K : Naming N W) → Ground N → ℕ → Caller N → Type 0
+abbrev pub GoodCaller : {N W : Type 0} (K : Naming N W) → Ground N W → ℕ → Caller N → Type 0
 GoodCaller {N} K E a again = (C : Fact N) (act : ℕ) → Gets K E a C (IsAct act) → (x : Value N) → Gets K E a C (IsValue x) → (verb : Words) (args : List (Value N)) → Gets K E a C (AreValues args) → Fine K E a C (again act x verb args) IsValue
 
 -- so do the nodes below, whichever activation evaluates them
-pub record GoodEvaluator {N W : Type 0} (K : Naming N W) (E : Ground N) (rec : Evaluator N) : Type 0 where
+pub record GoodEvaluator {N W : Type 0} (K : Naming N W) (E : Ground N W) (rec : Evaluator N) : Type 0 where
   pub expression : (a : ℕ) (C : Fact N) (id : ℕ) (here : Scope N) → Gets K E a C (IsScope here) → Fine K E a C (rec.expression id here) answer
   pub pattern : (a : ℕ) (C : Fact N) (id : ℕ) (v : Value N) → Gets K E a C (IsValue v) → (j : Value N) → Gets K E a C (IsValue j) → (here : Scope N) → Gets K E a C (IsScope here) → Fine K E a C (rec.pattern id v j here) IsScope
 
-module _ {N W : Type 0} (K : Naming N W) (E : Ground N) (spots : (i : ℕ) → K.spot (K.object i) ≡ Own i) (tree : List Node) where
+module _ {N W : Type 0} (K : Naming N W) (E : Ground N W) (spots : (i : ℕ) → K.spot (K.object i) ≡ Own i) (tree : List Node) where
   pub fine_answered : {a : ℕ} {C : Fact N} → (here : Scope N) → Gets K E a C (IsScope here) → (v : Value N) → Gets K E a C (IsValue v) → Fine K E a C (scopes.answered here v) answer
   unfolding scopes.answered
   fine_answered {a = a} {C = C} here g_here v g_v = search (fine) depth 30
@@ -141,14 +142,15 @@ module _ {N W : Type 0} (K : Naming N W) (E : Ground N) (spots : (i : ℕ) → K
   fine_make_promise {a = a} {C = C} act g_act = fine_less K E a nothing (fine_promise K E a) (λ p. bind_resolver K E a spots act p g_act (λ r. let D : Fact N = Also (IsValue (Ref p)) (IsValue (Ref (K.object r))) in
       fine_make_list {C = Also C D} act (got_left K E a C D (IsAct act) g_act) (Ref p ∷ Ref (K.object r) ∷ []) (record { at = λ s h. (h.1.0, (h.1.1, tt)) })))
 
-  pub fine_react_near : {a : ℕ} {C : Fact N} → (act : ℕ) → Gets K E a C (IsAct act) → (x : Value N) → Gets K E a C (IsValue x) → (o : Value N) → Gets K E a C (IsValue o) → (y : Value N) → (p : Place N) → Fine K E a C (perform.react_near K tree act x o y p) IsValue
+  pub fine_react_near : {a : ℕ} {C : Fact N} → (act : ℕ) → Gets K E a C (IsAct act) → (x : Value N) → Gets K E a C (IsValue x) → (o : Value N) → Gets K E a C (IsValue o) → (y : Value N) → Gets K E a C (Leads o y) → (p : Place N) → Fine K E a C (perform.react_near K tree act x o y p) IsValue
   unfolding perform.react_near
-  fine_react_near {a = a} {C = C} act g_act x g_x o g_o y Near = search (fine, fine_react) depth 30
-  fine_react_near {a = a} {C = C} act g_act x g_x o g_o y _ = search (fine) depth 30
+  fine_react_near {a = a} {C = C} act g_act x g_x o g_o y g_y Near = search (fine, fine_react) depth 30
+  fine_react_near {a = a} {C = C} act g_act x g_x o g_o y g_y _ = search (fine) depth 30
 
   pub fine_when_resolved : {a : ℕ} {C : Fact N} → (act : ℕ) → Gets K E a C (IsAct act) → (x : Value N) → Gets K E a C (IsValue x) → (o : Value N) → Gets K E a C (IsValue o) → Fine K E a C (perform.when_resolved K tree act x o) IsValue
   unfolding perform.when_resolved
-  fine_when_resolved {a = a} {C = C} act g_act x g_x o g_o = search (fine, fine_react_near) depth 30
+  fine_when_resolved {a = a} {C = C} act g_act x g_x o g_o = fine_bind K E a (Leads o) (look_lead K E a o) (λ y. fine_less K E a nothing (fine_look K E a _) (λ p.
+      fine_react_near act (got_left K E a C (Leads o y) (IsAct act) g_act) x (got_left K E a C (Leads o y) (IsValue x) g_x) o (got_left K E a C (Leads o y) (IsValue o) g_o) y (got K E a C (Leads o y)) p))
 
   pub fine_after_turn : {a : ℕ} {C : Fact N} → (more : Act N (Value N)) → Fine K E a C more IsValue → (v : Value N) → Fine K E a C (perform.after_turn K tree more v) IsValue
   unfolding perform.after_turn
@@ -200,6 +202,9 @@ module _ {N W : Type 0} (K : Naming N W) (E : Ground N) (spots : (i : ℕ) → K
   no_object : (view : View N) (node : ℕ) (caught : List (Binding N)) (stamps : List (Value N)) → Audition true view ≡ Made node caught stamps → ⊥
   no_object view node caught stamps e = cc
 
+  no_resolver : (view : View N) (p : N) → Audition true view ≡ Resolver p → ⊥
+  no_resolver view p e = cc
+
   old_object : (view : View N) (ts : List (Thing N)) (i node : ℕ) (caught : List (Binding N)) (stamps : List (Value N)) → (slice_get ts i ≡ Some (Made node caught stamps)) ⊎ ((i ≡ length ts) × (Audition true view ≡ Made node caught stamps)) → slice_get ts i ≡ Some (Made node caught stamps)
   old_object view ts i node caught stamps (inl e) = e
   old_object view ts i node caught stamps (inr e) = absurd (no_object view node caught stamps e.1)
@@ -219,8 +224,9 @@ module _ {N W : Type 0} (K : Naming N W) (E : Ground N) (spots : (i : ℕ) → K
     after = λ s g c. let n = length s.things in let e : Happened N = AuditionMade a (K.object n) in let u : Vat N = record s { things = s.things ++ Audition true view ∷ [] } in let t : Vat N = with_line u e in
         let r : Grows K E s t = grows_trans K E s u t (grows_thing K E a s (Audition true view)) (grows_line K E u e) in
         let p : Passes K E a s t = (r, opens_last u e) in
-        let good : Good K E t = good_block K E s t e refl ((traces_tell K E.before e).after u g.told) r.grown (tt, tt) tt
+        let good : Good K E t = good_block K E s t e refl (refl, refl, refl, refl, refl) tt r.grown (tt, tt) tt
         (λ k w q. inr (new_judged a s view g r (judges_new a s view (i.at s c) r) k w (get_or_last s.things (Audition true view) (Audition true w) k q)))
+        (λ k p q. inl (old_thing K E a s.things (Audition true view) (Resolver p) k (no_resolver view p) (get_or_last s.things (Audition true view) (Resolver p) k q)))
         (λ k node caught stamps q. inl (old_object view s.things k node caught stamps (get_or_last s.things (Audition true view) (Made node caught stamps) k q)))
         (λ k x q. inl q)
         (λ q. subst (λ m. Rises (length E.things) (map (thing_made K) (s.happened ++ e ∷ [])) m) (sym (length_end s.things (Audition true view))) (rises_new (thing_made K) (length E.things) n s.happened e (ap own_number (spots n)) q))
@@ -324,16 +330,20 @@ module _ {N W : Type 0} (K : Naming N W) (E : Ground N) (spots : (i : ℕ) → K
   fine_where_unresolved {a = a} {C = C} Unsettled m g_m = search (fine) depth 30
   fine_where_unresolved {a = a} {C = C} _ m g_m = search (fine) depth 30
 
-  pub fine_smash : {a : ℕ} {C : Fact N} → (p : N) → (v : Value N) → Fine K E a C (calls.smash K tree p v) IsValue
+  -- the text of a problem, to which the argument leads
+  pub fine_smash : {a : ℕ} {C : Fact N} → (i : ℕ) (p : N) → Gets K E a C (ResolverOf i p) → (x : Value N) → Gets K E a C (HandedTo i (codes "smash") x) → (v : Value N) → Gets K E a C (Leads x v) → Fine K E a C (calls.smash K tree p v) IsValue
   unfolding calls.smash
-  fine_smash {a = a} {C = C} p (Text t) = search (fine, fine_where_unresolved) depth 30
-  fine_smash {a = a} {C = C} p _ = search (fine) depth 30
+  fine_smash {a = a} {C = C} i p r x h (Text t) l = let d : Gets K E a C (MaySettle p (Broken t)) = record { at = λ s c. inl (Broken t, smashed i x (r.at s c) (h.at s c) (l.at s c), inl (inl at_itself)) } in
+      bind_standing K E a (fine_look K E a _) (λ w. fine_where_unresolved w (settle K p (Broken t)) (fine_settle K E a p (Broken t) d))
+  fine_smash {a = a} {C = C} i p r x h _ l = search (fine) depth 30
 
-  pub fine_resolver_answer : {a : ℕ} {C : Fact N} → (p : N) → (q : ResolverAsk N) → Fine K E a C (calls.resolver_answer K tree p q) IsValue
+  pub fine_resolver_answer : {a : ℕ} {C : Fact N} → (i : ℕ) (p : N) → Gets K E a C (ResolverOf i p) → (q : ResolverAsk N) → Gets K E a C (MayAsk i q) → Fine K E a C (calls.resolver_answer K tree p q) IsValue
   unfolding calls.resolver_answer
-  fine_resolver_answer {a = a} {C = C} p (Resolves x) = search (fine, fine_where_unresolved) depth 30
-  fine_resolver_answer {a = a} {C = C} p (Smashes x) = fine_less K E a nothing (fine_look K E a _) (λ y. fine_smash p y)
-  fine_resolver_answer {a = a} {C = C} p NoResolverAsk = fine_throw K E a _
+  fine_resolver_answer {a = a} {C = C} i p r (Resolves x) h = let d : Gets K E a C (GivenTo p x) = record { at = λ s c. resolved i (r.at s c) (h.at s c) } in
+      bind_standing K E a (fine_look K E a _) (λ w. fine_where_unresolved w (resolve K p x) (fine_resolve K E a p x d))
+  fine_resolver_answer {a = a} {C = C} i p r (Smashes x) h = fine_bind K E a (Leads x) (look_lead K E a x)
+      (λ y. fine_smash i p (got_left K E a C (Leads x y) (ResolverOf i p) r) x (record { at = λ s c. h.at s c.0 }) y (got K E a C (Leads x y)))
+  fine_resolver_answer {a = a} {C = C} i p r NoResolverAsk h = fine_throw K E a _
 
   pub fine_bind_all : {a : ℕ} {C : Fact N} → (rec : Evaluator N) → GoodEvaluator K E rec → (ps : List ℕ) → (vs : List (Value N)) → Gets K E a C (AreValues vs) → (j : Value N) → Gets K E a C (IsValue j) → (here : Scope N) → Gets K E a C (IsScope here) → Fine K E a C (calls.bind_all K tree rec ps vs j here) IsScope
   unfolding calls.bind_all
@@ -375,7 +385,7 @@ module _ {N W : Type 0} (K : Naming N W) (E : Ground N) (spots : (i : ℕ) → K
   thing_called {a = a} {C = C} again good act k i (Ejector live) g x verb args h c p = ejector_called i live _ (got_hand K E a C i x verb args c p)
   thing_called {a = a} {C = C} again good act k i (Audition true view) g x verb args h c p = audition_called again good act k view _ (got_audition_ask K E a C verb args h) x verb args i c p (record { at = λ s b. g.at s b })
   thing_called {a = a} {C = C} again good act k i (Audition false view) g x verb args h c p = audition_dead again act view _
-  thing_called {a = a} {C = C} again good act k i (Resolver q) g x verb args h c p = given_of x (fine_resolver_answer q _)
+  thing_called {a = a} {C = C} again good act k i (Resolver q) g x verb args h c p = given_of x (fine_resolver_answer i q (record { at = λ s b. g.at s b }) _ (got_may_ask K E a C i x verb args c p))
   thing_called {a = a} {C = C} again good act k i (Made node caught stamps) g x verb args h c p = fine_stop K E a _
 
   lines_thing : {a : ℕ} {C : Fact N} (again : Caller N) → GoodCaller K E a again → (act : ℕ) → Gets K E a C (IsAct act) → (x : Value N) → Gets K E a C (IsValue x) → (i : ℕ) (t : Thing N) → Gets K E a C (MayThing i (Some t)) → (verb : Words) (args : List (Value N)) → Gets K E a C (AreValues args)
@@ -418,8 +428,8 @@ module _ {N W : Type 0} (K : Naming N W) (E : Ground N) (spots : (i : ℕ) → K
         let w : Grows K E s t = grows_trans K E s r t z (grows_line K E r e) in
         let o : opens t ≡ record { caller = a; receiver = x; begun = Some b } ∷ opens s = opens_last r e in
         let here : Scope N = record { act = b; nouns = caught } in
-        let good_r : Good K E r = good_by K E s r refl refl (grows_same K E s).grown (makes_none K E s r refl refl) refl q in
-        let good_t : Good K E t = good_line K E r e refl refl refl good_r (called_well K E a r x verb args (Some b) (has_up K E s r z a (AValue x) (v.at s c)) (holds_up K E a s r z (AreValues args) tt (h.at s c))) tt in
+        let good_r : Good K E r = good_by K E s r refl (refl, refl, refl, refl, refl) (grows_same K E s).grown (makes_none K E s r refl refl) refl q in
+        let good_t : Good K E t = good_line K E r e refl refl refl tt good_r (called_well K E a r x verb args (Some b) (has_up K E s r z a (AValue x) (v.at s c)) (holds_up K E a s r z (AreValues args) tt (h.at s c))) tt in
         let runs : Runs K (held K E t) t.happened b i = called a x verb args (among_last r.happened e) (thing_up K E s t w x i (p.at s c)) in
         let nouns : AllOf (NounKnown K E b t) caught = nouns_from K E b t caught (λ k m. endowed i node caught stamps runs (g.at s c) m) in
         let body : Act N (Value N) = calls.run_object K tree rec ms verb args here in
@@ -448,7 +458,7 @@ module _ {N W : Type 0} (K : Naming N W) (E : Ground N) (spots : (i : ℕ) → K
     where
       at_spot : (s : Vat N) → Holds K E a s (Leads x (Ref n)) → Holds K E a s (IsAt x i)
       at_spot s (inl r) = (n, r, e)
-      at_spot s (inr p) = absurd p
+      at_spot s (inr p) = let e = p.2 in cc
   fine_call_spot {a = a} rec good again fair act k x v n l (Foreign w) e verb args h = fine_throw K E a _
   fine_call_spot {a = a} rec good again fair act k x v n l NoObject e verb args h = fine_throw K E a _
 

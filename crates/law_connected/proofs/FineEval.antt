@@ -2,7 +2,7 @@
 use Rattle.std.proofs.Common.{◌≡◌, ℕ, zero, suc, Bool, true, false, List, [], ◌∷◌, ◌++◌, Option, Some, None, if◌then◌else◌, refl, sym, ap, ◌∙◌, subst, length, map, ◌⊎◌, inl, inr, ◌==◌}
 use Rattle.std.specs.Prelude.{slice_get}
 use Rattle.def_machine.specs.Values.{Words, Value, Flag, Items, Ref, Naming, Own as IsOwn}
-use Rattle.def_machine.specs.State.{Bound, Fixed, Slot, Scope, Binding, Cell, Thing, Made, Happened, Audition, View, ObjectMade, Vat, Act, ◌>>=◌, ◌>>◌, and_then, give, eject, look, tell, new_thing}
+use Rattle.def_machine.specs.State.{Bound, Fixed, Slot, Scope, Binding, Cell, Thing, Made, Resolver, Happened, Audition, View, ObjectMade, Vat, Act, ◌>>=◌, ◌>>◌, and_then, give, eject, look, tell, new_thing}
 use Rattle.def_machine.specs.Free.{same_words, BoundNoun}
 use Rattle.def_machine.specs.Scopes as scopes
 use Rattle.def_machine.specs.Calls as calls
@@ -12,18 +12,18 @@ use Rattle.def_kernel.specs.declared.node.Node.{Node}
 use Rattle.def_kernel.specs.declared.node.Node.TheVariants.{Lit, Noun, Set, Def, Call, Sequence, If, Escape, Try, Finally, Hide, MatchBind, Object, Final, Var, Any, ListPattern, Via}
 use Rattle.law_connected.specs.Known.{Item, AValue, ASlot, IsAmong, AllOf, Knows, plain, tells, by, values, parts_of, parts_of_all}
 use Rattle.law_connected.specs.Connected.{LineWell, served, open_after, uses, itself}
-use Rattle.law_connected.proofs.Traces.{among_last, traces_tell}
+use Rattle.law_connected.proofs.Traces.{among_last}
 use Rattle.law_connected.specs.Activations.{Rises}
 use Rattle.law_connected.specs.News.{own_number, thing_made, slot_made, list_made}
 use Rattle.law_connected.proofs.Rising.{rises_line, rises_new, length_end}
 use Rattle.law_connected.proofs.Idle.{joined}
 use Rattle.law_connected.proofs.Ground.{Ground, all_map, opens, with_line, opens_last, held, Has, Knew, Grows, Good, ObjectTold, has_up, grows_line, good_block}
-use Rattle.law_connected.proofs.Fine.{MayBe, Fact, Also, IsAct, IsValue, AreValues, IsSlot, IsBound, IsScope, MayBound, MayCell, MadeEjector, WasHanded, answer, answers, BoundKnown, NounKnown, Gets, Passes, Ends, Fine, holds_up, widen, grows_thing, get_or_last, uses_values, is_told, fine_bind, fine_give, fine_eject, fine_stop, fine_spend}
+use Rattle.law_connected.proofs.Fine.{MayBe, Fact, Also, IsAct, IsValue, AreValues, IsSlot, IsBound, IsScope, MayBound, MayCell, MadeEjector, WasHanded, answer, answers, BoundKnown, NounKnown, Gets, Passes, Ends, Fine, holds_up, widen, grows_thing, get_or_last, old_thing, uses_values, is_told, fine_bind, fine_give, fine_eject, fine_stop, fine_spend}
 use Rattle.law_connected.proofs.Looks.{look_cell, got, got_left, got_act, got_with, got_judging}
 use Rattle.law_connected.proofs.Rules.{fine, then_unit, if_same, then_got}
 use Rattle.law_connected.proofs.FineCalls.{GoodCaller, GoodEvaluator, fine_answered, fine_read_bound, fine_failed, fine_handed, fine_coerce, fine_leave, fine_ask_all, fine_bind_all, fine_call}
 
-module _ {N W : Type 0} (K : Naming N W) (E : Ground N) (spots : (i : ℕ) → K.spot (K.object i) ≡ IsOwn i) (tree : List Node) where
+module _ {N W : Type 0} (K : Naming N W) (E : Ground N W) (spots : (i : ℕ) → K.spot (K.object i) ≡ IsOwn i) (tree : List Node) where
   -- known, or the object that is made
   abbrev Own : ℕ → Vat N → N → Item N → Type 0
   Own a s me i = Has K E s a i ⊎ IsAmong i (AValue (Ref me) ∷ [])
@@ -118,6 +118,9 @@ module _ {N W : Type 0} (K : Naming N W) (E : Ground N) (spots : (i : ℕ) → K
   no_audition : (node : ℕ) (caught : List (Binding N)) (stamps : List (Value N)) (view : View N) → Made node caught stamps ≡ Audition true view → ⊥
   no_audition node caught stamps view e = cc
 
+  no_resolver : (node : ℕ) (caught : List (Binding N)) (stamps : List (Value N)) (p : N) → Made node caught stamps ≡ Resolver p → ⊥
+  no_resolver node caught stamps p e = cc
+
   old_audition : (ts : List (Thing N)) (i node : ℕ) (caught : List (Binding N)) (stamps : List (Value N)) (view : View N) → (slice_get ts i ≡ Some (Audition true view)) ⊎ ((i ≡ length ts) × (Made node caught stamps ≡ Audition true view)) → slice_get ts i ≡ Some (Audition true view)
   old_audition ts i node caught stamps view (inl e) = e
   old_audition ts i node caught stamps view (inr e) = absurd (no_audition node caught stamps view e.1)
@@ -137,8 +140,9 @@ module _ {N W : Type 0} (K : Naming N W) (E : Ground N) (spots : (i : ℕ) → K
       LineWell K (held K E u) u.happened l → Good K E (with_line u l)
   unfolding tell
   object_good a node x caught stamps s g w = let u : Vat N = record s { things = s.things ++ Made node caught stamps ∷ [] } in let l : Happened N = ObjectMade a (K.object (length s.things)) x (map (λ b. b.bound) caught) stamps in
-      good_block K E s (with_line u l) l refl ((traces_tell K E.before l).after u g.told) (grows_thing K E a s (Made node caught stamps)).grown w tt
+      good_block K E s (with_line u l) l refl (refl, refl, refl, refl, refl) tt (grows_thing K E a s (Made node caught stamps)).grown w tt
       (λ i view q. inl (old_audition s.things i node caught stamps view (get_or_last s.things (Made node caught stamps) (Audition true view) i q)))
+      (λ i p q. inl (old_thing K E a s.things (Made node caught stamps) (Resolver p) i (no_resolver node caught stamps p) (get_or_last s.things (Made node caught stamps) (Resolver p) i q)))
       (λ i m cs ys q. object_told a node x caught stamps s i m cs ys (get_or_last s.things (Made node caught stamps) (Made m cs ys) i q)) (λ i c q. inl q)
       (λ q. subst (λ n. Rises (length E.things) (map (thing_made K) (s.happened ++ l ∷ [])) n) (sym (length_end s.things (Made node caught stamps))) (rises_new (thing_made K) (length E.things) (length s.things) s.happened l (ap own_number (spots (length s.things))) q))
       (rises_line slot_made (length E.slots) (length s.slots) s.happened l refl) (rises_line list_made E.lists (length s.lists) s.happened l refl) g

@@ -2,12 +2,13 @@
 use Rattle.std.proofs.Common.{◌≡◌, ℕ, true, List, [], ◌∷◌, ◌++◌, Option, Some, None, refl, sym, ap, ◌∙◌, subst, length, map, ◌⊎◌, inl, inr}
 use Rattle.std.specs.Prelude.{slice_get}
 use Rattle.def_machine.specs.Values.{Words, Value, Ref, Naming}
-use Rattle.def_machine.specs.State.{Thing, Made, Binding, Cell, Freedom, IsSafe, IsItself, IsFinal, IsVar, View, Audition, Known, Happened, Took, Called, Back, Thrown, Left, Got, SlotMade, SlotRead, SlotWrote, ListMade, ListCame, EjectorMade, AuditionMade, PromiseMade, ObjectMade, Sends, Reacts, Finished, Threw, Settles, Waits, Views, Lost, Posted, Vat, tell}
-use Rattle.law_connected.specs.Known.{Item, AValue, IsAmong, AllOf, Holdings, Reaches, IsThing, Knows}
+use Rattle.def_machine.specs.State.{Thing, Made, Resolver, Binding, Cell, Freedom, IsSafe, IsItself, IsFinal, IsVar, View, Audition, Happened, Took, Called, Back, Thrown, Left, Got, SlotMade, SlotRead, SlotWrote, ListMade, ListCame, EjectorMade, AuditionMade, PromiseMade, ObjectMade, Sends, Reacts, Finished, Threw, Settles, Waits, Views, Lost, Posted, Vat}
+use Rattle.law_connected.specs.Known.{Item, AValue, IsAmong, AllOf, Start, Holdings, Reaches, IsThing, Knows}
 use Rattle.law_connected.specs.Connected.{Open, open_after, open_from, Judges, evaluates, asks, GivenBack, BackWell, ComesWell, LineWell, ConnectedAfter, Connected, uses, itself}
 use Rattle.law_connected.specs.ConnectedLaws as laws
 use Rattle.law_connected.proofs.Knowing.{among_more, reaches_more, thing_more, knows_more, knows_later}
-use Rattle.law_connected.proofs.Traces.{Told, traces_tell}
+use Rattle.law_connected.specs.Settlings.{IsResolver, IsCaused, Follows}
+use Rattle.law_connected.proofs.Causes.{Causes, CausedAfter, caused_rest, resolver_more, SameNames, causes_same, causes_block}
 use Rattle.law_connected.specs.Activations.{Rises}
 use Rattle.law_connected.specs.Told.{ReadTold, ReadsTold}
 use Rattle.law_connected.specs.News.{thing_made, slot_made, list_made}
@@ -16,14 +17,14 @@ use Rattle.law_connected.proofs.News.{rises_idle}
 use Rattle.law_connected.proofs.Idle.{joined, no_more, IsIdle, Idles}
 
 -- what the vat had before the step, and what the step is given
-pub record Ground (N : Type 0) : Type 0 where
+pub record Ground (N W : Type 0) : Type 0 where
   pub things : List (Thing N)
   pub slots : List (Cell N)
   -- the count of its lists
   pub lists : ℕ
-  -- what was known of names
-  pub before : List (Known N)
   pub given : List (ℕ × Item N)
+  -- the step, and the vat as it was
+  pub start : Start N W
 
 pub all_map : {A : Type 0} (P Q : A → Type 0) → ((x : A) → P x → Q x) → (xs : List A) → AllOf P xs → AllOf Q xs
 all_map P Q f [] h = tt
@@ -68,7 +69,7 @@ module _ {N : Type 0} (slots : List (Cell N)) where
   idles_read so [] k = tt
   idles_read so (e ∷ es) k = (idle_read so e k.0, idles_read (so ++ e ∷ []) es k.1)
 
-module _ {N W : Type 0} (K : Naming N W) (h later : Holdings N) (grown : laws.Grown h later) where
+module _ {N W : Type 0} (K : Naming N W) (h later : Holdings N W) (grown : laws.Grown h later) where
   thing_later : (so : List (Happened N)) (x : Value N) (i : ℕ) → IsThing K h.before so x i → IsThing K later.before so x i
   thing_later so x i t = subst (λ ks. IsThing K ks so x i) grown.before t
 
@@ -85,31 +86,31 @@ module _ {N W : Type 0} (K : Naming N W) (h later : Holdings N) (grown : laws.Gr
   back_later so a v [] k = k
   back_later so a v (c ∷ cs) k = (k.0, given_later so c.caller c.receiver c.begun v k.1)
 
-  comes_later : (so : List (Happened N)) (e : Happened N) → ComesWell K h so e → ComesWell K later so e
-  comes_later so (Back a v) k = back_later so a v (open_from [] so) k
-  comes_later so (Got a v) k = (k.0, k.1, k.2, k.3, k.4, k.5, k.6, thing_later so k.2 k.1 k.7, k.8, k.9, k.10)
-  comes_later so (SlotMade a n v) k = let d = grown.guards n k.0 k.1 in (d.0, d.1, subst (λ g. Knows K later so a (AValue g)) d.2 (knows_later K h later grown so a (AValue k.0.guard) k.2))
-  comes_later so (Took a m) k = tt
-  comes_later so (Called a x verb args b) k = tt
-  comes_later so (Thrown a p) k = tt
-  comes_later so (Left a) k = tt
-  comes_later so (SlotRead a n v) k = tt
-  comes_later so (SlotWrote a n v) k = tt
-  comes_later so (ListMade a n vs) k = tt
-  comes_later so (ListCame n vs) k = tt
-  comes_later so (EjectorMade a j) k = tt
-  comes_later so (AuditionMade a j) k = tt
-  comes_later so (PromiseMade a p r) k = tt
-  comes_later so (ObjectMade a me x bs ys) k = tt
-  comes_later so (Sends a m) k = tt
-  comes_later so (Reacts a x o m) k = tt
-  comes_later so (Finished a v) k = tt
-  comes_later so (Threw a p) k = tt
-  comes_later so (Settles p y) k = tt
-  comes_later so (Waits p q) k = tt
-  comes_later so (Views p q) k = tt
-  comes_later so (Lost m) k = tt
-  comes_later so (Posted w m) k = tt
+  comes_later : h.start ≡ later.start → (so : List (Happened N)) (e : Happened N) → ComesWell K h so e → ComesWell K later so e
+  comes_later same so (Back a v) k = back_later so a v (open_from [] so) k
+  comes_later same so (Got a v) k = (k.0, k.1, k.2, k.3, k.4, k.5, k.6, thing_later so k.2 k.1 k.7, k.8, k.9, k.10)
+  comes_later same so (SlotMade a n v) k = let d = grown.guards n k.0 k.1 in (d.0, d.1, subst (λ g. Knows K later so a (AValue g)) d.2 (knows_later K h later grown so a (AValue k.0.guard) k.2))
+  comes_later same so (Took a m) k = tt
+  comes_later same so (Called a x verb args b) k = tt
+  comes_later same so (Thrown a p) k = tt
+  comes_later same so (Left a) k = tt
+  comes_later same so (SlotRead a n v) k = tt
+  comes_later same so (SlotWrote a n v) k = tt
+  comes_later same so (ListMade a n vs) k = tt
+  comes_later same so (ListCame n vs) k = tt
+  comes_later same so (EjectorMade a j) k = tt
+  comes_later same so (AuditionMade a j) k = tt
+  comes_later same so (PromiseMade a p r) k = tt
+  comes_later same so (ObjectMade a me x bs ys) k = tt
+  comes_later same so (Sends a m) k = tt
+  comes_later same so (Reacts a x o m) k = subst (λ z. Follows K z so o m.target) same k
+  comes_later same so (Finished a v) k = tt
+  comes_later same so (Threw a p) k = tt
+  comes_later same so (Settles p y) k = subst (λ x. IsCaused K x so (Settles p y)) same k
+  comes_later same so (Waits p q) k = subst (λ x. IsCaused K x so (Waits p q)) same k
+  comes_later same so (Views p q) k = subst (λ x. IsCaused K x so (Views p q)) same k
+  comes_later same so (Lost m) k = tt
+  comes_later same so (Posted w m) k = tt
 
   uses_later : (so : List (Happened N)) (Q : List (Item N)) (us : List (ℕ × Item N)) → AllOf (λ u. Knows K h so u.0 u.1 ⊎ IsAmong u.1 Q) us → AllOf (λ u. Knows K later so u.0 u.1 ⊎ IsAmong u.1 Q) us
   uses_later so Q us k = all_map _ _ one us k
@@ -118,11 +119,11 @@ module _ {N W : Type 0} (K : Naming N W) (h later : Holdings N) (grown : laws.Gr
       one u (inl i) = inl (knows_later K h later grown so u.0 u.1 i)
       one u (inr i) = inr i
 
-  pub connected_later : (so es : List (Happened N)) → ConnectedAfter K h so es → ConnectedAfter K later so es
-  connected_later so [] k = tt
-  connected_later so (e ∷ es) k = ((uses_later so (itself e) (uses e) k.0.0, comes_later so e k.0.1), connected_later (so ++ e ∷ []) es k.1)
+  pub connected_later : h.start ≡ later.start → (so es : List (Happened N)) → ConnectedAfter K h so es → ConnectedAfter K later so es
+  connected_later same so [] k = tt
+  connected_later same so (e ∷ es) k = ((uses_later so (itself e) (uses e) k.0.0, comes_later same so e k.0.1), connected_later same (so ++ e ∷ []) es k.1)
 
-module _ {N W : Type 0} (K : Naming N W) (h : Holdings N) where
+module _ {N W : Type 0} (K : Naming N W) (h : Holdings N W) where
   pub connected_end : (so es : List (Happened N)) (e : Happened N) → ConnectedAfter K h so es → LineWell K h (so ++ es) e → ConnectedAfter K h so (es ++ e ∷ [])
   connected_end so [] e k l = (subst (λ xs. LineWell K h xs e) (sym (no_more so)) l, tt)
   connected_end so (x ∷ es) e k l = (k.0, connected_end (so ++ x ∷ []) es e k.1 (subst (λ xs. LineWell K h xs e) (sym (joined so (x ∷ []) es)) l))
@@ -132,36 +133,36 @@ module _ {N W : Type 0} (K : Naming N W) (h : Holdings N) where
   judges_more so more a i (asks b j x n front rest e f g t k) = asks b j x n front (rest ++ more) (ap (λ xs. xs ++ more) e ∙ joined front (AuditionMade b n ∷ rest) more) f g (thing_more K h.before so more x j t) (judges_more so more a j k)
 
   -- a line of no activation
-  idle_well : (so : List (Happened N)) (e : Happened N) → IsIdle e → LineWell K h so e
+  idle_well : (so : List (Happened N)) (e : Happened N) → IsIdle e → IsCaused K h.start so e → LineWell K h so e
   unfolding uses
-  idle_well so (Settles p y) k = (tt, tt)
-  idle_well so (Waits p q) k = (tt, tt)
-  idle_well so (Views p q) k = (tt, tt)
-  idle_well so (Lost m) k = (tt, tt)
-  idle_well so (Posted w m) k = (tt, tt)
-  idle_well so (ListCame n vs) k = (tt, tt)
-  idle_well so (Took _ _) k = elim k [ ]
-  idle_well so (Called _ _ _ _ _) k = elim k [ ]
-  idle_well so (Back _ _) k = elim k [ ]
-  idle_well so (Thrown _ _) k = elim k [ ]
-  idle_well so (Left _) k = elim k [ ]
-  idle_well so (Got _ _) k = elim k [ ]
-  idle_well so (SlotMade _ _ _) k = elim k [ ]
-  idle_well so (SlotRead _ _ _) k = elim k [ ]
-  idle_well so (SlotWrote _ _ _) k = elim k [ ]
-  idle_well so (ListMade _ _ _) k = elim k [ ]
-  idle_well so (EjectorMade _ _) k = elim k [ ]
-  idle_well so (AuditionMade _ _) k = elim k [ ]
-  idle_well so (PromiseMade _ _ _) k = elim k [ ]
-  idle_well so (ObjectMade _ _ _ _ _) k = elim k [ ]
-  idle_well so (Sends _ _) k = elim k [ ]
-  idle_well so (Reacts _ _ _ _) k = elim k [ ]
-  idle_well so (Finished _ _) k = elim k [ ]
-  idle_well so (Threw _ _) k = elim k [ ]
+  idle_well so (Settles p y) k c = (tt, c)
+  idle_well so (Waits p q) k c = (tt, c)
+  idle_well so (Views p q) k c = (tt, c)
+  idle_well so (Lost m) k c = (tt, tt)
+  idle_well so (Posted w m) k c = (tt, tt)
+  idle_well so (ListCame n vs) k c = (tt, tt)
+  idle_well so (Took _ _) k c = elim k [ ]
+  idle_well so (Called _ _ _ _ _) k c = elim k [ ]
+  idle_well so (Back _ _) k c = elim k [ ]
+  idle_well so (Thrown _ _) k c = elim k [ ]
+  idle_well so (Left _) k c = elim k [ ]
+  idle_well so (Got _ _) k c = elim k [ ]
+  idle_well so (SlotMade _ _ _) k c = elim k [ ]
+  idle_well so (SlotRead _ _ _) k c = elim k [ ]
+  idle_well so (SlotWrote _ _ _) k c = elim k [ ]
+  idle_well so (ListMade _ _ _) k c = elim k [ ]
+  idle_well so (EjectorMade _ _) k c = elim k [ ]
+  idle_well so (AuditionMade _ _) k c = elim k [ ]
+  idle_well so (PromiseMade _ _ _) k c = elim k [ ]
+  idle_well so (ObjectMade _ _ _ _ _) k c = elim k [ ]
+  idle_well so (Sends _ _) k c = elim k [ ]
+  idle_well so (Reacts _ _ _ _) k c = elim k [ ]
+  idle_well so (Finished _ _) k c = elim k [ ]
+  idle_well so (Threw _ _) k c = elim k [ ]
 
-  idles_connected : (so es : List (Happened N)) → AllOf IsIdle es → ConnectedAfter K h so es
-  idles_connected so [] k = tt
-  idles_connected so (e ∷ es) k = (idle_well so e k.0, idles_connected (so ++ e ∷ []) es k.1)
+  idles_connected : (so es : List (Happened N)) → AllOf IsIdle es → CausedAfter K h.start so es → ConnectedAfter K h so es
+  idles_connected so [] k c = tt
+  idles_connected so (e ∷ es) k c = (idle_well so e k.0 c.0, idles_connected (so ++ e ∷ []) es k.1 c.1)
 
   connected_join : (so es more : List (Happened N)) → ConnectedAfter K h so es → ConnectedAfter K h (so ++ es) more → ConnectedAfter K h so (es ++ more)
   connected_join so [] more k l = subst (λ xs. ConnectedAfter K h xs more) (sym (no_more so)) l
@@ -219,9 +220,9 @@ module _ {N : Type 0} where
   pub idles_opens : (s t : Vat N) → Idles s t → opens t ≡ opens s
   idles_opens s t i = ap (λ es. open_from [] es) i.lines ∙ idles_open [] s.happened i.more i.idle
 
-module _ {N W : Type 0} (K : Naming N W) (E : Ground N) where
-  abbrev pub held : Vat N → Holdings N
-  held s = record { things = s.things; lists = s.lists; slots = s.slots; before = E.before; given = E.given }
+module _ {N W : Type 0} (K : Naming N W) (E : Ground N W) where
+  abbrev pub held : Vat N → Holdings N W
+  held s = record { things = s.things; lists = s.lists; slots = s.slots; before = E.start.vat.known; given = E.given; start = E.start }
 
   -- an activation knows that now
   abbrev pub Has : Vat N → ℕ → Item N → Type 0
@@ -262,9 +263,10 @@ module _ {N W : Type 0} (K : Naming N W) (E : Ground N) where
 
   -- what holds so far
   pub record Good (s : Vat N) : Type 0 where
-    pub told : Told K E.before s
+    pub causes : Causes K E.start s
     pub lines : Connected K (held s) s.happened
     pub judged : (i : ℕ) (view : View N) → slice_get s.things i ≡ Some (Audition true view) → Judged s i view
+    pub resolvers : (i : ℕ) (p : N) → slice_get s.things i ≡ Some (Resolver p) → IsResolver K E.start s.happened i p
     pub made : (i node : ℕ) (caught : List (Binding N)) (stamps : List (Value N)) → slice_get s.things i ≡ Some (Made node caught stamps) → ObjectTold s i node caught stamps
     pub cells : (k : ℕ) (c : Cell N) → slice_get s.slots k ≡ Some c → CellTold s k c
     pub reads : ReadsTold E.slots [] s.happened
@@ -276,6 +278,7 @@ module _ {N W : Type 0} (K : Naming N W) (E : Ground N) where
   pub record MakesNone (s t : Vat N) : Type 0 where
     pub auditions : (i : ℕ) (view : View N) → slice_get t.things i ≡ Some (Audition true view) → slice_get s.things i ≡ Some (Audition true view)
     pub objects : (i node : ℕ) (caught : List (Binding N)) (stamps : List (Value N)) → slice_get t.things i ≡ Some (Made node caught stamps) → slice_get s.things i ≡ Some (Made node caught stamps)
+    pub resolvers : (i : ℕ) (p : N) → slice_get t.things i ≡ Some (Resolver p) → slice_get s.things i ≡ Some (Resolver p)
     pub cells : (k : ℕ) (c : Cell N) → slice_get t.slots k ≡ Some c → slice_get s.slots k ≡ Some c
     pub things : length t.things ≡ length s.things
     pub slots : length t.slots ≡ length s.slots
@@ -284,6 +287,7 @@ module _ {N W : Type 0} (K : Naming N W) (E : Ground N) where
   makes_none s t e f = record {
     auditions = λ i view g. sym (ap (λ ts. slice_get ts i) e) ∙ g;
     objects = λ i node caught stamps g. sym (ap (λ ts. slice_get ts i) e) ∙ g;
+    resolvers = λ i p g. sym (ap (λ ts. slice_get ts i) e) ∙ g;
     cells = λ k c g. sym (ap (λ cs. slice_get cs k) f) ∙ g;
     things = ap length e;
     slots = ap length f;
@@ -293,14 +297,17 @@ module _ {N W : Type 0} (K : Naming N W) (E : Ground N) where
     pub has_up : (a : ℕ) (i : Item N) → Has s a i → Has t a i
     has_up a i k = subst (λ so. Knows K (held t) so a i) (sym g.lines) (knows_more K (held t) s.happened g.more a i (knows_later K (held s) (held t) g.grown s.happened a i k))
 
-    pub reaches_up : (x y : Value N) → Reaches K E.before s.happened x y → Reaches K E.before t.happened x y
-    reaches_up x y k = subst (λ so. Reaches K E.before so x y) (sym g.lines) (reaches_more K E.before s.happened g.more x y k)
+    pub reaches_up : (x y : Value N) → Reaches K E.start.vat.known s.happened x y → Reaches K E.start.vat.known t.happened x y
+    reaches_up x y k = subst (λ so. Reaches K E.start.vat.known so x y) (sym g.lines) (reaches_more K E.start.vat.known s.happened g.more x y k)
 
-    pub thing_up : (x : Value N) (i : ℕ) → IsThing K E.before s.happened x i → IsThing K E.before t.happened x i
+    pub thing_up : (x : Value N) (i : ℕ) → IsThing K E.start.vat.known s.happened x i → IsThing K E.start.vat.known t.happened x i
     thing_up x i k = (k.0, reaches_up x (Ref k.0) k.1, k.2)
 
     pub among_up : (e : Happened N) → IsAmong e s.happened → IsAmong e t.happened
     among_up e k = subst (λ so. IsAmong e so) (sym g.lines) (among_more e s.happened g.more k)
+
+    pub resolver_up : (i : ℕ) (p : N) → IsResolver K E.start s.happened i p → IsResolver K E.start t.happened i p
+    resolver_up i p k = subst (λ so. IsResolver K E.start so i p) (sym g.lines) (resolver_more K E.start s.happened g.more i p k)
 
     pub judges_up : (a i : ℕ) → Judges K (held s) s.happened a i → Judges K (held t) t.happened a i
     judges_up a i k = subst (λ so. Judges K (held t) so a i) (sym g.lines) (judges_more K (held t) s.happened g.more a i (judges_later K (held s) (held t) g.grown s.happened a i k))
@@ -337,7 +344,7 @@ module _ {N W : Type 0} (K : Naming N W) (E : Ground N) where
     given_up a x None v (inl k) = inl (has_up a (AValue v) k)
     given_up a x None v (inr k) = inr (k.0, k.1, thing_up x k.1 k.2, judges_up k.0 k.1 k.3, has_up k.0 (AValue v) k.4)
 
-  same_grown : (h : Holdings N) → laws.Grown h h
+  same_grown : (h : Holdings N W) → laws.Grown h h
   same_grown h = record { objects = λ i node caught stamps e. e; lists = λ k vs e. e; guards = λ k c e. (c, e, refl); before = refl; given = refl }
 
   pub grows_same : (s : Vat N) → Grows s s
@@ -346,7 +353,7 @@ module _ {N W : Type 0} (K : Naming N W) (E : Ground N) where
   pub grows_line : (s : Vat N) (e : Happened N) → Grows s (with_line s e)
   grows_line s e = record { more = e ∷ []; lines = refl; grown = same_grown (held s) }
 
-  grown_trans : (f g h : Holdings N) → laws.Grown f g → laws.Grown g h → laws.Grown f h
+  grown_trans : (f g h : Holdings N W) → laws.Grown f g → laws.Grown g h → laws.Grown f h
   grown_trans f g h k l = record {
     objects = λ i node caught stamps e. l.objects i node caught stamps (k.objects i node caught stamps e);
     lists = λ i vs e. l.lists i vs (k.lists i vs e);
@@ -367,16 +374,18 @@ module _ {N W : Type 0} (K : Naming N W) (E : Ground N) where
   grows_by s t e g = record { more = []; lines = e ∙ no_more s.happened; grown = g }
 
   -- one more line, and what is made with it
-  pub good_block : (s t : Vat N) (e : Happened N) → t.happened ≡ s.happened ++ e ∷ [] → Told K E.before t → laws.Grown (held s) (held t) → LineWell K (held t) s.happened e → ReadTold E.slots s.happened e
+  pub good_block : (s t : Vat N) (e : Happened N) → t.happened ≡ s.happened ++ e ∷ [] → SameNames K E.start s t → IsCaused K E.start s.happened e → laws.Grown (held s) (held t) → LineWell K (held t) s.happened e → ReadTold E.slots s.happened e
       → ((i : ℕ) (view : View N) → slice_get t.things i ≡ Some (Audition true view) → (slice_get s.things i ≡ Some (Audition true view)) ⊎ Judged t i view)
+      → ((i : ℕ) (p : N) → slice_get t.things i ≡ Some (Resolver p) → (slice_get s.things i ≡ Some (Resolver p)) ⊎ IsResolver K E.start t.happened i p)
       → ((i node : ℕ) (caught : List (Binding N)) (stamps : List (Value N)) → slice_get t.things i ≡ Some (Made node caught stamps) → (slice_get s.things i ≡ Some (Made node caught stamps)) ⊎ ObjectTold t i node caught stamps)
       → ((k : ℕ) (c : Cell N) → slice_get t.slots k ≡ Some c → (slice_get s.slots k ≡ Some c) ⊎ CellTold t k c)
       → (Rises (length E.things) (map (thing_made K) s.happened) (length s.things) → Rises (length E.things) (map (thing_made K) (s.happened ++ e ∷ [])) (length t.things))
       → (Rises (length E.slots) (map slot_made s.happened) (length s.slots) → Rises (length E.slots) (map slot_made (s.happened ++ e ∷ [])) (length t.slots))
       → (Rises E.lists (map list_made s.happened) (length s.lists) → Rises E.lists (map list_made (s.happened ++ e ∷ [])) (length t.lists)) → Good s → Good t
-  good_block s t e f r g l rd au ob ce tr sr lr h = let grows : Grows s t = record { more = e ∷ []; lines = f; grown = g } in record {
-    told = r;
-    lines = subst (λ es. Connected K (held t) es) (sym f) (connected_end K (held t) [] s.happened e (connected_later K (held s) (held t) g [] s.happened h.lines) l);
+  good_block s t e f n r g l rd au re ob ce tr sr lr h = let grows : Grows s t = record { more = e ∷ []; lines = f; grown = g } in record {
+    causes = causes_block K E.start s t e f n r h.causes;
+    lines = subst (λ es. Connected K (held t) es) (sym f) (connected_end K (held t) [] s.happened e (connected_later K (held s) (held t) g refl [] s.happened h.lines) l);
+    resolvers = λ i p k. by_resolver grows i p (re i p k);
     judged = λ i view k. by_audition grows i view (au i view k);
     made = λ i node caught stamps k. by_object grows i node caught stamps (ob i node caught stamps k);
     cells = λ i c k. by_cell grows i c (ce i c k);
@@ -390,6 +399,10 @@ module _ {N W : Type 0} (K : Naming N W) (E : Ground N) where
       by_audition w i view (inl k) = judged_up s t w i view (h.judged i view k)
       by_audition w i view (inr k) = k
 
+      by_resolver : Grows s t → (i : ℕ) (p : N) → (slice_get s.things i ≡ Some (Resolver p)) ⊎ IsResolver K E.start t.happened i p → IsResolver K E.start t.happened i p
+      by_resolver w i p (inl k) = resolver_up s t w i p (h.resolvers i p k)
+      by_resolver w i p (inr k) = k
+
       by_object : Grows s t → (i node : ℕ) (caught : List (Binding N)) (stamps : List (Value N)) → (slice_get s.things i ≡ Some (Made node caught stamps)) ⊎ ObjectTold t i node caught stamps → ObjectTold t i node caught stamps
       by_object w i node caught stamps (inl k) = object_up s t w i node caught stamps (h.made i node caught stamps k)
       by_object w i node caught stamps (inr k) = k
@@ -399,16 +412,16 @@ module _ {N W : Type 0} (K : Naming N W) (E : Ground N) where
       by_cell w k c (inr n) = n
 
   -- a line that is connected
-  pub good_line : (s : Vat N) (e : Happened N) → thing_made K e ≡ None → slot_made e ≡ None → list_made e ≡ None → Good s → LineWell K (held s) s.happened e → ReadTold E.slots s.happened e → Good (with_line s e)
-  unfolding tell
-  good_line s e nil none new g l rd = good_block s (with_line s e) e refl ((traces_tell K E.before e).after s g.told) (same_grown (held s)) l rd (λ i view k. inl k) (λ i node caught stamps k. inl k) (λ i c k. inl k)
+  pub good_line : (s : Vat N) (e : Happened N) → thing_made K e ≡ None → slot_made e ≡ None → list_made e ≡ None → IsCaused K E.start s.happened e → Good s → LineWell K (held s) s.happened e → ReadTold E.slots s.happened e → Good (with_line s e)
+  good_line s e nil none new r g l rd = good_block s (with_line s e) e refl (refl, refl, refl, refl, refl) r (same_grown (held s)) l rd (λ i view k. inl k) (λ i p k. inl k) (λ i node caught stamps k. inl k) (λ i c k. inl k)
       (rises_line (thing_made K) (length E.things) (length s.things) s.happened e nil) (rises_line slot_made (length E.slots) (length s.slots) s.happened e none) (rises_line list_made E.lists (length s.lists) s.happened e new) g
 
   -- a change that tells nothing, and makes none of these
-  pub good_by : (s t : Vat N) → t.happened ≡ s.happened → t.known ≡ s.known → laws.Grown (held s) (held t) → MakesNone s t → length t.lists ≡ length s.lists → Good s → Good t
+  pub good_by : (s t : Vat N) → t.happened ≡ s.happened → SameNames K E.start s t → laws.Grown (held s) (held t) → MakesNone s t → length t.lists ≡ length s.lists → Good s → Good t
   good_by s t e f g m q k = let grows : Grows s t = grows_by s t e g in record {
-    told = rw (e, f) k.told;
-    lines = subst (λ es. Connected K (held t) es) (sym e) (connected_later K (held s) (held t) g [] s.happened k.lines);
+    causes = causes_same K E.start s t e f k.causes;
+    lines = subst (λ es. Connected K (held t) es) (sym e) (connected_later K (held s) (held t) g refl [] s.happened k.lines);
+    resolvers = λ i p j. resolver_up s t grows i p (k.resolvers i p (m.resolvers i p j));
     judged = λ i view j. judged_up s t grows i view (k.judged i view (m.auditions i view j));
     made = λ i node caught stamps j. object_up s t grows i node caught stamps (k.made i node caught stamps (m.objects i node caught stamps j));
     cells = λ i c j. cell_up s t grows i c (k.cells i c (m.cells i c j));
@@ -482,10 +495,12 @@ module _ {N W : Type 0} (K : Naming N W) (E : Ground N) where
   pub idles_grows : (s t : Vat N) → Idles s t → Grows s t
   idles_grows s t i = record { more = i.more; lines = i.lines; grown = idles_grown s t i }
 
-  pub idles_good : (s t : Vat N) → Idles s t → Told K E.before t → Good s → Good t
+  pub idles_good : (s t : Vat N) → Idles s t → Causes K E.start t → Good s → Good t
   idles_good s t i r g = record {
-    told = r;
-    lines = subst (λ es. Connected K (held t) es) (sym i.lines) (connected_join K (held t) [] s.happened i.more (connected_later K (held s) (held t) (idles_grown s t i) [] s.happened g.lines) (idles_connected K (held t) s.happened i.more i.idle));
+    causes = r;
+    lines = subst (λ es. Connected K (held t) es) (sym i.lines) (connected_join K (held t) [] s.happened i.more (connected_later K (held s) (held t) (idles_grown s t i) refl [] s.happened g.lines)
+        (idles_connected K (held t) s.happened i.more i.idle (caused_rest K E.start [] s.happened i.more (subst (λ es. CausedAfter K E.start [] es) i.lines r.lines))));
+    resolvers = λ n p e. resolver_up s t (idles_grows s t i) n p (g.resolvers n p ((makes_none s t i.things i.slots).resolvers n p e));
     judged = λ n view e. judged_up s t (idles_grows s t i) n view (g.judged n view ((makes_none s t i.things i.slots).auditions n view e));
     made = λ n node caught stamps e. object_up s t (idles_grows s t i) n node caught stamps (g.made n node caught stamps ((makes_none s t i.things i.slots).objects n node caught stamps e));
     cells = λ n c e. cell_up s t (idles_grows s t i) n c (g.cells n c ((makes_none s t i.things i.slots).cells n c e));

@@ -24,7 +24,7 @@ module _ {N W : Type 0} (K : Naming N W) (before : List (Known N)) where
   pub thing_more : (so more : List (Happened N)) (x : Value N) (i : ℕ) → IsThing K before so x i → IsThing K before (so ++ more) x i
   thing_more so more x i t = (t.0, reaches_more so more x (Ref t.0) t.1, t.2)
 
-module _ {N W : Type 0} (K : Naming N W) (h : Holdings N) where
+module _ {N W : Type 0} (K : Naming N W) (h : Holdings N W) where
   pub least : (so : List (Happened N)) (P : ℕ → Item N → Type 0) → IsClosed K h so P → (a : ℕ) (i : Item N) → Knows K h so a i → P a i
   least so P c a i (plain {v = v} e) = c.plain a v e
   least so P c a i (initial e) = c.initial a i e
@@ -47,7 +47,7 @@ module _ {N W : Type 0} (K : Naming N W) (h : Holdings N) where
   knows_more so more a i (followed x g l) = followed x (knows_more so more a _ g) (leads_more K h.before so more _ _ l)
   knows_more so more a i (guard k c g e) = guard k c (knows_more so more a _ g) e
 
-module _ {N W : Type 0} (K : Naming N W) (h later : Holdings N) (grown : Grown h later) where
+module _ {N W : Type 0} (K : Naming N W) (h later : Holdings N W) (grown : Grown h later) where
   leads_later : (so : List (Happened N)) (x y : Value N) → Leads K h.before so x y → Leads K later.before so x y
   leads_later so x y l = subst (λ ks. Leads K ks so x y) grown.before l
 

@@ -15,6 +15,9 @@ pub mod Idle
 pub mod RefsIdle
 pub mod ArriveIdle
 pub mod News
+pub mod Causes
+pub mod RefsCauses
+pub mod ArriveCauses
 pub mod Ground
 pub mod Asked
 pub mod Fine
@@ -24,6 +27,7 @@ pub mod FineCalls
 pub mod FineEval
 pub mod FineSteps
 pub mod FineRuns
+pub mod Shortening
 pub mod RunsTell
 pub mod Passing
 pub mod Moments

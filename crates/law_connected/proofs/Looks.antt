@@ -1,11 +1,11 @@
 -- What an activation looks at, it knows.
-use Rattle.std.proofs.Common.{◌≡◌, ℕ, Bool, true, false, List, [], ◌∷◌, ◌++◌, Option, Some, None, refl, length, map, ◌⊎◌, inl, inr}
-use Rattle.std.specs.Prelude.{slice_get}
+use Rattle.std.proofs.Common.{◌≡◌, ℕ, Bool, true, false, List, [], ◌∷◌, ◌++◌, Option, Some, None, refl, subst, length, map, ◌⊎◌, inl, inr}
+use Rattle.std.specs.Prelude.{slice_get, codes}
 use Rattle.def_machine.specs.Values.{Words, Value, Null, Flag, Number, Letter, Text, Prim, Broken, Items, Ref, Naming}
-use Rattle.def_machine.specs.State.{Bound, Fixed, Slot, Binding, Scope, Freedom, IsSafe, IsItself, IsFinal, IsVar, FreeName, View, Cell, Thing, Made, Ejector, Audition, Resolver, Vat, look}
+use Rattle.def_machine.specs.State.{Bound, Fixed, Slot, Binding, Scope, Freedom, IsSafe, IsItself, IsFinal, IsVar, FreeName, View, Cell, Thing, Made, Ejector, Audition, Resolver, Called, Vat, look}
 use Rattle.def_machine.specs.Refs as refs
-use Rattle.def_machine.specs.Refs.{Place, Near, Mine, Away, Gone, follow}
-use Rattle.def_machine.specs.Free.{same_words}
+use Rattle.def_machine.specs.Refs.{Place, Near, Mine, Away, Gone, follow, place}
+use Rattle.def_machine.specs.Free.{same_words, entry}
 use Rattle.def_machine.specs.Form as form
 use Rattle.def_machine.specs.Native as native
 use Rattle.def_machine.specs.Native.{list_at, Reply, Says, Writes, Lists as Listed, Iterates, Fails, Guard, AnyGuard, VoidGuard, IntGuard, BooleanGuard, CharGuard, TextGuard, ListGuard, NullGuard, NearGuard, FrozenGuard, OrNull, Primitive, RefTest, IsNear, IsFar, IsResolved, IsBroken, OptProblem, Fulfillment, NoTest, Order}
@@ -20,12 +20,14 @@ use Rattle.def_kernel.specs.declared.node.Literal.TheVariants as literal
 use Rattle.law_connected.specs.Known.{ASlot, IsAmong, AllOf, Reaches, itself, onward, IsPlain, plain, member, followed, guard}
 use Rattle.law_connected.specs.Natives.{ReplyHas}
 use Rattle.law_connected.proofs.Natives.{either_has, entry_has, answers_known}
+use Rattle.law_connected.specs.Settlings.{IsHanded}
 use Rattle.law_connected.proofs.StepTraces.{told_follows}
+use Rattle.law_connected.proofs.RefsCauses.{follows_now, placed}
 use Rattle.law_connected.proofs.Ground.{Ground, held, Has, Knew, FreedomKnown, Good, PutTold}
 use Rattle.law_connected.proofs.Asked.{compared_has, range_has, null_reply_has, asked_has}
-use Rattle.law_connected.proofs.Fine.{MayBe, Fact, Nothing, Also, IsAct, IsValue, AreValues, AreLists, IsSlot, IsBound, IsScope, MayValue, MayBound, MayCell, Leads, IsReply, IsAsked, IsAuditionAsk, MayHand, WasCalled, IsAt, IsJudging, IsJudged, MayGive, MayThing, BoundKnown, NounKnown, AuditionAskKnown, Handed, ThingThere, Gets, Fine, fine_sees}
+use Rattle.law_connected.proofs.Fine.{MayBe, Fact, Nothing, Also, IsAct, IsValue, AreValues, AreLists, IsSlot, IsBound, IsScope, MayValue, MayBound, MayCell, Leads, IsReply, IsAsked, IsAuditionAsk, MayHand, WasCalled, IsAt, IsJudging, IsJudged, MayGive, MayThing, MayAsk, IsPlaced, AskHas, BoundKnown, NounKnown, AuditionAskKnown, Handed, ThingThere, Gets, Fine, fine_sees}
 
-module _ {N W : Type 0} (K : Naming N W) (E : Ground N) (a : ℕ) where
+module _ {N W : Type 0} (K : Naming N W) (E : Ground N W) (a : ℕ) where
   knew_plain : (s : Vat N) (v : Value N) → IsPlain v → Knew K E s a v
   knew_plain s v h = plain h
 
@@ -146,21 +148,40 @@ module _ {N W : Type 0} (K : Naming N W) (E : Ground N) (a : ℕ) where
   pub got_hand : (C : Fact N) (i : ℕ) (x : Value N) (verb : Words) (args : List (Value N)) → Gets K E a C (WasCalled x verb args) → Gets K E a C (IsAt x i) → Gets K E a C (MayHand i (scopes.ejector_ask verb args))
   got_hand C i x verb args g k = record { at = λ s h. let c = g.at s h in let t = k.at s h in handed_known s i x verb args (λ v m. (c.0, x, verb, args, c.1, t, m)) }
 
+  -- what a resolver may be asked, of one argument
+  entry_at : {A : Type 0} (P : A → Type 0) (es : List (Words × A)) (a : A) (x : Words) → AllOf (λ (e : Words × A). same_words e.0 x ≡ true → P e.1) es → P a → P (entry es a x)
+  unfolding entry
+  entry_at P [] a x h i = i
+  entry_at P (e ∷ es) a x h i = either (same_words e.0 x) refl (entry_at P es a x h.1 i)
+    where
+      either : (b : Bool) → same_words e.0 x ≡ b → P (entry es a x) → P (elim b [ true ↦ e.1 | false ↦ entry es a x ])
+      either true q r = h.0 q
+      either false q r = r
+
+  pub resolver_asked : (s : Vat N) (i : ℕ) (verb : Words) (args : List (Value N)) → ((name : Words) (v : Value N) → args ≡ v ∷ [] → same_words name verb ≡ true → IsHanded K E.start s.happened i name v) → AskHas K E a s i (scopes.resolver_ask verb args)
+  unfolding scopes.resolver_ask
+  resolver_asked s i verb [] f = tt
+  resolver_asked s i verb (y ∷ []) f = entry_at (AskHas K E a s i) _ _ verb (f (codes "resolve") y refl, (f (codes "smash") y refl, tt)) tt
+  resolver_asked s i verb (y ∷ z ∷ zs) f = tt
+
+  pub got_may_ask : (C : Fact N) (i : ℕ) (x : Value N) (verb : Words) (args : List (Value N)) → Gets K E a C (WasCalled x verb args) → Gets K E a C (IsAt x i) → Gets K E a C (MayAsk i (scopes.resolver_ask verb args))
+  got_may_ask C i x verb args g k = record { at = λ s h. let c = g.at s h in let t = k.at s h in resolver_asked s i verb args (λ name v e q. inl (c.0, x, verb, subst (λ xs. IsAmong (Called c.0 x verb xs None) s.happened) e c.1, q, t)) }
+
   pub got_may_give : (C : Fact N) (x v : Value N) → Gets K E a C (IsValue v) → Gets K E a C (MayGive x v)
   got_may_give C x v g = record { at = λ s h. inl (g.at s h) }
 
   -- ---- following
 
-  knew_reached : (s : Vat N) (x y : Value N) → Reaches K E.before s.happened x y → Knew K E s a x → Knew K E s a y
+  knew_reached : (s : Vat N) (x y : Value N) → Reaches K E.start.vat.known s.happened x y → Knew K E s a x → Knew K E s a y
   knew_reached s x y itself h = h
   knew_reached s x y (onward z l r) h = knew_reached s z y r (followed x h l)
 
-  knew_led : (s : Vat N) (x y : Value N) → Reaches K E.before s.happened x y ⊎ IsPlain y → Knew K E s a x → Knew K E s a y
+  knew_led : (s : Vat N) (x y : Value N) → Reaches K E.start.vat.known s.happened x y ⊎ IsPlain y → Knew K E s a x → Knew K E s a y
   knew_led s x y (inl r) h = knew_reached s x y r h
   knew_led s x y (inr p) h = plain p
 
   pub knew_follow : (s : Vat N) → Good K E s → (x : Value N) → Knew K E s a x → Knew K E s a (follow K s x)
-  knew_follow s g x h = knew_led s x (follow K s x) (told_follows K E.before s g.told x) h
+  knew_follow s g x h = knew_led s x (follow K s x) (told_follows K E.start.vat.known s g.causes.told x) h
 
   all_follow : (s : Vat N) → Good K E s → (xs : List (Value N)) → AllOf (Knew K E s a) xs → AllOf (Knew K E s a) (map (follow K s) xs)
   all_follow s g [] h = tt
@@ -170,7 +191,13 @@ module _ {N W : Type 0} (K : Naming N W) (E : Ground N) (a : ℕ) where
   look_follow x g = fine_sees K E a (λ s. follow K s x) IsValue (λ s h c. knew_follow s h x (g.at s c))
 
   pub look_leads : {C : Fact N} (x : Value N) → Gets K E a C (IsValue x) → Fine K E a C (look (λ s. follow K s x)) (λ y. Also (IsValue y) (Leads x y))
-  look_leads x g = fine_sees K E a (λ s. follow K s x) (λ y. Also (IsValue y) (Leads x y)) (λ s h c. (knew_follow s h x (g.at s c), told_follows K E.before s h.told x))
+  look_leads x g = fine_sees K E a (λ s. follow K s x) (λ y. Also (IsValue y) (Leads x y)) (λ s h c. (knew_follow s h x (g.at s c), follows_now K E.start s h.causes x))
+
+  pub look_lead : {C : Fact N} (x : Value N) → Fine K E a C (look (λ s. follow K s x)) (Leads x)
+  look_lead x = fine_sees K E a (λ s. follow K s x) (Leads x) (λ s h c. follows_now K E.start s h.causes x)
+
+  pub look_place : {C : Fact N} (y : Value N) → Fine K E a C (look (λ s. place K s y)) (IsPlaced y)
+  look_place y = fine_sees K E a (λ s. place K s y) (IsPlaced y) (λ s h c. placed K E.start s y)
 
   -- ---- other looks
 
@@ -201,7 +228,7 @@ module _ {N W : Type 0} (K : Naming N W) (E : Ground N) (a : ℕ) where
   thing_there s g i (Some (Audition true view)) e = g.judged i view e
   thing_there s g i (Some (Audition false view)) e = tt
   thing_there s g i (Some (Ejector b)) e = tt
-  thing_there s g i (Some (Resolver p)) e = tt
+  thing_there s g i (Some (Resolver p)) e = g.resolvers i p e
   thing_there s g i None e = tt
 
   pub look_thing : {C : Fact N} (i : ℕ) → Fine K E a C (look (λ s. slice_get s.things i)) (MayThing i)
@@ -220,7 +247,7 @@ module _ {N W : Type 0} (K : Naming N W) (E : Ground N) (a : ℕ) where
   pub look_null_or : {C : Fact N} (x : Value N) → Fine K E a C (look (λ s. native.null_or_reply (follow K s x))) IsReply
   look_null_or x = fine_sees K E a (λ s. native.null_or_reply (follow K s x)) IsReply (λ s h c. null_reply_has (Knew K E s a) (knew_plain s) (follow K s x))
 
-module _ {N W : Type 0} (K : Naming N W) (E : Ground N) (a : ℕ) (tree : List Node) where
+module _ {N W : Type 0} (K : Naming N W) (E : Ground N W) (a : ℕ) (tree : List Node) where
   where_taken : (P : Value N → Type 0) (b : Bool) (y : Value N) → P y → MayBe P (scopes.where_true b y)
   unfolding scopes.where_true
   where_taken P true y h = h

@@ -1,7 +1,7 @@
 -- What a vat has to show of its messages in a step, and that it has it whatever it does.
 use Rattle.std.proofs.Common.{◌≡◌, ℕ, Bool, true, false, List, [], ◌∷◌, Option, Some, None, if◌then◌else◌, ◌⊎◌, inl, inr}
 use Rattle.std.specs.Prelude.{slice_get}
-use Rattle.def_machine.specs.Values.{Words, Value, Null, Flag, Number, Letter, Text, Prim, Broken, Items, Ref, Name, Gift}
+use Rattle.def_machine.specs.Values.{Words, Value, Null, Flag, Number, Letter, Text, Prim, Broken, Items, Ref, Name, Object, Gift}
 use Rattle.def_machine.specs.State.{Message, Standing, Unsettled, WaitsOn, Viewed, Settled, Known, Passed, Passeds, Plain, AGift, Many, NoMore, More, Note, Deliver, Open, Ask, SettledTo, Elsewhere, Shorten, Put, Happened, Took, Called, Back, Thrown, Left, Got, SlotMade, SlotRead, SlotWrote, ListMade, ListCame, EjectorMade, AuditionMade, PromiseMade, ObjectMade, Sends, Reacts, Finished, Threw, Settles, Waits, Views, Lost, Posted, Vat, Stop, Done, Gives, Throws, Ejects, Stops, Act, ◌>>=◌, ◌>>◌, and_then, for_some, end_by, ending, each, give, throw, stop, eject, look}
 use Rattle.def_machine.specs.Arrive.{Incoming, Old, New}
 use Rattle.law_machine.proofs.Walks.{Property, Holds}
@@ -9,6 +9,7 @@ use Rattle.law_machine.specs.Steps.{Step, Opens, Takes, Receives, Notices}
 use Rattle.def_run.specs.World.{World}
 use Rattle.law_connected.specs.Known.{IsAmong, AllOf}
 use Rattle.law_connected.specs.Stems.{LeadsTo, PassesAs, PassAll, HasLine, Stems}
+use Rattle.law_connected.specs.MessageLaws.{IsToldStanding}
 use Rattle.law_connected.proofs.Passing.{Kept, kept_all, leads_map, all_map, pass_all_map, passes_map}
 
 -- a step of a vat from a world
@@ -62,12 +63,8 @@ module _ (list lists : ℕ → List (Value Name) → Type 0) (g : (k : ℕ) (vs 
 
 -- ---- in a step
 
-module _ (line : Happened Name → Type 0) where
-  abbrev pub StandTold : Name → Standing Name → Type 0
-  StandTold n Unsettled = Unit {0}
-  StandTold n (WaitsOn q) = Unit {0}
-  StandTold n (Viewed q) = line (Views n q)
-  StandTold n (Settled y) = line (Settles n y)
+abbrev pub StandTold : (Happened Name → Type 0) → Name → Standing Name → Type 0
+StandTold = IsToldStanding
 
 pub stand_map : (line more : Happened Name → Type 0) → Kept line more → (n : Name) (x : Standing Name) → StandTold line n x → StandTold more n x
 stand_map line more f n Unsettled h = tt
@@ -181,8 +178,8 @@ module _ (p : Past) where
   NoteFine s (Deliver i n verb ys) = (m : Message Name) × Fine s m × (m.id ≡ i.message) × (m.verb ≡ verb) × LeadsTo (Line s) m.target (Ref n) × PassingAll s m.args ys
   NoteFine s (Open i n) = Unit {0}
   NoteFine s (Ask q i n) = Unit {0}
-  NoteFine s (SettledTo n y) = Unit {0}
-  NoteFine s (Elsewhere n c) = Unit {0}
+  NoteFine s (SettledTo n y) = Passing s (Ref n) y
+  NoteFine s (Elsewhere n c) = (i : ℕ) × LeadsTo (Line s) (Ref n) (Ref (Object c i))
   NoteFine s (Shorten n c i) = Unit {0}
 
   abbrev pub KnownFine : Vat Name → Known Name → Type 0
@@ -220,8 +217,8 @@ module _ (p : Past) where
   note_later s t l (Deliver i n verb ys) h = (h.0, fine_later s t l h.0 h.1, h.2, h.3, lead_later s t l h.0.target (Ref n) h.4, passing_all_later s t l h.0.args ys h.5)
   note_later s t l (Open i n) h = tt
   note_later s t l (Ask q i n) h = tt
-  note_later s t l (SettledTo n y) h = tt
-  note_later s t l (Elsewhere n c) h = tt
+  note_later s t l (SettledTo n y) h = passing_later s t l (Ref n) y h
+  note_later s t l (Elsewhere n c) h = (h.0, lead_later s t l (Ref n) (Ref (Object c h.0)) h.1)
   note_later s t l (Shorten n c i) h = tt
 
   pub known_later : (s t : Vat Name) → Later s t → (k : Known Name) → KnownFine s k → KnownFine t k

@@ -279,7 +279,7 @@ module _ {N : Type 0} (P : N → Type 0) (Q : ℕ → Type 0) where
     data_has (Items k) verb held xs i h g = list_has (list_at ms k) verb held xs (all k i) h g
     data_has (Ref n) verb held xs i h g = tt
 
-module _ {N W : Type 0} (K : Naming N W) (h : Holdings N) (so : List (Happened N)) (a : ℕ) where
+module _ {N W : Type 0} (K : Naming N W) (h : Holdings N W) (so : List (Happened N)) (a : ℕ) where
   abbrev Known : Value N → Type 0
   Known v = Knows K h so a (AValue v)
 

@@ -3,7 +3,7 @@ use Rattle.std.proofs.Common.{◌≡◌, ℕ, Bool, true, false, List, [], ◌�
 use Rattle.std.specs.Prelude.{nat_le}
 use Rattle.std.proofs.lemmas.Bool.{eq-eqb}
 use Rattle.def_machine.specs.Values.{Words, Value, Broken, Naming}
-use Rattle.def_machine.specs.State.{ListCame, Ask, Shorten, Sends, Reacts, Thing, Audition, Ejector, See, Settle, Message, Happened, Took, Called, Back, Thrown, Left, EjectorMade, AuditionMade, Settles, Views, Vat, Stop, Done, Gives, Throws, Ejects, Stops, Act, ◌>>=◌, ◌>>◌, and_then, end_by, ending, give, throw, stop, eject, look, tell, spend, spent, new_activation, new_thing, kill, new_slot, write_slot, new_list, enqueue, Change, send_out, new_gift, open_gift, mark, draws, alter, come, mail, new_promise, new_message, draw, new_lone_message}
+use Rattle.def_machine.specs.State.{ListCame, Sends, Reacts, Thing, Audition, Ejector, See, Settle, Message, Happened, Took, Called, Back, Thrown, Left, EjectorMade, AuditionMade, Settles, Views, Vat, Stop, Done, Gives, Throws, Ejects, Stops, Act, ◌>>=◌, ◌>>◌, and_then, end_by, ending, give, throw, stop, eject, look, tell, spend, spent, new_activation, new_thing, kill, new_slot, write_slot, new_list, enqueue, Change, send_out, new_gift, open_gift, mark, draws, alter, come, mail, new_promise, new_message, draw, new_lone_message}
 use Rattle.def_machine.specs.Scopes.{ended}
 use Rattle.def_kernel.specs.declared.node.Node.{Node}
 use Rattle.law_machine.proofs.Walks.{Property, Holds, IsClosed, IsEnding, IsOfRefs, IsOfEval, InRefs, InRefsUnder, InSettling, InSending, InArrive, InArriveUnder, InEval, InEvalUnder, walk_then}

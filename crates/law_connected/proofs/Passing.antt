@@ -27,7 +27,9 @@ module _ (line more : Happened Name → Type 0) (f : Kept line more) where
   leads_map x z (viewed n q i l) = viewed n q (f.1 n q i) (leads_map (Ref q) z l)
 
   plain_map : (x y : Value Name) → PassesPlain line x y → PassesPlain more x y
-  plain_map x (Broken p) h = tt
+  plain_map x (Broken p) (inl h) = inl (leads_map x (Broken p) h)
+  plain_map x (Broken p) (inr (inl h)) = inr (inl (h.0, leads_map x (Ref h.0) h.1, h.2))
+  plain_map x (Broken p) (inr (inr h)) = inr (inr (h.0, leads_map x (Items h.0) h.1, h.2))
   plain_map x (Items k) h = h
   plain_map x (Ref n) h = leads_map x (Ref n) h
   plain_map x Null h = leads_map x Null h
@@ -62,7 +64,9 @@ module _ (line : Happened Name → Type 0) where
   leads_on x y z (viewed n q i l) k = viewed n q i (leads_on (Ref q) y z l k)
 
   plain_on : (x y z : Value Name) → LeadsTo line x y → PassesPlain line y z → PassesPlain line x z
-  plain_on x y (Broken p) l h = tt
+  plain_on x y (Broken p) l (inl h) = inl (leads_on x y (Broken p) l h)
+  plain_on x y (Broken p) l (inr (inl h)) = inr (inl (h.0, leads_on x y (Ref h.0) l h.1, h.2))
+  plain_on x y (Broken p) l (inr (inr h)) = inr (inr (h.0, leads_on x y (Items h.0) l h.1, h.2))
   plain_on x y (Items k) l h = h
   plain_on x y (Ref n) l h = leads_on x y (Ref n) l h
   plain_on x y Null l h = leads_on x y Null l h

@@ -1,8 +1,8 @@
 -- What a vat does with references brings messages that stem from what was sent.
-use Rattle.std.proofs.Common.{◌≡◌, ℕ, zero, suc, Bool, true, false, List, [], ◌∷◌, Option, Some, None, length, refl, subst, ◌⊎◌, inl, inr, if◌then◌else◌, ◌==◌}
+use Rattle.std.proofs.Common.{◌≡◌, ℕ, zero, suc, Bool, true, false, List, [], ◌∷◌, Option, Some, None, length, refl, sym, ◌∙◌, subst, ◌⊎◌, inl, inr, if◌then◌else◌, ◌==◌}
 use Rattle.std.specs.Prelude.{slice_get, codes}
-use Rattle.def_machine.specs.Values.{Words, Value, Null, Flag, Number, Letter, Text, Prim, Broken, Items, Ref, Name, Spot, Own, Foreign, NoObject, naming, same_reference}
-use Rattle.def_machine.specs.State.{look, tell, new_message, Message, Standing, Unsettled, WaitsOn, Viewed, Settled, Known, Passed, Passeds, Plain, AGift, Many, NoMore, More, Deliver, Hold, React, Settle, Sends, Reacts, Settles, Vat, Act, is_in, spend, each, give, ◌>>=◌, ◌>>◌, new_lone_message}
+use Rattle.def_machine.specs.Values.{Words, Value, Null, Flag, Number, Letter, Text, Prim, Broken, Items, Ref, Name, Root, Object, Promise, Answer, Gift, Sent, spot_of, Spot, Own, Foreign, NoObject, naming, same_reference}
+use Rattle.def_machine.specs.State.{SettledTo, Elsewhere, and_then, send_out, look, tell, new_message, Message, Standing, Unsettled, WaitsOn, Viewed, Settled, Known, Passed, Passeds, Plain, AGift, Many, NoMore, More, Deliver, Hold, React, Settle, Sends, Reacts, Settles, Vat, Act, is_in, spend, each, give, ◌>>=◌, ◌>>◌, new_lone_message}
 use Rattle.def_machine.specs.Native.{list_at}
 use Rattle.def_machine.specs.Refs as refs
 use Rattle.def_machine.specs.Refs.{Place, Near, Mine, Away, Gone, Parcel}
@@ -74,14 +74,14 @@ module _ (word : ℕ → ℕ) (v : ℕ) (past : Past) where
 
   -- what a value is followed to: what lines lead to, or a problem
   abbrev Follows : Vat Name → Value Name → Value Name → Type 0
-  Follows s x y = LeadsTo (Line past s) x y ⊎ IsBroken y
+  Follows s x y = LeadsTo (Line past s) x y ⊎ ((n : Name) × LeadsTo (Line past s) x (Ref n) × (y ≡ Broken (codes "partition")))
 
   by_host : (s : Vat Name) (x : Value Name) (n : Name) (h : ℕ) → LeadsTo (Line past s) x (Ref n) → Follows s x (refs.severed_by (naming word v) h s n)
   unfolding refs.severed_by
   by_host s x n h l = either (is_in h s.noticed)
     where
       either : (b : Bool) → Follows s x (elim b [ true ↦ Broken (codes "partition") | false ↦ Ref n ])
-      either true = inr (codes "partition", refl)
+      either true = inr (n, l, refl)
       either false = inl l
 
   at_spot : (s : Vat Name) (x : Value Name) (n : Name) (o : Spot) → LeadsTo (Line past s) x (Ref n) → Follows s x (refs.severed_at (naming word v) s n o)
@@ -108,8 +108,12 @@ module _ (word : ℕ → ℕ) (v : ℕ) (past : Past) where
 
   -- ---- passing
 
+  same_problem : (t u : Words) → ◌≡◌ {A = Value Name} (Broken t) (Broken u) → t ≡ u
+  same_problem t u e = cc
+
   plain_passes : (s : Vat Name) (x y : Value Name) → Follows s x y → ((k : ℕ) → y ≡ Items k → ⊥) → Passing past s x (Plain y)
-  plain_passes s x (Broken t) l f = tt
+  plain_passes s x (Broken t) (inl l) f = inl l
+  plain_passes s x (Broken t) (inr h) f = inr (inl (h.0, h.1, same_problem t (codes "partition") h.2))
   plain_passes s x (Items k) l f = absurd (f k refl)
   plain_passes s x (Ref n) (inl l) f = l
   plain_passes s x Null (inl l) f = l
@@ -118,17 +122,17 @@ module _ (word : ℕ → ℕ) (v : ℕ) (past : Past) where
   plain_passes s x (Letter c) (inl l) f = l
   plain_passes s x (Text t) (inl l) f = l
   plain_passes s x (Prim i) (inl l) f = l
-  plain_passes s x (Ref n) (inr h) f = let e = h.1 in cc
-  plain_passes s x Null (inr h) f = let e = h.1 in cc
-  plain_passes s x (Flag b) (inr h) f = let e = h.1 in cc
-  plain_passes s x (Number z) (inr h) f = let e = h.1 in cc
-  plain_passes s x (Letter c) (inr h) f = let e = h.1 in cc
-  plain_passes s x (Text t) (inr h) f = let e = h.1 in cc
-  plain_passes s x (Prim i) (inr h) f = let e = h.1 in cc
+  plain_passes s x (Ref n) (inr h) f = let e = h.2 in cc
+  plain_passes s x Null (inr h) f = let e = h.2 in cc
+  plain_passes s x (Flag b) (inr h) f = let e = h.2 in cc
+  plain_passes s x (Number z) (inr h) f = let e = h.2 in cc
+  plain_passes s x (Letter c) (inr h) f = let e = h.2 in cc
+  plain_passes s x (Text t) (inr h) f = let e = h.2 in cc
+  plain_passes s x (Prim i) (inr h) f = let e = h.2 in cc
 
   list_leads : (s : Vat Name) (x : Value Name) (k : ℕ) → Follows s x (Items k) → LeadsTo (Line past s) x (Items k)
   list_leads s x k (inl l) = l
-  list_leads s x k (inr h) = let e = h.1 in cc
+  list_leads s x k (inr h) = let e = h.2 in cc
 
   members_at : (s : Vat Name) (k : ℕ) → Members s k (list_at s.lists k) ⊎ (list_at s.lists k ≡ [])
   unfolding list_at
@@ -146,7 +150,7 @@ module _ (word : ℕ → ℕ) (v : ℕ) (past : Past) where
   shape_passes : (s : Vat Name) (x y : Value Name) (members : List (Value Name) → Passed Name) → Follows s x y → ((k : ℕ) → y ≡ Items k → Passing past s x (members (list_at s.lists k))) → Passing past s x (refs.shape_by (naming word v) members s.lists y)
   unfolding refs.shape_by
   shape_passes s x (Items k) members l f = f k refl
-  shape_passes s x (Broken t) members l f = tt
+  shape_passes s x (Broken t) members l f = plain_passes s x (Broken t) l (λ k e. cc)
   shape_passes s x (Ref n) members l f = plain_passes s x (Ref n) l (λ k e. cc)
   shape_passes s x Null members l f = plain_passes s x Null l (λ k e. cc)
   shape_passes s x (Flag b) members l f = plain_passes s x (Flag b) l (λ k e. cc)
@@ -157,19 +161,19 @@ module _ (word : ℕ → ℕ) (v : ℕ) (past : Past) where
 
   shape_of : (s : Vat Name) → Good past s → (d : ℕ) (x : Value Name) → Passing past s x (refs.shape (naming word v) d s x)
   unfolding refs.shape
-  shape_of s g zero x = shape_passes s x (refs.follow (naming word v) s x) (λ vs. Plain (Broken (codes "too heavy"))) (follows s g x) (λ k e. tt)
+  shape_of s g zero x = shape_passes s x (refs.follow (naming word v) s x) (λ vs. Plain (Broken (codes "too heavy"))) (follows s g x) (λ k e. inr (inr (k, list_leads s x k (subst (λ y. Follows s x y) e (follows s g x)), refl)))
   shape_of s g (suc d) x = shape_passes s x (refs.follow (naming word v) s x) (λ vs. Many (refs.shapes (naming word v) (λ w. refs.shape (naming word v) d s w) vs)) (follows s g x)
       (λ k e. (k, list_at s.lists k, list_leads s x k (subst (λ y. Follows s x y) e (follows s g x)), members_at s k, shapes_pass s (λ w. refs.shape (naming word v) d s w) (shape_of s g d) (list_at s.lists k)))
 
   list_parcel : (s : Vat Name) → Good past s → (x : Value Name) (k : ℕ) → LeadsTo (Line past s) x (Items k) → (o : Option ℕ) → Passing past s x (refs.parcel_of_list (naming word v) s (Items k) o).value
   unfolding refs.parcel_of_list refs.too_heavy
   list_parcel s g x k l (Some left) = passes_on (Line past s) _ _ x (Items k) _ l (shape_of s g refs.highest (Items k))
-  list_parcel s g x k l None = tt
+  list_parcel s g x k l None = inr (inr (k, l, refl))
 
   parcel_passes : (s : Vat Name) → Good past s → (x y : Value Name) → Follows s x y → Passing past s x (refs.parcel_at (naming word v) s y).value
   unfolding refs.parcel_at
   parcel_passes s g x (Items k) l = list_parcel s g x k (list_leads s x k l) _
-  parcel_passes s g x (Broken t) l = tt
+  parcel_passes s g x (Broken t) l = plain_passes s x (Broken t) l (λ k e. cc)
   parcel_passes s g x (Ref n) l = plain_passes s x (Ref n) l (λ k e. cc)
   parcel_passes s g x Null l = plain_passes s x Null l (λ k e. cc)
   parcel_passes s g x (Flag b) l = plain_passes s x (Flag b) l (λ k e. cc)
@@ -313,7 +317,7 @@ module _ (word : ℕ → ℕ) (v : ℕ) (past : Past) where
   broken_place s x y (Away h n o) e b = let f : refs.place (naming word v) s (Broken b.0) ≡ Away h n o = subst (λ z. refs.place (naming word v) s z ≡ Away h n o) b.1 e in absurd (gone_away b.0 h n o f)
 
   at_place : (s : Vat Name) (x y : Value Name) (o : Place Name) → refs.place (naming word v) s y ≡ o → Follows s x y → ToPlace x y o s
-  at_place s x y o e (inr b) = broken_place s x y o e b
+  at_place s x y o e (inr b) = broken_place s x y o e (codes "partition", b.2)
   at_place s x y Near e (inl l) = l
   at_place s x y (Mine n) e (inl l) = l
   at_place s x y (Away h n o) e (inl l) = (l, away_ref s y h n o e)
@@ -321,7 +325,7 @@ module _ (word : ℕ → ℕ) (v : ℕ) (past : Past) where
 
   follow_lasts : (x y : Value Name) → Lasting past (λ s. Follows s x y)
   follow_lasts x y s t l (inl h) = inl (lead_lasts x y s t l h)
-  follow_lasts x y s t l (inr h) = inr h
+  follow_lasts x y s t l (inr h) = inr (h.0, lead_lasts x (Ref h.0) s t l h.1, h.2)
 
   does_send_to : (settle : Name → Value Name → Act Name (Unit {0})) → GoodSettler past settle → (m : Message Name) (y : Value Name) (o : Place Name) → Does past (λ s. Fine past s m × ToPlace m.target y o s) (Any past) (refs.send_to (naming word v) settle m y o)
   unfolding refs.send_to
@@ -338,14 +342,109 @@ module _ (word : ℕ → ℕ) (v : ℕ) (past : Past) where
   unfolding refs.send_on
   does_send_on settle h m = does_look past _ _ (λ s i g. (send_placed settle h m _).after s (i, follows s g m.target) g)
 
-  pub brings_inform_of : (p : Name) (w : ℕ) (y : Value Name) (o : Place Name) → Brings past (refs.inform_of (naming word v) p w y o)
+  -- ---- telling
+
+  -- an object elsewhere is one of that vat
+  abbrev OffAt : Value Name → Place Name → Type 0
+  OffAt y Near = Unit {0}
+  OffAt y (Mine n) = Unit {0}
+  OffAt y (Away h n true) = (i : ℕ) × (y ≡ Ref (Object h i))
+  OffAt y (Away h n false) = Unit {0}
+  OffAt y (Gone t) = Unit {0}
+
+  hosted_off : (s : Vat Name) (n : Name) (h : ℕ) → OffAt (Ref n) (refs.hosted (naming word v) s.number n h)
+  unfolding refs.hosted
+  hosted_off s n h = either (s.number == h)
+    where
+      either : (b : Bool) → OffAt (Ref n) (elim b [ true ↦ Mine n | false ↦ Away h n false ])
+      either true = tt
+      either false = tt
+
+  spotted_off : (s : Vat Name) (n : Name) → OffAt (Ref n) (refs.spotted (naming word v) s n (spot_of v n))
+  unfolding refs.spotted spot_of
+  spotted_off s (Object w i) = either (v == w)
+    where
+      either : (b : Bool) → OffAt (Ref (Object w i)) (refs.spotted (naming word v) s (Object w i) (elim b [ true ↦ Own i | false ↦ Foreign w ]))
+      either true = tt
+      either false = (i, refl)
+  spotted_off s (Root w) = hosted_off s (Root w) _
+  spotted_off s (Promise w i) = hosted_off s (Promise w i) _
+  spotted_off s (Answer w m) = hosted_off s (Answer w m) _
+  spotted_off s (Gift w i) = hosted_off s (Gift w i) _
+  spotted_off s (Sent m) = hosted_off s (Sent m) _
+
+  placed_off : (s : Vat Name) (y : Value Name) → OffAt y (refs.place (naming word v) s y)
+  unfolding refs.place naming
+  placed_off s (Ref n) = spotted_off s n
+  placed_off s (Broken t) = tt
+  placed_off s Null = tt
+  placed_off s (Flag b) = tt
+  placed_off s (Number z) = tt
+  placed_off s (Letter c) = tt
+  placed_off s (Text t) = tt
+  placed_off s (Prim i) = tt
+  placed_off s (Items k) = tt
+
+  -- what is broken leads to nothing else
+  broken_leads : (s : Vat Name) (x z : Value Name) (t : Words) → x ≡ Broken t → LeadsTo (Line past s) x z → z ≡ Broken t
+  broken_leads s x z t e itself = e
+  broken_leads s x z t e (settled n y l r) = cc
+  broken_leads s x z t e (viewed n q l r) = cc
+
+  not_broken : (s : Vat Name) (z : Value Name) (t : Words) → LeadsTo (Line past s) (Broken t) z → (z ≡ Broken t → ⊥) → ⊥
+  not_broken s z t l f = f (broken_leads s (Broken t) z t refl l)
+
+  -- and passes as nothing else; so does a name that is severed
+  severed_plain : (s : Vat Name) (x y : Value Name) → ((n : Name) × LeadsTo (Line past s) x (Ref n)) → Passing past s (Broken (codes "partition")) (Plain y) → Passing past s x (Plain y)
+  severed_plain s x (Broken t) l (inl h) = inr (inl (l.0, l.1, same_problem t (codes "partition") (broken_leads s (Broken (codes "partition")) (Broken t) (codes "partition") refl h)))
+  severed_plain s x (Broken t) l (inr (inl h)) = absurd (not_broken s (Ref h.0) (codes "partition") h.1 (λ e. cc))
+  severed_plain s x (Broken t) l (inr (inr h)) = absurd (not_broken s (Items h.0) (codes "partition") h.1 (λ e. cc))
+  severed_plain s x (Items k) l h = absurd h
+  severed_plain s x (Ref n) l h = absurd (not_broken s (Ref n) (codes "partition") h (λ e. cc))
+  severed_plain s x Null l h = absurd (not_broken s Null (codes "partition") h (λ e. cc))
+  severed_plain s x (Flag b) l h = absurd (not_broken s (Flag b) (codes "partition") h (λ e. cc))
+  severed_plain s x (Number z) l h = absurd (not_broken s (Number z) (codes "partition") h (λ e. cc))
+  severed_plain s x (Letter c) l h = absurd (not_broken s (Letter c) (codes "partition") h (λ e. cc))
+  severed_plain s x (Text t) l h = absurd (not_broken s (Text t) (codes "partition") h (λ e. cc))
+  severed_plain s x (Prim i) l h = absurd (not_broken s (Prim i) (codes "partition") h (λ e. cc))
+
+  severed_passes : (s : Vat Name) (x : Value Name) (z : Passed Name) → ((n : Name) × LeadsTo (Line past s) x (Ref n)) → Passing past s (Broken (codes "partition")) z → Passing past s x z
+  severed_passes s x (Plain y) l h = severed_plain s x y l h
+  severed_passes s x (AGift w i) l h = absurd (not_broken s (Ref h.0) (codes "partition") h.1 (λ e. cc))
+  severed_passes s x (Many ys) l h = absurd (not_broken s (Items h.0) (codes "partition") h.2 (λ e. cc))
+
+  followed_passes : (s : Vat Name) (x y : Value Name) (z : Passed Name) → Follows s x y → Passing past s y z → Passing past s x z
+  followed_passes s x y z (inl l) h = passes_on (Line past s) _ _ x y z l h
+  followed_passes s x y z (inr e) h = severed_passes s x z (e.0, e.1) (subst (λ u. Passing past s u z) e.2 h)
+
+  -- what a name is followed to passes, and the note tells it of the name
+  does_tell_passed : (p : Name) (w : ℕ) (y : Value Name) → Does past (λ s. Follows s (Ref p) y) (Any past) (refs.pass (naming word v) w y >>= λ z. send_out w (SettledTo p z))
+  does_tell_passed p w y = does_bind past (does_from past (λ s i. (i, tt)) (does_also past (λ s. Follows s (Ref p) y) (follow_lasts (Ref p) y) (does_pass w y)))
+      (λ z. does_to past (λ b t i. tt) (does_from past (λ s i. followed_passes s (Ref p) y z i.0 i.1) (does_out past w (SettledTo p z) (pass_lasts (Ref p) z))))
+
+  no_object : (h i : ℕ) (t : Words) → ◌≡◌ {A = Value Name} (Ref (Object h i)) (Broken t) → ⊥
+  no_object h i t e = cc
+
+  object_leads : (s : Vat Name) (x y : Value Name) (h i : ℕ) → Follows s x y → y ≡ Ref (Object h i) → LeadsTo (Line past s) x (Ref (Object h i))
+  object_leads s x y h i (inl l) e = subst (λ z. LeadsTo (Line past s) x z) e l
+  object_leads s x y h i (inr f) e = absurd (no_object h i (codes "partition") (sym e ∙ f.2))
+
+  does_inform_of : (p : Name) (w : ℕ) (y : Value Name) (o : Place Name) → Does past (λ s. Follows s (Ref p) y × OffAt y o) (Any past) (refs.inform_of (naming word v) p w y o)
   unfolding refs.inform_of
-  brings_inform_of p w y (Away h n true) = search (brings) depth 14
-  brings_inform_of p w y _ = search (brings, brings_pass) depth 14
+  does_inform_of p w y (Away h n true) = does_to past (λ b t i. tt) (does_from past (λ s i. (i.1.0, object_leads s (Ref p) y h i.1.0 i.0 i.1.1))
+      (does_out past w (Elsewhere p h) (λ s t l i. (i.0, lead_lasts (Ref p) (Ref (Object h i.0)) s t l i.1))))
+  does_inform_of p w y (Away h n false) = does_from past (λ s i. i.0) (does_tell_passed p w y)
+  does_inform_of p w y Near = does_from past (λ s i. i.0) (does_tell_passed p w y)
+  does_inform_of p w y (Mine n) = does_from past (λ s i. i.0) (does_tell_passed p w y)
+  does_inform_of p w y (Gone t) = does_from past (λ s i. i.0) (does_tell_passed p w y)
+
+  does_inform_unless : (p : Name) (w : ℕ) (y : Value Name) (o : Place Name) (b : Bool) → Does past (λ s. Follows s (Ref p) y × OffAt y o) (Any past) (if b then give tt else refs.inform_of (naming word v) p w y o)
+  does_inform_unless p w y o true = does_from past (λ s i. tt) (does_any past (brings_give past tt))
+  does_inform_unless p w y o false = does_inform_of p w y o
 
   pub brings_inform : (p : Name) (w : ℕ) → Brings past (refs.inform (naming word v) p w)
-  unfolding refs.inform
-  brings_inform p w = search (brings, brings_inform_of) depth 14
+  unfolding refs.inform ◌>>=◌ look and_then
+  brings_inform p w = record { after = λ s g. (does_inform_unless p w (refs.follow (naming word v) s (Ref p)) (refs.place (naming word v) s (refs.follow (naming word v) s (Ref p))) (is_in w s.noticed)).after s (follows s g (Ref p), placed_off s _) g }
 
   -- ---- settling
 
@@ -477,4 +576,4 @@ module _ (word : ℕ → ℕ) (v : ℕ) (past : Past) where
       brings_does past (does_then past (does_tell past (Reacts act x o (refs.reaction (naming word v) new.0 near x new.1)) tt)
       (λ a. does_look past _ _ (λ s i g. (does_reacts (refs.reaction (naming word v) new.0 near x new.1) _ new.1).after s (reaction_fine s act x o near new.0 new.1 i) g)))))
 
-pub ruleset brings_refs = (brings, brings_pass, brings_wait_on, brings_inform_of, brings_inform, brings_settle_at, brings_settle, brings_wait_unless_cycle, brings_resolve_to, brings_resolve, brings_send, brings_send_only, brings_react)
+pub ruleset brings_refs = (brings, brings_pass, brings_wait_on, brings_inform, brings_settle_at, brings_settle, brings_wait_unless_cycle, brings_resolve_to, brings_resolve, brings_send, brings_send_only, brings_react)

@@ -1,7 +1,6 @@
 -- What is done with references, but for sending and reacting, is idle.
-use Rattle.std.proofs.Common.{ℕ, zero, suc, true, false, List, [], ◌∷◌, Option, Some, None}
 use Rattle.def_machine.specs.Values.{Value, Prim, Naming}
-use Rattle.def_machine.specs.State.{Message, Standing, Settled, Known, Passed, Passeds, Plain, AGift, Many, NoMore, More, Act}
+use Rattle.def_machine.specs.State.{Message}
 use Rattle.def_machine.specs.Refs as refs
 use Rattle.def_machine.specs.Refs.{Place, Near, Mine, Away, Gone}
 use Rattle.law_machine.proofs.RefsWalk.{walk_settle, walk_resolve, walk_send_first, walk_react_at}

@@ -1,13 +1,14 @@
 -- The rows.
 use Rattle.std.proofs.Common.{◌≡◌, ℕ, zero, suc, List, [], ◌∷◌, Option, Some, None, refl, sym, subst, ◌∙◌, inl, inr, map, ap, ◌⊎◌}
 use Rattle.std.specs.Prelude.{slice_get, codes, take, drop}
-use Rattle.def_machine.specs.Values.{Value, Ref, Name, Root, Object, naming, Prim, Text, Null}
-use Rattle.def_machine.specs.State.{Binding, Cell, Thing, Made, Happened, Took, Called, Fixed, ObjectMade, AuditionMade, Back}
-use Rattle.law_connected.specs.Known.{Item, AValue, ASlot, IsAmong, IsPlain, parts_of_all, tells, Leads, settled, viewed, settles, views, called, itself, Knows, plain, endowed, told, opened_known}
+use Rattle.def_machine.specs.Values.{Words, Value, Ref, Name, Root, Object, Answer, naming, Prim, Text, Null, Broken}
+use Rattle.def_machine.specs.State.{Binding, Cell, Thing, Made, Happened, Took, Called, Finished, PromiseMade, Fixed, ObjectMade, AuditionMade, Back}
+use Rattle.law_connected.specs.Known.{Item, Start, Reaches, onward, AValue, ASlot, IsAmong, IsPlain, parts_of_all, tells, Leads, settled, viewed, settles, views, called, itself, Knows, plain, endowed, told, opened_known}
 use Rattle.def_machine.specs.Eval.{opened_eval}
-use Rattle.law_machine.specs.Steps.{Opens, does}
+use Rattle.law_machine.specs.Steps.{Opens, Takes, does}
 use Rattle.law_connected.specs.Connected.{evaluates, asks, Connected, StepConnected, given_to, held_from, opened_connected}
-use Rattle.law_connected.specs.Rows.{one_object, secret, helper, message, handed, program, escaping, auditing, fresh, opened_rows}
+use Rattle.law_connected.specs.Rows.{one_object, secret, helper, sent, message, handed, answering, stray, program, escaping, auditing, fresh, opened_rows}
+use Rattle.law_connected.specs.Settlings.{IsResolver, IsGiven, gave, threw, resolved, smashed, waited, said, lost, SettlesWell}
 use Rattle.law_connected.specs.ConnectedLaws.{IsClosed}
 use Rattle.law_connected.proofs.Knowing.{least}
 
@@ -90,6 +91,70 @@ module _ (word : ℕ → ℕ) where
       no (inl k) = only_plain k
       no (inr x) = absurd x
 
+  -- ---- settled to what nobody gave
+
+  abbrev gone_by : List (Happened Name)
+  gone_by = Took 0 (message 0 helper []) ∷ Finished 0 Null ∷ []
+
+  abbrev took_it : Start Name Name
+  took_it = record { step = Takes [] 0 (message 0 helper []); vat = fresh }
+
+  not_made : (a : ℕ) (p r : Name) → IsAmong (PromiseMade a p r) gone_by → ⊥
+  not_made a p r (inl e) = cc
+  not_made a p r (inr (inl e)) = cc
+  not_made a p r (inr (inr m)) = m
+
+  no_resolver : (i : ℕ) (p : Name) → IsResolver (naming word 0) took_it gone_by i p → ⊥
+  unfolding fresh
+  no_resolver i p (inl e) = cc
+  no_resolver i p (inr h) = not_made h.0 p h.1 h.2
+
+  -- all that is given is null
+  null_given : (p : Name) (x : Value Name) → IsGiven (naming word 0) took_it gone_by p x → x ≡ Null
+  null_given p x (gave a (inl e) o) = cc
+  null_given p x (gave a (inr (inl e)) o) = cc
+  null_given p x (gave a (inr (inr m)) o) = absurd m
+  null_given p x (threw a (inl e) o) = cc
+  null_given p x (threw a (inr (inl e)) o) = cc
+  null_given p x (threw a (inr (inr m)) o) = absurd m
+  null_given p x (resolved i r h) = absurd (no_resolver i p r)
+  null_given p x (smashed i v r h f) = absurd (no_resolver i p r)
+  null_given p x (waited q (inl e) w) = cc
+  null_given p x (waited q (inr (inl e)) w) = cc
+  null_given p x (waited q (inr (inr m)) w) = absurd m
+  null_given p x (said s) = absurd s
+  null_given p x (lost i y h (inl e) f) = cc
+  null_given p x (lost i y h (inr (inl e)) f) = cc
+  null_given p x (lost i y h (inr (inr m)) f) = absurd m
+
+  null_leads : (x y : Value Name) → x ≡ Null → Leads (naming word 0) fresh.known gone_by x y → ⊥
+  null_leads x y e (settled f) = cc
+  null_leads x y e (viewed f) = cc
+  null_leads x y e (settles p i o) = cc
+  null_leads x y e (views p i o) = cc
+
+  null_reaches : (x y : Value Name) → x ≡ Null → Reaches (naming word 0) fresh.known gone_by x y → y ≡ Null
+  null_reaches x y e itself = e
+  null_reaches x y e (onward z l r) = absurd (null_leads x z e l)
+
+  not_null : secret ≡ Null → ⊥
+  unfolding secret
+  not_null e = cc
+
+  not_broken : (t : Words) → secret ≡ Broken t → ⊥
+  unfolding secret
+  not_broken t e = cc
+
+  pub stray_is_not : Connected (naming word 0) answering stray → ⊥
+  unfolding opened_connected answering stray one_object
+  stray_is_not c = no c.1.1.0.1
+    where
+      no : SettlesWell (naming word 0) took_it gone_by (Answer 0 (sent 0)) secret → ⊥
+      no (inl (x, g, inl (inl r))) = not_null (null_reaches x secret (null_given (Answer 0 (sent 0)) x g) r)
+      no (inl (x, g, inl (inr (w, i, e)))) = not_broken (codes "partition") e
+      no (inl (x, g, inr (z, f, m, e))) = not_broken (codes "cycle") e
+      no (inr (w, i, o, e)) = not_broken (codes "partition") e
+
   pub handed_is : Connected (naming word 0) one_object (handed (secret ∷ []))
   unfolding opened_connected opened_rows
   handed_is = (
@@ -133,7 +198,7 @@ module _ (word : ℕ → ℕ) where
               (
                 ((inl (told _ (inr (inr (inr (inr (inr (inl refl)))))) (inl refl)), tt), tt),
                 (
-                  (tt, tt),
+                  (tt, inl (_, gave 0 (inr (inr (inr (inr (inr (inr (inl refl))))))) (refl, refl), inl (inl itself))),
                   tt,
                 ),
               ),
@@ -163,7 +228,7 @@ module _ (word : ℕ → ℕ) where
                 (
                   ((inl (told _ (inr (inr (inr (inr (inr (inr (inl refl))))))) (inl refl)), tt), tt),
                   (
-                    (tt, tt),
+                    (tt, inl (_, gave 0 (inr (inr (inr (inr (inr (inr (inr (inl refl)))))))) (refl, refl), inl (inl itself))),
                     tt,
                   ),
                 ),
@@ -228,7 +293,7 @@ module _ (word : ℕ → ℕ) where
                                   (
                                     ((inl (told _ (inr (inr (inr (inr (inr (inr (inr (inr (inr (inr (inr (inr (inr (inr (inr (inl refl)))))))))))))))) (inl refl)), tt), tt),
                                     (
-                                      (tt, tt),
+                                      (tt, inl (_, gave 0 (inr (inr (inr (inr (inr (inr (inr (inr (inr (inr (inr (inr (inr (inr (inr (inr (inl refl))))))))))))))))) (refl, refl), inl (inl itself))),
                                       tt,
                                     ),
                                   ),

@@ -2,7 +2,7 @@
 use Rattle.std.proofs.Common.{◌≡◌, ℕ, Bool, true, false, List, [], ◌∷◌, ◌++◌, Option, None, if◌then◌else◌, refl, ap, ◌∙◌, subst, map, inl, inr, ◌==◌, Some}
 use Rattle.std.proofs.lemmas.Bool.{eqb-true}
 use Rattle.def_machine.specs.Values.{Words, Value, Ref, Naming, Own, Null}
-use Rattle.def_machine.specs.State.{Bound, Fixed, Slot, Binding, Scope, Ejector, Resolver, Message, Standing, Happened, Called, Back, Thrown, Left, Got, EjectorMade, PromiseMade, Sends, Reacts, Vat, Done, Gives, Throws, Ejects, Stops, Act, ◌>>=◌, ◌>>◌, and_then, end_by, ending, give, throw, eject, tell, new_thing, new_promise}
+use Rattle.def_machine.specs.State.{Bound, Fixed, Slot, Binding, Scope, Thing, Ejector, Resolver, Message, Standing, Happened, Called, Back, Thrown, Left, Got, EjectorMade, PromiseMade, Sends, Reacts, Vat, Done, Gives, Throws, Ejects, Stops, Act, ◌>>=◌, ◌>>◌, and_then, end_by, ending, give, throw, eject, tell, new_thing, new_promise}
 use Rattle.def_machine.specs.Refs as refs
 use Rattle.def_machine.specs.Refs.{Place, follow, settle, resolve}
 use Rattle.def_machine.specs.Native.{Reply}
@@ -13,16 +13,18 @@ use Rattle.def_kernel.specs.declared.node.Node.{Node}
 use Rattle.law_connected.specs.Known as known
 use Rattle.law_connected.specs.Known.{Item, AValue, ASlot, IsAmong, AllOf, tells, by, parts_of, parts_of_all}
 use Rattle.law_connected.specs.Connected.{Open, without_first, served, unless_begun, open_after, LineWell, GivenBack, uses, itself}
-use Rattle.law_connected.proofs.Traces.{among_last, TracesBy, traces_whole, traces_promise, traces_message, traces_lone_message}
-use Rattle.law_machine.proofs.Whole.{whole_settle, whole_resolve, whole_send_first, whole_react_at}
+use Rattle.law_connected.proofs.Traces.{among_last}
+use Rattle.law_connected.specs.Settlings.{sent}
+use Rattle.law_connected.proofs.Causes.{steady_promise, steady_message, steady_lone_message}
+use Rattle.law_connected.proofs.RefsCauses.{settles_well, resolves_well, sends_first, steady_react_at}
 use Rattle.law_connected.specs.News.{own_number}
 use Rattle.law_connected.proofs.Idle.{idle_promise, idle_message, idle_lone_message}
 use Rattle.law_connected.proofs.RefsIdle.{idle_settle, idle_resolve, idle_send_first, idle_react_at}
 use Rattle.law_connected.proofs.Ground.{Ground, opens, with_line, opens_last, held, Has, Knew, Grows, Good, grows_line, grows_trans, good_line}
-use Rattle.law_connected.proofs.Fine.{MayBe, Fact, Nothing, Also, IsAct, IsValue, AreValues, IsBound, IsScope, MayValue, MadeEjector, WasHanded, WasCalled, MayGive, IsReply, answer, answers, nothing, BoundKnown, NounKnown, Handed, Holds, Gets, Keeps, Passes, Ends, Fine, holds_up, still_holds, handed_up, passes_same, passes_trans, widen, fine_bind, fine_less, fine_then, fine_ending, fine_some, fine_some_name, fine_if, fine_give, fine_throw, fine_eject, fine_stop, fine_look, act_is, then_line, thing_block, uses_values, is_told, fine_left, fine_spend, fine_kill, bind_slot, bind_list, then_read, then_wrote, fine_idle}
-use Rattle.law_connected.proofs.Looks.{got, got_left, got_right, got_itself, got_both, got_nothing, got_null, got_flag, got_number, got_text, got_prim, got_none, got_more, got_no_lists, got_lists, got_act, got_with, got_fixed, got_slot, got_any, got_no_match, got_literal, got_safe, got_bound_in, got_asked, got_audition_ask, got_may_give, got_item, got_stamp, look_follow, look_list, look_cell, look_data, look_range, look_compared, look_null_or, look_taken, look_same, look_broken, look_thrown, look_test}
+use Rattle.law_connected.proofs.Fine.{MayBe, Fact, Nothing, Also, IsAct, IsValue, AreValues, IsBound, IsScope, MayValue, MadeEjector, WasHanded, WasCalled, MayGive, IsReply, answer, answers, nothing, BoundKnown, NounKnown, Handed, Holds, Gets, Keeps, Passes, Ends, Fine, holds_up, still_holds, handed_up, passes_same, passes_trans, widen, fine_bind, fine_less, fine_then, fine_ending, fine_some, fine_some_name, fine_if, fine_give, fine_throw, fine_eject, fine_stop, fine_look, act_is, then_line, thing_block, uses_values, is_told, fine_left, fine_spend, fine_kill, bind_slot, bind_list, then_read, then_wrote, fine_idle, fine_steady, Leads, IsPlaced, IsLine, GivenTo, MaySettle}
+use Rattle.law_connected.proofs.Looks.{got, got_left, got_right, got_itself, got_both, got_nothing, got_null, got_flag, got_number, got_text, got_prim, got_none, got_more, got_no_lists, got_lists, got_act, got_with, got_fixed, got_slot, got_any, got_no_match, got_literal, got_safe, got_bound_in, got_asked, got_audition_ask, got_may_give, got_item, got_stamp, look_follow, look_leads, look_place, look_list, look_cell, look_data, look_range, look_compared, look_null_or, look_taken, look_same, look_broken, look_thrown, look_test}
 
-module _ {N W : Type 0} (K : Naming N W) (E : Ground N) (a : ℕ) where
+module _ {N W : Type 0} (K : Naming N W) (E : Ground N W) (a : ℕ) where
   -- ---- by what is given
 
   pub then_unit : {B : Type 0} {C : Fact N} {m : Act N (Unit {0})} {n : Act N B} {H : B → Fact N} → Fine K E a C m nothing → Fine K E a C n H → Fine K E a C (m >> n) H
@@ -83,55 +85,59 @@ module _ {N W : Type 0} (K : Naming N W) (E : Ground N) (a : ℕ) where
 
   -- ---- references
 
-  pub fine_settle : {C : Fact N} (p : N) (y : Value N) → Fine K E a C (settle K p y) nothing
-  fine_settle p y = fine_idle K E a (idle_settle K p y) (whole_settle (TracesBy K E.before) K (traces_whole K E.before) p y)
+  pub fine_settle : {C : Fact N} (p : N) (y : Value N) → Gets K E a C (MaySettle p y) → Fine K E a C (settle K p y) nothing
+  fine_settle p y g = fine_idle K E a (idle_settle K p y) (λ s h c. settles_well K E.start p y s h (g.at s c))
 
-  pub fine_resolve : {C : Fact N} (p : N) (y : Value N) → Fine K E a C (resolve K p y) nothing
-  fine_resolve p y = fine_idle K E a (idle_resolve K p y) (whole_resolve (TracesBy K E.before) K (traces_whole K E.before) p y)
+  pub fine_resolve : {C : Fact N} (p : N) (x : Value N) → Gets K E a C (GivenTo p x) → Fine K E a C (resolve K p x) nothing
+  fine_resolve p x g = fine_idle K E a (idle_resolve K p x) (λ s h c. resolves_well K E.start p x s h (g.at s c))
 
   pub fine_promise : {C : Fact N} → Fine K E a C (new_promise K) nothing
-  fine_promise = fine_idle K E a (idle_promise K) (traces_promise K E.before)
+  fine_promise = fine_steady K E a (idle_promise K) (steady_promise K E.start)
 
-  sends_now : {B : Type 0} {C : Fact N} (m : Message N) (n : N) → m.answer ≡ Some n → {k : Act N B} {H : B → Fact N} → Gets K E a C (IsValue m.target) → Gets K E a C (AreValues m.args) → Fine K E a (Also C (IsValue (Ref n))) k H → Fine K E a C (tell (Sends a m) >> k) H
+  sends_now : {B : Type 0} {C : Fact N} (m : Message N) (n : N) → m.answer ≡ Some n → {k : Act N B} {H : B → Fact N} → Gets K E a C (IsValue m.target) → Gets K E a C (AreValues m.args) → Fine K E a (Also C (Also (IsValue (Ref n)) (IsLine (Sends a m)))) k H → Fine K E a C (tell (Sends a m) >> k) H
   unfolding uses by tells known.answers open_after itself
-  sends_now m n e g i h = then_line K E a (Sends a m) refl refl refl (λ s. refl) (λ s o c. (uses_values K E a s [] (m.target ∷ m.args) (g.at s c, i.at s c), tt)) (λ s c. tt) (λ s c. is_told K E a s (Sends a m) (AValue (Ref n)) (rw e (inl refl))) h
+  sends_now m n e g i h = then_line K E a (Sends a m) refl refl refl (λ so. tt) (λ s. refl) (λ s o c. (uses_values K E a s [] (m.target ∷ m.args) (g.at s c, i.at s c), tt)) (λ s c. tt) (λ s c. (is_told K E a s (Sends a m) (AValue (Ref n)) (rw e (inl refl)), among_last s.happened (Sends a m))) h
 
   sends_lone : {B : Type 0} {C : Fact N} (m : Message N) {k : Act N B} {H : B → Fact N} → Gets K E a C (IsValue m.target) → Gets K E a C (AreValues m.args) → Fine K E a C k H → Fine K E a C (tell (Sends a m) >> k) H
   unfolding uses by open_after itself
-  sends_lone m g i h = then_line K E a {D = Nothing} (Sends a m) refl refl refl (λ s. refl) (λ s o c. (uses_values K E a s [] (m.target ∷ m.args) (g.at s c, i.at s c), tt)) (λ s c. tt) (λ s c. tt) (fine_left K E a h)
+  sends_lone m g i h = then_line K E a {D = Nothing} (Sends a m) refl refl refl (λ so. tt) (λ s. refl) (λ s o c. (uses_values K E a s [] (m.target ∷ m.args) (g.at s c, i.at s c), tt)) (λ s c. tt) (λ s c. tt) (fine_left K E a h)
 
   then_sends_lone : {B : Type 0} {C : Fact N} (act : ℕ) (m : Message N) {k : Act N B} {H : B → Fact N} → Gets K E a C (IsAct act) → Gets K E a C (IsValue m.target) → Gets K E a C (AreValues m.args) → Fine K E a C k H → Fine K E a C (tell (Sends act m) >> k) H
   then_sends_lone act m {k = k} i g j h = act_is K E a act (λ b. tell (Sends b m) >> k) i (sends_lone m g j h)
 
-  then_sends : {B : Type 0} {C : Fact N} (act : ℕ) (m : Message N) (n : N) → m.answer ≡ Some n → {k : Act N B} {H : B → Fact N} → Gets K E a C (IsAct act) → Gets K E a C (IsValue m.target) → Gets K E a C (AreValues m.args) → Fine K E a (Also C (IsValue (Ref n))) k H → Fine K E a C (tell (Sends act m) >> k) H
+  then_sends : {B : Type 0} {C : Fact N} (act : ℕ) (m : Message N) (n : N) → m.answer ≡ Some n → {k : Act N B} {H : B → Fact N} → Gets K E a C (IsAct act) → Gets K E a C (IsValue m.target) → Gets K E a C (AreValues m.args) → Fine K E a (Also C (Also (IsValue (Ref n)) (IsLine (Sends a m)))) k H → Fine K E a C (tell (Sends act m) >> k) H
   then_sends act m n e {k = k} i g j h = act_is K E a act (λ b. tell (Sends b m) >> k) i (sends_now m n e g j h)
 
   pub fine_send : {C : Fact N} (act : ℕ) → Gets K E a C (IsAct act) → (x : Value N) → Gets K E a C (IsValue x) → (verb : Words) (args : List (Value N)) → Gets K E a C (AreValues args) → Fine K E a C (refs.send K act x verb args) IsValue
   unfolding refs.send
-  fine_send {C = C} act i x g verb args h = fine_less K E a nothing (fine_look K E a _) (λ y. fine_less K E a nothing (fine_look K E a _) (λ p. fine_less K E a nothing (fine_look K E a _) (λ v.
-      fine_less K E a nothing (fine_idle K E a (idle_message K _) (traces_message K E.before _)) (λ new.
-      then_sends act (record { id = new.0; target = x; verb = verb; args = args; answer = Some new.1 }) new.1 refl i g h
-      (fine_then K E a nothing (fine_idle K E a (idle_send_first K _ y p) (whole_send_first (TracesBy K E.before) K (traces_whole K E.before) _ y p)) (fine_give K E a (Ref new.1) (got K E a C (IsValue (Ref new.1)))))))))
+  fine_send {C = C} act i x g verb args h = fine_bind K E a (λ y. Also (IsValue y) (Leads x y)) (look_leads K E a x g) (λ y. fine_bind K E a (IsPlaced y) (look_place K E a y) (λ p. let D : Fact N = Also (Also C (Also (IsValue y) (Leads x y))) (IsPlaced y p) in
+      fine_less K E a {C = D} nothing (fine_look K E a _) (λ v. fine_less K E a nothing (fine_steady K E a (idle_message K _) (steady_message K E.start _)) (λ new.
+      then_sends act (record { id = new.0; target = x; verb = verb; args = args; answer = Some new.1 }) new.1 refl (record { at = λ s c. i.at s c.0.0 }) (record { at = λ s c. g.at s c.0.0 }) (record { at = λ s c. h.at s c.0.0 })
+      (fine_then K E a nothing (fine_idle K E a (idle_send_first K _ y p) (λ s d c. sends_first K E.start _ y p c.0.1 s d (λ q e. (x, sent a (record { id = new.0; target = x; verb = verb; args = args; answer = Some new.1 }) c.1.1 e, c.0.0.1.1))))
+      (fine_give K E a (Ref new.1) (record { at = λ s c. c.1.0 })))))))
+
+  no_answer : (q : N) → None ≡ Some q → ⊥
+  no_answer q e = cc
 
   pub fine_send_only : {C : Fact N} (act : ℕ) → Gets K E a C (IsAct act) → (x : Value N) → Gets K E a C (IsValue x) → (verb : Words) (args : List (Value N)) → Gets K E a C (AreValues args) → Fine K E a C (refs.send_only K act x verb args) IsValue
   unfolding refs.send_only
-  fine_send_only {C = C} act i x g verb args h = fine_less K E a nothing (fine_look K E a _) (λ y. fine_less K E a nothing (fine_look K E a _) (λ p.
-      fine_less K E a nothing (fine_idle K E a (idle_lone_message K) (traces_lone_message K E.before)) (λ id.
-      then_sends_lone act (record { id = id; target = x; verb = verb; args = args; answer = None }) i g h
-      (fine_then K E a nothing (fine_idle K E a (idle_send_first K _ y p) (whole_send_first (TracesBy K E.before) K (traces_whole K E.before) _ y p)) (fine_give K E a Null (got_null K E a C))))))
+  fine_send_only {C = C} act i x g verb args h = fine_less K E a nothing (fine_look K E a _) (λ y. fine_bind K E a (IsPlaced y) (look_place K E a y) (λ p.
+      fine_less K E a {C = Also C (IsPlaced y p)} nothing (fine_steady K E a (idle_lone_message K) (steady_lone_message K E.start)) (λ id.
+      then_sends_lone act (record { id = id; target = x; verb = verb; args = args; answer = None }) (record { at = λ s c. i.at s c.0 }) (record { at = λ s c. g.at s c.0 }) (record { at = λ s c. h.at s c.0 })
+      (fine_then K E a nothing (fine_idle K E a (idle_send_first K _ y p) (λ s d c. sends_first K E.start _ y p c.1 s d (λ q e. absurd (no_answer q e)))) (fine_give K E a Null (got_null K E a (Also C (IsPlaced y p))))))))
 
-  reacts_now : {B : Type 0} {C : Fact N} (x o : Value N) (m : Message N) (n : N) → m.answer ≡ Some n → {k : Act N B} {H : B → Fact N} → Gets K E a C (IsValue x) → Gets K E a C (IsValue o) → Fine K E a (Also C (IsValue (Ref n))) k H → Fine K E a C (tell (Reacts a x o m) >> k) H
+  reacts_now : {B : Type 0} {C : Fact N} (x o : Value N) (m : Message N) (n : N) → m.answer ≡ Some n → {k : Act N B} {H : B → Fact N} → Gets K E a C (IsValue x) → Gets K E a C (IsValue o) → Gets K E a C (Leads o m.target) → Fine K E a (Also C (IsValue (Ref n))) k H → Fine K E a C (tell (Reacts a x o m) >> k) H
   unfolding uses by tells known.answers open_after itself
-  reacts_now x o m n e g i h = then_line K E a (Reacts a x o m) refl refl refl (λ s. refl) (λ s q c. (uses_values K E a s [] (x ∷ o ∷ []) (g.at s c, (i.at s c, tt)), tt)) (λ s c. tt) (λ s c. is_told K E a s (Reacts a x o m) (AValue (Ref n)) (rw e (inl refl))) h
+  reacts_now x o m n e g i l h = then_line K E a (Reacts a x o m) refl refl refl (λ so. tt) (λ s. refl) (λ s q c. (uses_values K E a s [] (x ∷ o ∷ []) (g.at s c, (i.at s c, tt)), l.at s c)) (λ s c. tt) (λ s c. is_told K E a s (Reacts a x o m) (AValue (Ref n)) (rw e (inl refl))) h
 
-  then_reacts : {B : Type 0} {C : Fact N} (act : ℕ) (x o : Value N) (m : Message N) (n : N) → m.answer ≡ Some n → {k : Act N B} {H : B → Fact N} → Gets K E a C (IsAct act) → Gets K E a C (IsValue x) → Gets K E a C (IsValue o) → Fine K E a (Also C (IsValue (Ref n))) k H → Fine K E a C (tell (Reacts act x o m) >> k) H
-  then_reacts act x o m n e {k = k} i g j h = act_is K E a act (λ b. tell (Reacts b x o m) >> k) i (reacts_now x o m n e g j h)
+  then_reacts : {B : Type 0} {C : Fact N} (act : ℕ) (x o : Value N) (m : Message N) (n : N) → m.answer ≡ Some n → {k : Act N B} {H : B → Fact N} → Gets K E a C (IsAct act) → Gets K E a C (IsValue x) → Gets K E a C (IsValue o) → Gets K E a C (Leads o m.target) → Fine K E a (Also C (IsValue (Ref n))) k H → Fine K E a C (tell (Reacts act x o m) >> k) H
+  then_reacts act x o m n e {k = k} i g j l h = act_is K E a act (λ b. tell (Reacts b x o m) >> k) i (reacts_now x o m n e g j l h)
 
-  pub fine_react : {C : Fact N} (act : ℕ) → Gets K E a C (IsAct act) → (x : Value N) → Gets K E a C (IsValue x) → (o : Value N) → Gets K E a C (IsValue o) → (near : Value N) → Fine K E a C (refs.react K act x o near) IsValue
+  pub fine_react : {C : Fact N} (act : ℕ) → Gets K E a C (IsAct act) → (x : Value N) → Gets K E a C (IsValue x) → (o : Value N) → Gets K E a C (IsValue o) → (near : Value N) → Gets K E a C (Leads o near) → Fine K E a C (refs.react K act x o near) IsValue
   unfolding refs.react refs.reaction
-  fine_react {C = C} act i x g o h near = fine_less K E a nothing (fine_look K E a _) (λ v. fine_less K E a nothing (fine_idle K E a (idle_message K v) (traces_message K E.before v)) (λ new.
-      then_reacts act x o (refs.reaction K new.0 near x new.1) new.1 refl i g h
-      (fine_less K E a nothing (fine_look K E a _) (λ p. fine_then K E a nothing (fine_idle K E a (idle_react_at K _ p) (whole_react_at (TracesBy K E.before) K (traces_whole K E.before) _ p)) (fine_give K E a (Ref new.1) (got K E a C (IsValue (Ref new.1))))))))
+  fine_react {C = C} act i x g o h near l = fine_less K E a nothing (fine_look K E a _) (λ v. fine_less K E a nothing (fine_steady K E a (idle_message K v) (steady_message K E.start v)) (λ new.
+      then_reacts act x o (refs.reaction K new.0 near x new.1) new.1 refl i g h l
+      (fine_less K E a nothing (fine_look K E a _) (λ p. fine_then K E a nothing (fine_steady K E a (idle_react_at K _ p) (steady_react_at K E.start _ p)) (fine_give K E a (Ref new.1) (got K E a C (IsValue (Ref new.1))))))))
 
   -- ---- ejectors
 
@@ -145,17 +151,23 @@ module _ {N W : Type 0} (K : Naming N W) (E : Ground N) (a : ℕ) where
   module _ (spots : (i : ℕ) → K.spot (K.object i) ≡ Own i) where
     got_now : {B : Type 0} {C : Fact N} (j : ℕ) (v : Value N) {m : Act N B} {H : B → Fact N} → Gets K E a C (MadeEjector j) → Gets K E a C (WasHanded j v) → Fine K E a (Also C (IsValue v)) m H → Fine K E a C (tell (Got a v) >> m) H
     unfolding uses by tells open_after
-    got_now j v g i h = then_line K E a (Got a v) refl refl refl (λ s. refl) (λ s q c. let w = i.at s c in (tt, (w.0, j, w.1, w.2, w.3, K.object j, w.4, w.5, g.at s c, spots j, w.6))) (λ s c. tt) (λ s c. is_told K E a s (Got a v) (AValue v) (inl refl)) h
+    got_now j v g i h = then_line K E a (Got a v) refl refl refl (λ so. tt) (λ s. refl) (λ s q c. let w = i.at s c in (tt, (w.0, j, w.1, w.2, w.3, K.object j, w.4, w.5, g.at s c, spots j, w.6))) (λ s c. tt) (λ s c. is_told K E a s (Got a v) (AValue v) (inl refl)) h
 
     -- what an activation gets was handed to an ejector that it made
     pub then_got : {B : Type 0} {C : Fact N} (act j n : ℕ) (v : Value N) {m : Act N B} {H : B → Fact N} → Gets K E a C (IsAct act) → n ≡ j → Gets K E a C (MadeEjector j) → Gets K E a C (WasHanded n v) → Fine K E a (Also C (IsValue v)) m H → Fine K E a C (tell (Got act v) >> m) H
     then_got {C = C} act j n v {m = m} i e g k h = act_is K E a act (λ b. tell (Got b v) >> m) i (got_now j v g (subst (λ l. Gets K E a C (WasHanded l v)) e k) h)
 
   module _ (spots : (i : ℕ) → K.spot (K.object i) ≡ Own i) where
+    no_resolver : (p : N) → Ejector true ≡ Resolver p → ⊥
+    no_resolver p e = cc
+
+    same_promise : (p q : N) → ◌≡◌ {A = Thing N} (Resolver p) (Resolver q) → p ≡ q
+    same_promise p q e = cc
+
     fine_ejector : (tree : List Node) {C : Fact N} (act : ℕ) → Gets K E a C (IsAct act) → Fine K E a C (calls.new_ejector K tree act) (λ j. Also (IsValue (Ref (K.object j))) (MadeEjector j))
     unfolding calls.new_ejector uses by tells open_after itself
     fine_ejector tree {C = C} act i = act_is K E a act (λ b. new_thing (Ejector true) >>= (λ j. tell (EjectorMade b (K.object j)) >> give j)) i
-        (thing_block K E a (Ejector true) tt (λ j. EjectorMade a (K.object j)) (λ n. ap own_number (spots n)) (λ n. refl) (λ n. refl) (λ so n. tt) (λ j. Also (IsValue (Ref (K.object j))) (MadeEjector j)) (λ s n. refl) (λ s n. (tt, tt))
+        (thing_block K E a (Ejector true) tt (λ j. EjectorMade a (K.object j)) (λ n. ap own_number (spots n)) (λ n. refl) (λ n. refl) (λ so n. tt) (λ so n. tt) (λ so n p e. absurd (no_resolver p e)) (λ j. Also (IsValue (Ref (K.object j))) (MadeEjector j)) (λ s n. refl) (λ s n. (tt, tt))
         (λ s j. (is_told K E a s (EjectorMade a (K.object j)) (AValue (Ref (K.object j))) (inl refl), among_last s.happened (EjectorMade a (K.object j)))) (λ j. fine_give K E a j (got K E a C (Also (IsValue (Ref (K.object j))) (MadeEjector j)))))
 
     pub bind_ejector : {B : Type 0} (tree : List Node) {C : Fact N} (act : ℕ) {f : ℕ → Act N B} {H : B → Fact N} → Gets K E a C (IsAct act) → ((j : ℕ) → Fine K E a (Also C (Also (IsValue (Ref (K.object j))) (MadeEjector j))) (f j) H) → Fine K E a C (calls.new_ejector K tree act >>= f) H
@@ -163,7 +175,7 @@ module _ {N W : Type 0} (K : Naming N W) (E : Ground N) (a : ℕ) where
 
     resolver_now : {B : Type 0} {C : Fact N} (p : N) {f : ℕ → Act N B} {H : B → Fact N} → ((r : ℕ) → Fine K E a (Also C (Also (IsValue (Ref p)) (IsValue (Ref (K.object r))))) (f r) H) → Fine K E a C (new_thing (Resolver p) >>= (λ r. tell (PromiseMade a p (K.object r)) >> f r)) H
     unfolding uses by tells open_after
-    resolver_now p h = thing_block K E a (Resolver p) tt (λ r. PromiseMade a p (K.object r)) (λ n. ap own_number (spots n)) (λ n. refl) (λ n. refl) (λ so n. tt) (λ r. Also (IsValue (Ref p)) (IsValue (Ref (K.object r)))) (λ s n. refl) (λ s n. (tt, tt))
+    resolver_now p h = thing_block K E a (Resolver p) tt (λ r. PromiseMade a p (K.object r)) (λ n. ap own_number (spots n)) (λ n. refl) (λ n. refl) (λ so n. tt) (λ so n. tt) (λ so n q e. inr (a, K.object n, subst (λ z. IsAmong (PromiseMade a z (K.object n)) (so ++ PromiseMade a p (K.object n) ∷ [])) (same_promise p q e) (among_last so _), spots n)) (λ r. Also (IsValue (Ref p)) (IsValue (Ref (K.object r)))) (λ s n. refl) (λ s n. (tt, tt))
         (λ s r. (is_told K E a s (PromiseMade a p (K.object r)) (AValue (Ref p)) (inl refl), is_told K E a s (PromiseMade a p (K.object r)) (AValue (Ref (K.object r))) (inr (inl refl)))) h
 
     pub bind_resolver : {B : Type 0} {C : Fact N} (act : ℕ) (p : N) {f : ℕ → Act N B} {H : B → Fact N} → Gets K E a C (IsAct act) → ((r : ℕ) → Fine K E a (Also C (Also (IsValue (Ref p)) (IsValue (Ref (K.object r))))) (f r) H) → Fine K E a C (new_thing (Resolver p) >>= (λ r. tell (PromiseMade act p (K.object r)) >> f r)) H
@@ -197,9 +209,9 @@ module _ {N W : Type 0} (K : Naming N W) (E : Ground N) (a : ℕ) where
 
   pub ended_ends : (s : Vat N) (x : Value N) (o : Option ℕ) (d : Done N (Value N)) → CallEnds s x o d → Ends K E a IsValue s (end_by (λ v. tell (Back a v) >> give v) (λ p. tell (Thrown a p) >> throw p) (λ n v. tell (Left a) >> eject n v) d)
   unfolding end_by tell ◌>>◌ and_then give throw eject open_after tells by uses
-  ended_ends s x o (Gives v t) h = (after_call s t x o (Back a v) h.0 refl, good_line K E t (Back a v) refl refl refl h.1 (back_well t x v o (opens s) h.0.1 h.2) tt, is_told K E a t (Back a v) (AValue v) (inl refl))
-  ended_ends s x o (Throws p t) h = (after_call s t x o (Thrown a p) h.0 refl, good_line K E t (Thrown a p) refl refl refl h.1 (tt, tt) tt)
-  ended_ends s x o (Ejects n v t) h = (after_call s t x o (Left a) h.0 refl, good_line K E t (Left a) refl refl refl h.1 (tt, tt) tt, handed_up K E a t (with_line t (Left a)) (grows_line K E t (Left a)) n v h.2)
+  ended_ends s x o (Gives v t) h = (after_call s t x o (Back a v) h.0 refl, good_line K E t (Back a v) refl refl refl tt h.1 (back_well t x v o (opens s) h.0.1 h.2) tt, is_told K E a t (Back a v) (AValue v) (inl refl))
+  ended_ends s x o (Throws p t) h = (after_call s t x o (Thrown a p) h.0 refl, good_line K E t (Thrown a p) refl refl refl tt h.1 (tt, tt) tt)
+  ended_ends s x o (Ejects n v t) h = (after_call s t x o (Left a) h.0 refl, good_line K E t (Left a) refl refl refl tt h.1 (tt, tt) tt, handed_up K E a t (with_line t (Left a)) (grows_line K E t (Left a)) n v h.2)
   ended_ends s x o (Stops c t) h = h
 
   pub begins : (s : Vat N) (x : Value N) (verb : Words) (args : List (Value N)) (o : Option ℕ) → Begun s (with_line s (Called a x verb args o)) x o
@@ -218,7 +230,7 @@ module _ {N W : Type 0} (K : Naming N W) (E : Ground N) (a : ℕ) where
   unfolding scopes.with_lines scopes.ended ending tell ◌>>◌ and_then served unless_begun
   lines_now D x verb args m k d g h f = record {
     after = λ s i c. let t : Vat N = with_line s (Called a x verb args None) in let b : Begun s t x None = begins s x verb args None in
-        ended_ends s x None (m t) (given_ends s t x (m t) b (f.after t (good_line K E s (Called a x verb args None) refl refl refl i (called_well s x verb args None (g.at s c) (h.at s c)) tt)
+        ended_ends s x None (m t) (given_ends s t x (m t) b (f.after t (good_line K E s (Called a x verb args None) refl refl refl tt i (called_well s x verb args None (g.at s c) (h.at s c)) tt)
         (holds_up K E a s t b.0 D (k s t) (d.at s c), (a, among_last s.happened (Called a x verb args None), ap served b.1))));
   }
 
@@ -243,4 +255,4 @@ pub ruleset gets = (got, got_left, got_right, got_itself, got_both, got_nothing,
 
 pub ruleset looks = (look_follow, look_list, look_cell, look_data, look_range, look_compared, look_null_or, look_taken, look_same, look_broken, look_thrown, look_test)
 
-pub ruleset fine = (gets, then_read, then_wrote, bind_list, bind_slot, bind_ejector, bind_resolver, then_unit, then_value, then_answer, bind_number, bind_name, bind_flag, bind_place, bind_standing, bind_value, bind_values, bind_scope, bind_answer, bind_answers, bind_may_value, bind_reply, bind_bound, end_scope, end_answer, fine_some, fine_some_name, fine_if, fine_give, fine_throw, fine_eject, fine_stop, fine_look, fine_spend, fine_kill, fine_settle, fine_resolve, fine_promise, looks)
+pub ruleset fine = (gets, then_read, then_wrote, bind_list, bind_slot, bind_ejector, bind_resolver, then_unit, then_value, then_answer, bind_number, bind_name, bind_flag, bind_place, bind_standing, bind_value, bind_values, bind_scope, bind_answer, bind_answers, bind_may_value, bind_reply, bind_bound, end_scope, end_answer, fine_some, fine_some_name, fine_if, fine_give, fine_throw, fine_eject, fine_stop, fine_look, fine_spend, fine_kill, fine_promise, looks)

@@ -7,7 +7,7 @@ use Rattle.def_machine.specs.Arrive.{notice}
 use Rattle.def_machine.specs.Eval.{opening}
 use Rattle.law_machine.specs.Steps.{Step, Opens as Starts, Takes, Receives, Notices, does, After}
 use Rattle.def_run.specs.World as world
-use Rattle.def_run.specs.World.{Script, Program, Opens, Entry, Turn, Carry, CutLink, NoticeLink, Event, Here, Turned, Idle, Carried, CutAt, NoticedAt, Link, World, Run, Goes, Stopped, names, names_of, read_note, begins}
+use Rattle.def_run.specs.World.{Script, Program, Opens, Entry, Turn, Carry, CutLink, NoticeLink, Event, Here, Turned, Idle, Carried, CutAt, NoticedAt, Ends, Link, World, Run, Goes, Stopped, names, names_of, read_note, begins}
 use Rattle.law_connected.specs.Known.{Item, AValue, IsAmong, AllOf, Holdings, Knows, by, values}
 use Rattle.law_connected.specs.Connected.{uses, itself, LineWell, ConnectedAfter, Connected, held_from}
 use Rattle.law_connected.specs.Liveness.{live_at, LeavesDead}
@@ -21,9 +21,9 @@ use Rattle.law_fate.proofs.RunCounts.{pick}
 use Rattle.law_connected.specs.Stems as stems
 use Rattle.law_connected.specs.Stems.{HasLine, Stems}
 use Rattle.law_connected.specs.MessageLaws.{AllStem}
-use Rattle.law_connected.specs.Begotten.{IsReached, start, opened, entered, IsConnected, Knew, Begotten, sent, reacted, carried, LinesConnected, TakenBegotten}
-use Rattle.law_connected.proofs.Events.{among_either, events_here, IsNobodys, nobodys_join, lost_on_nobodys}
-use Rattle.law_connected.proofs.RunStems.{put_each, one_line, messages_stem}
+use Rattle.law_connected.specs.Begotten.{AreRoots, IsTaken, IsReached, start, opened, entered, IsConnected, Knew, Begotten, sent, reacted, carried, LinesConnected, TakenBegotten}
+use Rattle.law_connected.proofs.Events.{among_either, events_here, IsNobodys, nobodys_join, lost_on_nobodys, vats_nobodys, links_nobodys}
+use Rattle.law_connected.proofs.RunStems.{put_each, one_line, messages_stem, ended_stem}
 
 -- ---- one more line
 
@@ -36,7 +36,7 @@ end_none [] = refl
 end_none (x ∷ xs) = ap (λ r. x ∷ r) (end_none xs)
 
 -- where a line stands among connected lines, and that it is well there
-module _ (script : Script) (v : ℕ) (h : Holdings Name) where
+module _ (script : Script) (v : ℕ) (h : Holdings Name Name) where
   abbrev pub StandsIn : List (Happened Name) → List (Happened Name) → Happened Name → Type 0
   StandsIn so es e = (s : List (Happened Name)) × (rest : List (Happened Name)) × (es ≡ s ++ e ∷ rest) × LineWell (names script v) h (so ++ s) e
 
@@ -69,6 +69,7 @@ module _ (script : Script) where
       real = l.real;
       here = l.here;
       ready = l.ready;
+      taken = l.taken;
       later = l.later ++ more;
       stepped = l.stepped;
       together = i ∙ ap (λ z. z ++ more) l.together ∙ joined (l.from.history ++ l.head ++ world.events_of l.links v l.after.happened) l.later more;
@@ -99,12 +100,12 @@ module _ (script : Script) where
   Next v w head t = record { fuel = t.fuel; drawn = t.drawn; vats = world.put_at v t w.vats; links = world.push_all v t.outbox w.links; connections = world.connections_after v t head w.connections; history = w.history ++ head ++ world.events_of w.links v t.happened }
 
   -- a vat that is made ready for a step in a world of the run, in which this has happened
-  abbrev Real : List Event → ℕ → Vat Name → Type 0
-  Real es v r = (y : World) × (s : Vat Name) × (ms : List (Message Name)) × IsReached script y × (slice_get y.vats v ≡ Some s) × (r ≡ world.readied y (record s { queue = ms })) × (y.history ≡ es)
+  abbrev Real : List Event → ℕ → Vat Name → List Event → Step Name Name → Type 0
+  Real es v r head step = (y : World) × (s : Vat Name) × (ms : List (Message Name)) × IsReached script y × (slice_get y.vats v ≡ Some s) × (r ≡ world.readied y (record s { queue = ms })) × (y.history ≡ es) × IsTaken script y v s ms head step
 
   -- a step whose lines are connected
   next_knows : (v : ℕ) (w : World) (head : List Event) (r t : Vat Name) (step : Step Name Name) → does (names script v) step r ≡ Gives tt t → IsNobodys head → ((n : ℕ) → live_at r.things n ≡ false)
-      → ((n : ℕ) → live_at t.things n ≡ true → live_at r.things n ≡ true) → Connected (names script v) (held_from step r t) t.happened → Real w.history v r → WorldKnows w
+      → ((n : ℕ) → live_at t.things n ≡ true → live_at r.things n ≡ true) → Connected (names script v) (held_from step r t) t.happened → Real w.history v r head step → WorldKnows w
       → WorldKnows (Next v w head t)
   next_knows v w head r t step d none still dies c real h = record {
     still = λ u s e. put_each (λ n z. (i : ℕ) → live_at z.things i ≡ false) v t w.vats (λ n. not_true (live_at t.things n) (λ e. false_true (live_at r.things n) (still n) (dies n e))) h.still u s e;
@@ -131,6 +132,7 @@ module _ (script : Script) where
           real = real.3;
           here = real.4;
           ready = real.5;
+          taken = real.7;
           later = [];
           stepped = d;
           together = sym (end_none _) ∙ ap (λ z. z ++ head ++ world.events_of w.links v t.happened ++ []) (sym real.6);
@@ -144,14 +146,14 @@ module _ (script : Script) where
       either u e (inr m) = let i = events_here w.links v u e t.happened m in subst (λ z. IsConnected script (Next v w head t) z e) (sym i.0) (here e i.1)
 
   put_back_knows : (v : ℕ) (w : World) (head : List Event) (n : ℕ) (r : Vat Name) (step : Step Name Name) (d : Done Name (Unit {0})) → does (names script v) step r ≡ d → IsNobodys head → ((i : ℕ) → live_at r.things i ≡ false)
-      → LeavesDead r d → After (λ s t. Connected (names script v) (held_from step s t) t.happened) r d → Real w.history v r → WorldKnows w → Reached WorldKnows (world.put_back v w head n d)
+      → LeavesDead r d → After (λ s t. Connected (names script v) (held_from step s t) t.happened) r d → Real w.history v r head step → WorldKnows w → Reached WorldKnows (world.put_back v w head n d)
   unfolding world.put_back
   put_back_knows v w head n r step (Gives u t) e none still dies c real h = next_knows v w head r t step e none still dies c real h
   put_back_knows v w head n r step (Throws x t) e none still dies c real h = h
   put_back_knows v w head n r step (Ejects i y t) e none still dies c real h = h
   put_back_knows v w head n r step (Stops x t) e none still dies c real h = h
 
-  within_knows : (v : ℕ) (w : World) (head : List Event) (n : ℕ) (step : Step Name Name) (s : Vat Name) (ms : List (Message Name)) → slice_get w.vats v ≡ Some s → IsNobodys head → Real w.history v (world.readied w (record s { queue = ms })) → WorldKnows w
+  within_knows : (v : ℕ) (w : World) (head : List Event) (n : ℕ) (step : Step Name Name) (s : Vat Name) (ms : List (Message Name)) → slice_get w.vats v ≡ Some s → IsNobodys head → Real w.history v (world.readied w (record s { queue = ms })) head step → WorldKnows w
       → Reached WorldKnows (world.within v w head n (does (names script v) step) (Some (record s { queue = ms })))
   unfolding world.within world.readied
   within_knows v w head n step s ms at none real h = let r : Vat Name = world.readied w (record s { queue = ms }) in
@@ -161,35 +163,35 @@ module _ (script : Script) where
   unfolding world.idle
   idle_knows k w h = moved_knows w _ (Idle k ∷ []) refl refl (one_line (Idle k) (λ u f e. cc)) h
 
-  turn_queue_knows : (k v : ℕ) (w : World) (s : Vat Name) (ms : List (Message Name)) → slice_get w.vats v ≡ Some s → IsReached script w → WorldKnows w → Reached WorldKnows (world.turn_queue script k v w s ms)
+  turn_queue_knows : (k v : ℕ) (w : World) (s : Vat Name) (ms : List (Message Name)) → s.queue ≡ ms → slice_get w.vats v ≡ Some s → IsReached script w → WorldKnows w → Reached WorldKnows (world.turn_queue script k v w s ms)
   unfolding world.turn_queue does
-  turn_queue_knows k v w s [] at real h = idle_knows k w h
-  turn_queue_knows k v w s (m ∷ ms) at real h = within_knows v w (Turned k v ∷ []) (world.step_number script k) (Takes (world.tree_at script.vats v) script.depth m) s ms at (one_line (Turned k v) (λ u f i. cc)) (w, s, ms, real, at, refl, refl) h
+  turn_queue_knows k v w s [] q at real h = idle_knows k w h
+  turn_queue_knows k v w s (m ∷ ms) q at real h = within_knows v w (Turned k v ∷ []) (world.step_number script k) (Takes (world.tree_at script.vats v) script.depth m) s ms at (one_line (Turned k v) (λ u f i. cc)) (w, s, ms, real, at, refl, refl, (k, refl, q, refl, refl)) h
 
   turn_knows : (k v : ℕ) (w : World) (o : Option (Vat Name)) → slice_get w.vats v ≡ o → IsReached script w → WorldKnows w → Reached WorldKnows (world.turn script k v w o)
   unfolding world.turn
   turn_knows k v w None e real h = idle_knows k w h
-  turn_knows k v w (Some s) e real h = turn_queue_knows k v w s s.queue e real h
+  turn_knows k v w (Some s) e real h = turn_queue_knows k v w s s.queue refl e real h
 
-  arrives_knows : (k v to : ℕ) (w : World) (n : Note Name) (o : Option (Vat Name)) → slice_get w.vats to ≡ o → ((s : Vat Name) → slice_get w.vats to ≡ Some s → Real w.history to (world.readied w (record s { queue = s.queue }))) → WorldKnows w → Reached WorldKnows (world.arrives script k v to w n o)
+  arrives_knows : (k v to : ℕ) (w : World) (n : Note Name) (o : Option (Vat Name)) → slice_get w.vats to ≡ o → ((s : Vat Name) (bytes : List ℕ) → slice_get w.vats to ≡ Some s → Real w.history to (world.readied w (record s { queue = s.queue })) (Carried k v to n bytes ∷ []) (Receives v (read_note (names_of s) n))) → WorldKnows w → Reached WorldKnows (world.arrives script k v to w n o)
   unfolding world.arrives does
   arrives_knows k v to w n None e real h = idle_knows k w h
-  arrives_knows k v to w n (Some s) e real h = within_knows to w (Carried k v to n (world.next_frame v to w.connections) ∷ []) (world.step_number script k) (Receives v (read_note (names_of s) n)) s s.queue e (one_line (Carried k v to n (world.next_frame v to w.connections)) (λ u f i. cc)) (real s e) h
+  arrives_knows k v to w n (Some s) e real h = within_knows to w (Carried k v to n (world.next_frame v to w.connections) ∷ []) (world.step_number script k) (Receives v (read_note (names_of s) n)) s s.queue e (one_line (Carried k v to n (world.next_frame v to w.connections)) (λ u f i. cc)) (real s (world.next_frame v to w.connections) e) h
 
-  carry_notes_knows : (k v to : ℕ) (w : World) (ns : List (Note Name)) → IsReached script w → WorldKnows w → Reached WorldKnows (world.carry_notes script k v to w ns)
+  carry_notes_knows : (k v to : ℕ) (w : World) (l : Link) → world.link_at v to w.links ≡ Some l → l.cut ≡ false → (ns : List (Note Name)) → l.notes ≡ ns → IsReached script w → WorldKnows w → Reached WorldKnows (world.carry_notes script k v to w ns)
   unfolding world.carry_notes world.readied
-  carry_notes_knows k v to w [] real h = idle_knows k w h
-  carry_notes_knows k v to w (n ∷ ns) real h = let x : World = record w { links = world.with_link (world.with_notes ns) v to w.links } in
-      arrives_knows k v to x n (slice_get w.vats to) refl (λ s f. (w, s, s.queue, real, f, refl, refl)) (moved_knows w x [] (sym (end_none w.history)) refl (λ u f i. i) h)
+  carry_notes_knows k v to w l at whole [] q real h = idle_knows k w h
+  carry_notes_knows k v to w l at whole (n ∷ ns) q real h = let x : World = record w { links = world.with_link (world.with_notes ns) v to w.links } in
+      arrives_knows k v to x n (slice_get w.vats to) refl (λ s bytes f. (w, s, s.queue, real, f, refl, refl, (k, bytes, l, n, ns, refl, refl, at, whole, q, refl))) (moved_knows w x [] (sym (end_none w.history)) refl (λ u f i. i) h)
 
-  carry_cut_knows : (k v to : ℕ) (w : World) (l : Link) (b : Bool) → IsReached script w → WorldKnows w → Reached WorldKnows (pick b (world.idle script k w) (world.carry_notes script k v to w l.notes))
-  carry_cut_knows k v to w l true real h = idle_knows k w h
-  carry_cut_knows k v to w l false real h = carry_notes_knows k v to w l.notes real h
+  carry_cut_knows : (k v to : ℕ) (w : World) (l : Link) → world.link_at v to w.links ≡ Some l → (b : Bool) → l.cut ≡ b → IsReached script w → WorldKnows w → Reached WorldKnows (pick b (world.idle script k w) (world.carry_notes script k v to w l.notes))
+  carry_cut_knows k v to w l at true e real h = idle_knows k w h
+  carry_cut_knows k v to w l at false e real h = carry_notes_knows k v to w l at e l.notes refl real h
 
-  carry_link_knows : (k v to : ℕ) (w : World) (o : Option Link) → IsReached script w → WorldKnows w → Reached WorldKnows (world.carry_link script k v to w o)
+  carry_link_knows : (k v to : ℕ) (w : World) (o : Option Link) → world.link_at v to w.links ≡ o → IsReached script w → WorldKnows w → Reached WorldKnows (world.carry_link script k v to w o)
   unfolding world.carry_link
-  carry_link_knows k v to w None real h = idle_knows k w h
-  carry_link_knows k v to w (Some l) real h = carry_cut_knows k v to w l l.cut real h
+  carry_link_knows k v to w None at real h = idle_knows k w h
+  carry_link_knows k v to w (Some l) at real h = carry_cut_knows k v to w l at l.cut refl real h
 
   cut_knows : (k v to : ℕ) (w : World) → WorldKnows w → Reached WorldKnows (world.cut script k v to w)
   unfolding world.cut
@@ -200,21 +202,27 @@ module _ (script : Script) where
   notice_knows : (k v to : ℕ) (w : World) (o : Option (Vat Name)) → slice_get w.vats v ≡ o → IsReached script w → WorldKnows w → Reached WorldKnows (world.within v w (NoticedAt k v to ∷ []) (world.step_number script k) (notice (names script v) to) o)
   unfolding does world.within
   notice_knows k v to w None e real h = h
-  notice_knows k v to w (Some s) e real h = within_knows v w (NoticedAt k v to ∷ []) (world.step_number script k) (Notices to) s s.queue e (one_line (NoticedAt k v to) (λ u f i. cc)) (w, s, s.queue, real, e, refl, refl) h
+  notice_knows k v to w (Some s) e real h = within_knows v w (NoticedAt k v to ∷ []) (world.step_number script k) (Notices to) s s.queue e (one_line (NoticedAt k v to) (λ u f i. cc)) (w, s, s.queue, real, e, refl, refl, (k, refl, refl)) h
 
-  open_knows : (v : ℕ) (p : Program) (w : World) (o : Option (Vat Name)) → slice_get w.vats v ≡ o → IsReached script w → WorldKnows w → Reached WorldKnows (world.within v w (Opens v ∷ []) v (opening (names script v) p.tree script.depth (Root v) (world.given script.vats p.knows)) o)
+  -- a vat is given the roots of those that it knows
+  roots_given : (ps : List Program) (ws : List ℕ) → AreRoots ps ws (world.given ps ws)
+  unfolding world.given
+  roots_given ps [] = tt
+  roots_given ps (w ∷ ws) = (refl, roots_given ps ws)
+
+  open_knows : (v : ℕ) (p : Program) → slice_get script.vats v ≡ Some p → (w : World) (o : Option (Vat Name)) → slice_get w.vats v ≡ o → IsReached script w → WorldKnows w → Reached WorldKnows (world.within v w (Opens v ∷ []) v (opening (names script v) p.tree script.depth (Root v) (world.given script.vats p.knows)) o)
   unfolding does world.within
-  open_knows v p w None e real h = h
-  open_knows v p w (Some s) e real h = within_knows v w (Opens v ∷ []) v (Starts p.tree script.depth (Root v) (world.given script.vats p.knows)) s s.queue e (one_line (Opens v) (λ u f i. cc)) (w, s, s.queue, real, e, refl, refl) h
+  open_knows v p at w None e real h = h
+  open_knows v p at w (Some s) e real h = within_knows v w (Opens v ∷ []) v (Starts p.tree script.depth (Root v) (world.given script.vats p.knows)) s s.queue e (one_line (Opens v) (λ u f i. cc)) (w, s, s.queue, real, e, refl, refl, (p, refl, at, refl, refl, refl, refl, roots_given script.vats p.knows)) h
 
-  opening_knows : (v : ℕ) (p : Program) (w : World) → IsReached script w → WorldKnows w → Reached WorldKnows (world.open_vat script v p w)
+  opening_knows : (v : ℕ) (p : Program) → slice_get script.vats v ≡ Some p → (w : World) → IsReached script w → WorldKnows w → Reached WorldKnows (world.open_vat script v p w)
   unfolding world.open_vat
-  opening_knows v p w real h = open_knows v p w (slice_get w.vats v) refl real h
+  opening_knows v p at w real h = open_knows v p at w (slice_get w.vats v) refl real h
 
   step_knows : (entry : Entry) (k : ℕ) (w : World) → IsReached script w → WorldKnows w → Reached WorldKnows (world.step script entry k w)
   unfolding world.step
   step_knows (Turn v) k w real h = turn_knows k v w (slice_get w.vats v) refl real h
-  step_knows (Carry v to) k w real h = carry_link_knows k v to w (world.link_at v to w.links) real h
+  step_knows (Carry v to) k w real h = carry_link_knows k v to w (world.link_at v to w.links) refl real h
   step_knows (CutLink v to) k w real h = cut_knows k v to w h
   step_knows (NoticeLink v to) k w real h = notice_knows k v to w (slice_get w.vats v) refl real h
 
@@ -249,7 +257,7 @@ module _ (script : Script) where
   opens_know : (v : ℕ) (ps : List Program) (w : World) → StandAt v ps → IsReached script w → WorldKnows w → Reached WorldKnows (world.open_from script v ps w)
   unfolding world.open_from
   opens_know v [] w s real h = h
-  opens_know v (p ∷ ps) w s real h = then_knows (world.open_vat script v p w) (world.open_from script (suc v) ps) (opening_knows v p w real h) (λ y i j. opens_know (suc v) ps y (rest_at v p ps s) (opened v p (first_at v p ps s) real i) j)
+  opens_know v (p ∷ ps) w s real h = then_knows (world.open_vat script v p w) (world.open_from script (suc v) ps) (opening_knows v p (first_at v p ps s) w real h) (λ y i j. opens_know (suc v) ps y (rest_at v p ps s) (opened v p (first_at v p ps s) real i) j)
 
   then_real : (x : World) (r : Run) (f : World → Run) → ((w : World) → r ≡ Goes w → f w ≡ Goes x → IsReached script x) → world.then_goes r f ≡ Goes x → IsReached script x
   unfolding world.then_goes
@@ -282,9 +290,22 @@ module _ (script : Script) where
   run_knows w x es k e i = let s = stand_all script.vats [] (sym (end_none script.vats)) in
       goes_at WorldKnows _ x i (steps_know es k w (opens_real zero script.vats (begins script) w s start e) (opened_knows script.vats [] w (sym (end_none script.vats)) e))
 
+  -- the closing list behind it
+  close_knows : (w : World) → WorldKnows w → Reached WorldKnows (world.close script w)
+  unfolding world.close
+  close_knows w h = let vats : List Event = world.left_vats script w.vats in let links : List Event = world.left_links script w.links in
+      moved_knows w _ (vats ++ (links ++ Ends ∷ [])) (joined (w.history ++ vats) links (Ends ∷ []) ∙ joined w.history vats (links ++ Ends ∷ [])) refl
+      (nobodys_join vats (links ++ Ends ∷ []) (vats_nobodys script w.vats) (nobodys_join links (Ends ∷ []) (links_nobodys script w.links) (one_line Ends (λ u e i. cc)))) h
+
+  pub ended_connected : (w : World) → world.run script ≡ Goes w → LinesConnected script w
+  unfolding world.run
+  ended_connected w e = let s = stand_all script.vats [] (sym (end_none script.vats)) in
+      (goes_at WorldKnows _ w e (then_knows (world.open_from script zero script.vats (begins script)) (λ y. world.then_goes (world.steps_from script script.schedule 1 y) (world.close script)) (opens_know zero script.vats (begins script) s start begins_knows)
+      (λ y i h. then_knows (world.steps_from script script.schedule 1 y) (world.close script) (steps_know script.schedule 1 y (opens_real zero script.vats (begins script) y s start i) h) (λ z j k. close_knows z k)))).lines
+
   -- ---- what a sender knew
 
-  all_known : (v : ℕ) (h : Holdings Name) (so : List (Happened Name)) (a : ℕ) (none : List (Item Name)) → none ≡ [] → (xs : List (Value Name))
+  all_known : (v : ℕ) (h : Holdings Name Name) (so : List (Happened Name)) (a : ℕ) (none : List (Item Name)) → none ≡ [] → (xs : List (Value Name))
       → AllOf (λ u. Knows (names script v) h so u.0 u.1 ⊎ IsAmong u.1 none) (by a (values xs)) → AllOf (λ x. Knows (names script v) h so a (AValue x)) xs
   unfolding by values
   all_known v h so a none e [] c = tt
@@ -304,9 +325,10 @@ module _ (script : Script) where
       (c.0, subst (λ xs. AllOf (λ y. Knows (names script v) (held_from c.0.step c.0.before c.0.after) c.0.so a (AValue y)) xs) (sym e) (k.0, tt))
 
   begotten : (w : World) → LinesConnected script w → (v : ℕ) (m : Message Name) → Stems w v m → Begotten script w v m
+  unfolding held_from
   begotten w c v m (stems.sent a x h l) = sent a x h l (sender_knew w v a (record m { target = x }) (c v _ h))
-  begotten w c v m (stems.reacted a x o t e h l) = reacted a x o t h l (reactor_knew w v a x o (record m { target = t }) (c v _ h) e)
-  begotten w c v m (stems.carried u n z ys s i j k l p q) = carried u n z ys (begotten w c u n s) i j k l p q
+  begotten w c v m (stems.reacted a x o t e h l) = reacted a x o t h (let k = c v _ h in (k.0, k.1.1)) l (reactor_knew w v a x o (record m { target = t }) (c v _ h) e)
+  begotten w c v m (stems.carried u n z ys b s i j k l p q) = carried u n z ys b (begotten w c u n s) i j k l p q
 
   pub opened_connected : (ps rest : List Program) (w : World) → script.vats ≡ ps ++ rest → world.open_from script zero ps (begins script) ≡ Goes w → LinesConnected script w
   opened_connected ps rest w s e = (opened_knows ps rest w s e).lines
@@ -316,6 +338,9 @@ module _ (script : Script) where
 
   pub opened_begotten : (ps rest : List Program) (w : World) → script.vats ≡ ps ++ rest → world.open_from script zero ps (begins script) ≡ Goes w → TakenBegotten script w
   opened_begotten ps rest w s e v a m i = begotten w (opened_connected ps rest w s e) v m ((goes_at AllStem _ w e ((messages_stem script).0 ps)).taken v a m i)
+
+  pub ended_begotten : (w : World) → world.run script ≡ Goes w → TakenBegotten script w
+  ended_begotten w e v a m i = begotten w (ended_connected w e) v m ((ended_stem script w e).taken v a m i)
 
   pub run_begotten : (w x : World) (es : List Entry) (k : ℕ) → world.open_from script zero script.vats (begins script) ≡ Goes w → world.steps_from script es k w ≡ Goes x → TakenBegotten script x
   run_begotten w x es k e i v a m j = begotten x (run_connected w x es k e i) v m ((goes_at AllStem _ x i ((messages_stem script).1 w es k e)).taken v a m j)

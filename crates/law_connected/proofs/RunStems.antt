@@ -1,58 +1,59 @@
 -- In every world of a run each message stems from what was sent.
 use Rattle.std.proofs.Common.{◌≡◌, ℕ, zero, suc, Bool, true, false, List, [], ◌∷◌, ◌++◌, Option, Some, None, refl, sym, ◌∙◌, subst, map, ◌⊎◌, inl, inr, ◌==◌}
 use Rattle.std.specs.Prelude.{slice_get}
-use Rattle.def_machine.specs.Values.{Value, Null, Flag, Number, Letter, Text, Prim, Broken, Items, Ref, Name, Root, host_of}
+use Rattle.def_machine.specs.Values.{Value, Null, Flag, Number, Letter, Text, Prim, Broken, Items, Ref, Name, Root, Object, host_of}
 use Rattle.def_machine.specs.State.{Message, Known, Passed, Passeds, Plain, AGift, Many, NoMore, More, Note, Deliver, Open, Ask, SettledTo, Elsewhere, Shorten, Put, Happened, Took, Settles, Views, Vat, Done, Gives, Throws, Ejects, Stops, begun}
 use Rattle.def_machine.specs.Arrive.{Old, New, notice}
 use Rattle.def_machine.specs.Eval.{opening}
 use Rattle.law_machine.specs.Steps.{Step, Opens as Starts, Takes, Receives, Notices, does}
 use Rattle.def_run.specs.World as world
-use Rattle.def_run.specs.World.{Script, Program, Opens, Entry, Turn, Carry, CutLink, NoticeLink, Event, Here, Turned, Idle, Carried, CutAt, NoticedAt, Link, World, Run, Goes, Stopped, names, names_of, read_note, begins}
+use Rattle.def_run.specs.World.{Script, Program, Opens, Entry, Turn, Carry, CutLink, NoticeLink, Event, Here, Turned, Idle, Carried, CutAt, NoticedAt, Ends as IsEnd, Link, World, Run, Goes, Stopped, names, names_of, read_note, begins}
 use Rattle.law_connected.specs.Known.{IsAmong, AllOf}
 use Rattle.law_connected.proofs.FineSteps.{among_left, among_right}
 use Rattle.law_fate.specs.FateRuns.{Reached}
 use Rattle.law_fate.proofs.RunCounts.{pick}
 use Rattle.law_connected.specs.Stems.{LeadsTo, itself, HasLine, HasList, HasOpened, ArgsPass, ComesAs, ComeAll, Stems, sent, reacted, carried}
 use Rattle.law_connected.specs.MessageLaws.{NoteStems, AllStem, MessagesStemFromSends}
-use Rattle.law_connected.proofs.Passing.{Kept, kept_all, leads_map, leads_on, all_map, all_end, pass_all_map, come_all_map}
+use Rattle.law_connected.proofs.Passing.{Kept, kept_all, leads_map, leads_on, all_map, all_end, passes_map, pass_all_map, come_all_map}
 use Rattle.law_connected.proofs.Moments.{Past, Line, Members, Offers, Later, StandTold, stand_map, IsTaken, TookFine, Came, Source, Fine, NoteFine, KnownFine, PassingAll, Good, Ends, Brings, LearntAs, LearntAll, name_in, value_in}
 use Rattle.law_connected.proofs.ArriveBring.{brings_arrive, brings_notice}
 use Rattle.law_connected.proofs.EvalBring.{brings_opening, brings_taking}
 use Rattle.law_connected.proofs.Links.{OpenedIn, opened_with, push_opened, push_puts, with_link_all, found_link, link_from}
-use Rattle.law_connected.proofs.Events.{all_at, among_either, here_event, events_here, IsNobodys, nobodys_join, lost_on_nobodys}
+use Rattle.law_connected.proofs.Idle.{joined as ends_joined}
+use Rattle.law_connected.proofs.Events.{all_at, among_either, here_event, events_here, IsNobodys, nobodys_join, lost_on_nobodys, vats_nobodys, links_nobodys}
 
 -- ---- a world that has all that another has to show
 
 abbrev pub Grows : World → World → Type 0
-Grows w x = ((v : ℕ) (e : Happened Name) → HasLine w v e → HasLine x v e)
+Grows w x = ((e : Event) → IsAmong e w.history → IsAmong e x.history)
     × ((v k : ℕ) (vs : List (Value Name)) → HasList w v k vs → HasList x v k vs)
     × ((v h i : ℕ) (n : Name) → HasOpened w v h i n → HasOpened x v h i n)
 
 module _ (w x : World) (g : Grows w x) where
   leads_grow : (u : ℕ) (y z : Value Name) → LeadsTo (HasLine w u) y z → LeadsTo (HasLine x u) y z
-  leads_grow u y z h = leads_map (HasLine w u) (HasLine x u) (kept_all (HasLine w u) (HasLine x u) (g.0 u)) y z h
+  leads_grow u y z h = leads_map (HasLine w u) (HasLine x u) (kept_all (HasLine w u) (HasLine x u) (λ e h. g.0 (Here u e) h)) y z h
 
   args_grow : (u : ℕ) (xs : List (Value Name)) (ys : Passeds Name) → ArgsPass w u xs ys → ArgsPass x u xs ys
-  args_grow u xs ys h = pass_all_map (HasLine w u) (HasLine x u) (kept_all (HasLine w u) (HasLine x u) (g.0 u)) (HasList w u) (HasList x u) (g.1 u) (HasOpened w u) (HasOpened x u) (g.2 u) xs ys h
+  args_grow u xs ys h = pass_all_map (HasLine w u) (HasLine x u) (kept_all (HasLine w u) (HasLine x u) (λ e h. g.0 (Here u e) h)) (HasList w u) (HasList x u) (g.1 u) (HasOpened w u) (HasOpened x u) (g.2 u) xs ys h
 
   pub stems_grow : (v : ℕ) (m : Message Name) → Stems w v m → Stems x v m
-  stems_grow v m (sent a y h l) = sent a y (g.0 v _ h) (leads_grow v y m.target l)
-  stems_grow v m (reacted a y o t e h l) = reacted a y o t e (g.0 v _ h) (leads_grow v t m.target l)
-  stems_grow v m (carried u n z ys s i j k l p c) = carried u n z ys (stems_grow u n s) i j (leads_grow u n.target (Ref z) k) (leads_grow v (Ref z) m.target l) (args_grow u n.args ys p) (come_all_map (HasList w v) (HasList x v) (g.1 v) ys m.args c)
+  stems_grow v m (sent a y h l) = sent a y (g.0 (Here v _) h) (leads_grow v y m.target l)
+  stems_grow v m (reacted a y o t e h l) = reacted a y o t e (g.0 (Here v _) h) (leads_grow v t m.target l)
+  stems_grow v m (carried u n z ys b s i j k l p c) = carried u n z ys (b.0, b.1, b.2, b.3, g.0 _ b.4) (stems_grow u n s) i j (leads_grow u n.target (Ref z) k) (leads_grow v (Ref z) m.target l) (args_grow u n.args ys p) (come_all_map (HasList w v) (HasList x v) (g.1 v) ys m.args c)
 
   note_grow : (u : ℕ) (n : Note Name) → NoteStems w u n → NoteStems x u n
   note_grow u (Deliver i n verb ys) h = (h.0, stems_grow u h.0 h.1, h.2, h.3, leads_grow u h.0.target (Ref n) h.4, args_grow u h.0.args ys h.5)
   note_grow u (Open i n) h = tt
   note_grow u (Ask p i n) h = tt
-  note_grow u (SettledTo n y) h = tt
-  note_grow u (Elsewhere n c) h = tt
+  note_grow u (SettledTo n y) h = passes_map (HasLine w u) (HasLine x u) (kept_all (HasLine w u) (HasLine x u) (λ e i. g.0 (Here u e) i)) (HasList w u) (HasList x u) (g.1 u) (HasOpened w u) (HasOpened x u) (g.2 u) (Ref n) y h
+  note_grow u (Elsewhere n c) h = (h.0, leads_grow u (Ref n) (Ref (Object c h.0)) h.1)
   note_grow u (Shorten n c i) h = tt
 
 -- a target may be followed
 stems_on : (w : World) (v : ℕ) (m : Message Name) (x : Value Name) → LeadsTo (HasLine w v) x m.target → Stems w v (record m { target = x }) → Stems w v m
 stems_on w v m x l (sent a y h k) = sent a y h (leads_on (HasLine w v) y x m.target k l)
 stems_on w v m x l (reacted a y o t e h k) = reacted a y o t e h (leads_on (HasLine w v) t x m.target k l)
-stems_on w v m x l (carried u n z ys s i j k q p c) = carried u n z ys s i j k (leads_on (HasLine w v) (Ref z) x m.target q l) p c
+stems_on w v m x l (carried u n z ys b s i j k q p c) = carried u n z ys b s i j k (leads_on (HasLine w v) (Ref z) x m.target q l) p c
 
 -- what a vat knows of a name
 abbrev pub KnownStems : World → ℕ → Known Name → Type 0
@@ -73,7 +74,7 @@ module _ (w x : World) (g : Grows w x) where
   all_grow v ms h = all_map (Stems w v) (Stems x v) (stems_grow w x g v) ms h
 
   known_grow : (v : ℕ) (k : Known Name) → KnownStems w v k → KnownStems x v k
-  known_grow v k h = (all_grow v k.held h.0, all_grow v k.reactions h.1, stand_map (HasLine w v) (HasLine x v) (kept_all (HasLine w v) (HasLine x v) (g.0 v)) k.name k.standing h.2)
+  known_grow v k h = (all_grow v k.held h.0, all_grow v k.reactions h.1, stand_map (HasLine w v) (HasLine x v) (kept_all (HasLine w v) (HasLine x v) (λ e h. g.0 (Here v e) h)) k.name k.standing h.2)
 
   link_grow : (l : Link) → LinkStems w l → LinkStems x l
   link_grow l h = all_map (NoteStems w l.from) (NoteStems x l.from) (note_grow w x g l.from) l.notes h
@@ -85,7 +86,7 @@ module _ (w : World) (ls : List Link) (es : List Event) where
   Moved = record w { links = ls; history = w.history ++ es }
 
   moved_grows : ((v h i : ℕ) (n : Name) → OpenedIn w.links v h i n → OpenedIn ls v h i n) → Grows w Moved
-  moved_grows o = (λ v e h. among_left (Here v e) w.history es h, λ v k vs h. h, o)
+  moved_grows o = (λ e h. among_left e w.history es h, λ v k vs h. h, o)
 
   moved_stems : ((v h i : ℕ) (n : Name) → OpenedIn w.links v h i n → OpenedIn ls v h i n) → (((l : Link) → LinkStems w l → LinkStems Moved l) → AllOf (LinkStems w) w.links → AllOf (LinkStems Moved) ls) → IsNobodys es → WorldStems w → WorldStems Moved
   moved_stems o f none h = let g = moved_grows o in record {
@@ -184,7 +185,7 @@ module _ (v : ℕ) (w : World) (head : List Event) (s r t : Vat Name) (step : St
 
   next_grows : Grows w Next
   next_grows = (
-    λ u e h. among_left (Here u e) (w.history ++ head) (world.events_of w.links v t.happened) (among_left (Here u e) w.history head h),
+    λ e h. among_left e (w.history ++ head) (world.events_of w.links v t.happened) (among_left e w.history head h),
     λ u k vs h. put_lists v w.vats s t at (λ n us e. late.1 n us (subst (λ ls. slice_get ls n ≡ Some us) (sym same) e)) u k vs h,
     λ u h i n o. push_opened v t.outbox w.links u h i n o,
   )
@@ -197,7 +198,7 @@ module _ (v : ℕ) (w : World) (head : List Event) (s r t : Vat Name) (step : St
   kept_lines = (λ n y h. either (Settles n y) refl h, λ n q h. either (Views n q) refl h)
     where
       either : (e : Happened Name) → world.event_of w.links v e ≡ Here v e ∷ [] → Line Before t e → HasLine Next v e
-      either e f (inl h) = next_grows.0 v e h
+      either e f (inl h) = next_grows.0 (Here v e) h
       either e f (inr h) = new_line e f h
 
   next_list : (k : ℕ) (vs : List (Value Name)) → Members t k vs → HasList Next v k vs
@@ -225,8 +226,8 @@ module _ (v : ℕ) (w : World) (head : List Event) (s r t : Vat Name) (step : St
     next_note (Deliver i n verb ys) h = (h.0, next_stems h.0 h.1, h.2, h.3, leads_map (Line Before t) (HasLine Next v) kept_lines h.0.target (Ref n) h.4, next_pass h.0.args ys h.5)
     next_note (Open i n) h = tt
     next_note (Ask p i n) h = tt
-    next_note (SettledTo n y) h = tt
-    next_note (Elsewhere n c) h = tt
+    next_note (SettledTo n y) h = passes_map (Line Before t) (HasLine Next v) kept_lines (Members t) (HasList Next v) next_list (Offers t) (HasOpened Next v) next_opened (Ref n) y h
+    next_note (Elsewhere n c) h = (h.0, leads_map (Line Before t) (HasLine Next v) kept_lines (Ref n) (Ref (Object c h.0)) h.1)
     next_note (Shorten n c i) h = tt
 
     next_known : (k : Known Name) → KnownFine Before t k → KnownStems Next v k
@@ -253,27 +254,27 @@ module _ (v : ℕ) (w : World) (head : List Event) (s r t : Vat Name) (step : St
 -- ---- the steps of a run
 
 -- what a note that arrived brought, in the world after
-abbrev pub BringsWell : ℕ → World → Step Name Name → Type 0
-BringsWell v w step = (x : World) (t : Vat Name) → Grows w x → ((k : ℕ) (vs : List (Value Name)) → Members t k vs → HasList x v k vs) → (m : Message Name) → Came t step m → Stems x v m
+abbrev pub BringsWell : ℕ → World → List Event → Step Name Name → Type 0
+BringsWell v w head step = (x : World) (t : Vat Name) → Grows w x → ((e : Event) → IsAmong e head → IsAmong e x.history) → ((k : ℕ) (vs : List (Value Name)) → Members t k vs → HasList x v k vs) → (m : Message Name) → Came t step m → Stems x v m
 
 put_back_stems : (v : ℕ) (w : World) (head : List Event) (n : ℕ) (s r : Vat Name) (step : Step Name Name) (d : Done Name (Unit {0})) → slice_get w.vats v ≡ Some s → r.lists ≡ s.lists → IsNobodys head
-    → BringsWell v w step → ((m : Message Name) → IsTaken step m → Stems w v m) → Ends (record { world = w; vat = v; step = step }) r (λ a t. Unit {0}) d → WorldStems w → Reached WorldStems (world.put_back v w head n d)
+    → BringsWell v w head step → ((m : Message Name) → IsTaken step m → Stems w v m) → Ends (record { world = w; vat = v; step = step }) r (λ a t. Unit {0}) d → WorldStems w → Reached WorldStems (world.put_back v w head n d)
 unfolding world.put_back
-put_back_stems v w head n s r step (Gives u t) at same none brought takes e h = next_world v w head s r t step at same e.0 (λ m c. brought (Next v w head s r t step at same e.0) t (next_grows v w head s r t step at same e.0) (next_list v w head s r t step at same e.0) m c) takes none e.1 h
+put_back_stems v w head n s r step (Gives u t) at same none brought takes e h = next_world v w head s r t step at same e.0 (λ m c. brought (Next v w head s r t step at same e.0) t (next_grows v w head s r t step at same e.0) (λ f i. among_left f (w.history ++ head) (world.events_of w.links v t.happened) (among_right f w.history head i)) (next_list v w head s r t step at same e.0) m c) takes none e.1 h
 put_back_stems v w head n s r step (Throws x t) at same none brought takes e h = h
 put_back_stems v w head n s r step (Ejects i y t) at same none brought takes e h = h
 put_back_stems v w head n s r step (Stops c t) at same none brought takes e h = h
 
 -- a note from vat u that stems there
-arrives_well : (v u : ℕ) (w : World) (ks : List Name) (n : Note Name) → NoteStems w u n → BringsWell v w (Receives u (read_note ks n))
+arrives_well : (v u k : ℕ) (w : World) (bytes : List ℕ) (ks : List Name) (n : Note Name) → NoteStems w u n → BringsWell v w (Carried k u v n bytes ∷ []) (Receives u (read_note ks n))
 unfolding read_note world.read_value
-arrives_well v u w ks (Deliver i n verb ys) h x t g f m c = carried u h.0 n ys (stems_grow w x g u h.0 h.1) (h.2 ∙ c.0) (h.3 ∙ c.1) (leads_grow w x g u h.0.target (Ref n) h.4)
+arrives_well v u k w bytes ks (Deliver i n verb ys) h x t g b f m c = carried u h.0 n ys (k, i, bytes, c.0, subst (λ z. IsAmong (Carried k u v (Deliver i n z ys) bytes) x.history) c.1 (b _ (inl refl))) (stems_grow w x g u h.0 h.1) (h.2 ∙ c.0) (h.3 ∙ c.1) (leads_grow w x g u h.0.target (Ref n) h.4)
     (subst (λ z. LeadsTo (HasLine x v) (Ref n) z) (sym (c.2 ∙ value_read (world.read_all ys ks).known (Ref n))) itself) (args_grow w x g u h.0.args ys h.5) (come_all_map (Members t) (HasList x v) f ys m.args (all_read (Members t) ys ks m.args c.3))
-arrives_well v u w ks (Open i n) h x t g f m c = absurd c
-arrives_well v u w ks (Ask p i n) h x t g f m c = absurd c
-arrives_well v u w ks (SettledTo n y) h x t g f m c = absurd c
-arrives_well v u w ks (Elsewhere n c) h x t g f m d = absurd d
-arrives_well v u w ks (Shorten n c i) h x t g f m d = absurd d
+arrives_well v u k w bytes ks (Open i n) h x t g b f m c = absurd c
+arrives_well v u k w bytes ks (Ask p i n) h x t g b f m c = absurd c
+arrives_well v u k w bytes ks (SettledTo n y) h x t g b f m c = absurd c
+arrives_well v u k w bytes ks (Elsewhere n c) h x t g b f m d = absurd d
+arrives_well v u k w bytes ks (Shorten n c i) h x t g b f m d = absurd d
 
 pub one_line : (e : Event) → ((u : ℕ) (f : Happened Name) → Here u f ≡ e → ⊥) → IsNobodys (e ∷ [])
 one_line e g u f (inl i) = g u f i
@@ -288,7 +289,7 @@ module _ (script : Script) where
   step_brings v w (Notices u) = brings_notice _ v (record { world = w; vat = v; step = Notices u }) u
 
   within_stems : (v : ℕ) (w : World) (head : List Event) (n : ℕ) (step : Step Name Name) (s q : Vat Name) → slice_get w.vats v ≡ Some s → q.lists ≡ s.lists → IsNobodys head → AllOf (Stems w v) q.queue → AllOf (KnownStems w v) q.known
-      → BringsWell v w step → ((m : Message Name) → IsTaken step m → Stems w v m) → WorldStems w → Reached WorldStems (world.within v w head n (does (names script v) step) (Some q))
+      → BringsWell v w head step → ((m : Message Name) → IsTaken step m → Stems w v m) → WorldStems w → Reached WorldStems (world.within v w head n (does (names script v) step) (Some q))
   unfolding world.within world.readied
   within_stems v w head n step s q at same none ms ks brought takes h = let p : Past = record { world = w; vat = v; step = step } in
       put_back_stems v w head n s (world.readied w q) step _ at same none brought takes ((step_brings v w step).after (world.readied w q) (
@@ -310,7 +311,7 @@ module _ (script : Script) where
   unfolding world.turn_queue does
   turn_queue_stems k v w s [] at e h = idle_stems k w h
   turn_queue_stems k v w s (m ∷ ms) at e h = within_stems v w (Turned k v ∷ []) (world.step_number script k) (Takes (world.tree_at script.vats v) script.depth m) s (record s { queue = ms }) at refl (one_line (Turned k v) (λ u f i. cc)) e.1 (h.names v s at)
-      (λ x t g f n c. absurd c) (λ n i. subst (λ z. Stems w v z) (sym i) e.0) h
+      (λ x t g b f n c. absurd c) (λ n i. subst (λ z. Stems w v z) (sym i) e.0) h
 
   turn_stems : (k v : ℕ) (w : World) (o : Option (Vat Name)) → slice_get w.vats v ≡ o → WorldStems w → Reached WorldStems (world.turn script k v w o)
   unfolding world.turn
@@ -321,12 +322,12 @@ module _ (script : Script) where
   unfolding world.arrives does
   arrives_stems k v to w n None e g h = idle_stems k w h
   arrives_stems k v to w n (Some s) e g h = within_stems to w (Carried k v to n (world.next_frame v to w.connections) ∷ []) (world.step_number script k) (Receives v (read_note (names_of s) n)) s s e refl (one_line (Carried k v to n (world.next_frame v to w.connections)) (λ u f i. cc)) (h.queues to s e) (h.names to s e)
-      (arrives_well to v w (names_of s) n g) (λ m i. absurd i) h
+      (arrives_well to v k w (world.next_frame v to w.connections) (names_of s) n g) (λ m i. absurd i) h
 
   -- the notes of a link go on without the first
   less_grows : (v to : ℕ) (w : World) (ns : List (Note Name)) → Grows w (record w { links = world.with_link (world.with_notes ns) v to w.links })
   unfolding world.with_notes
-  less_grows v to w ns = (λ u e h. h, λ u k vs h. h, λ u a i n o. opened_with (world.with_notes ns) (λ l. (refl, refl, λ m j. j)) v to w.links u a i n o)
+  less_grows v to w ns = (λ e h. h, λ u k vs h. h, λ u a i n o. opened_with (world.with_notes ns) (λ l. (refl, refl, λ m j. j)) v to w.links u a i n o)
 
   less : (v to : ℕ) (w : World) (ns : List (Note Name)) → AllOf (NoteStems w v) ns → WorldStems w → WorldStems (record w { links = world.with_link (world.with_notes ns) v to w.links })
   unfolding world.with_notes
@@ -366,12 +367,12 @@ module _ (script : Script) where
   notice_stems : (k v to : ℕ) (w : World) (o : Option (Vat Name)) → slice_get w.vats v ≡ o → WorldStems w → Reached WorldStems (world.within v w (NoticedAt k v to ∷ []) (world.step_number script k) (notice (names script v) to) o)
   unfolding does world.within
   notice_stems k v to w None e h = h
-  notice_stems k v to w (Some s) e h = within_stems v w (NoticedAt k v to ∷ []) (world.step_number script k) (Notices to) s s e refl (one_line (NoticedAt k v to) (λ u f i. cc)) (h.queues v s e) (h.names v s e) (λ x t g f n c. absurd c) (λ m i. absurd i) h
+  notice_stems k v to w (Some s) e h = within_stems v w (NoticedAt k v to ∷ []) (world.step_number script k) (Notices to) s s e refl (one_line (NoticedAt k v to) (λ u f i. cc)) (h.queues v s e) (h.names v s e) (λ x t g b f n c. absurd c) (λ m i. absurd i) h
 
   open_stems : (v : ℕ) (p : Program) (w : World) (o : Option (Vat Name)) → slice_get w.vats v ≡ o → WorldStems w → Reached WorldStems (world.within v w (Opens v ∷ []) v (opening (names script v) p.tree script.depth (Root v) (world.given script.vats p.knows)) o)
   unfolding does world.within
   open_stems v p w None e h = h
-  open_stems v p w (Some s) e h = within_stems v w (Opens v ∷ []) v (Starts p.tree script.depth (Root v) (world.given script.vats p.knows)) s s e refl (one_line (Opens v) (λ u f i. cc)) (h.queues v s e) (h.names v s e) (λ x t g f n c. absurd c) (λ m i. absurd i) h
+  open_stems v p w (Some s) e h = within_stems v w (Opens v ∷ []) v (Starts p.tree script.depth (Root v) (world.given script.vats p.knows)) s s e refl (one_line (Opens v) (λ u f i. cc)) (h.queues v s e) (h.names v s e) (λ x t g b f n c. absurd c) (λ m i. absurd i) h
 
   step_stems : (entry : Entry) (k : ℕ) (w : World) → WorldStems w → Reached WorldStems (world.step script entry k w)
   unfolding world.step
@@ -443,6 +444,7 @@ all_stem : (w : World) → WorldStems w → AllStem w
 all_stem w h = record {
   queues = h.queues;
   names = λ v s e. all_map (KnownStems w v) (λ (k : Known Name). AllOf (Stems w v) k.held × AllOf (Stems w v) k.reactions) (λ k i. (i.0, i.1)) s.known (h.names v s e);
+  standings = λ v s e. all_map (KnownStems w v) (λ (k : Known Name). StandTold (HasLine w v) k.name k.standing) (λ k i. i.2) s.known (h.names v s e);
   links = h.links;
   taken = h.taken;
 }
@@ -456,3 +458,17 @@ messages_stem script = (
   λ ps. reached_all _ (opens_stems script zero ps (begins script) (begins_stems script)),
   λ w es k e. reached_all _ (steps_stems script es k w (goes_stems (world.open_from script zero script.vats (begins script)) w e (opens_stems script zero script.vats (begins script) (begins_stems script)))),
 )
+
+module _ (script : Script) where
+  -- the closing list behind it
+  close_stems : (w : World) → WorldStems w → Reached WorldStems (world.close script w)
+  unfolding world.close
+  close_stems w h = let vats : List Event = world.left_vats script w.vats in let links : List Event = world.left_links script w.links in let es : List Event = vats ++ (links ++ IsEnd ∷ []) in
+      subst (λ hs. WorldStems (record w { history = hs })) (sym (ends_joined (w.history ++ vats) links (IsEnd ∷ []) ∙ ends_joined w.history vats (links ++ IsEnd ∷ [])))
+      (moved_stems w w.links es (λ v a i n o. o) (λ f i. all_map (LinkStems w) (LinkStems (record w { history = w.history ++ es })) f w.links i)
+      (nobodys_join vats (links ++ IsEnd ∷ []) (vats_nobodys script w.vats) (nobodys_join links (IsEnd ∷ []) (links_nobodys script w.links) (one_line IsEnd (λ u e i. cc)))) h)
+
+  pub ended_stem : (w : World) → world.run script ≡ Goes w → AllStem w
+  unfolding world.run
+  ended_stem w e = all_stem w (goes_stems _ w e (then_stems script (world.open_from script zero script.vats (begins script)) _ (opens_stems script zero script.vats (begins script) (begins_stems script))
+      (λ y h. then_stems script (world.steps_from script script.schedule 1 y) (world.close script) (steps_stems script script.schedule 1 y h) (λ z k. close_stems z k))))

@@ -1,16 +1,17 @@
 -- What objects and slots hold in the worlds of a run, its history tells.
 use Rattle.std.proofs.Common.{◌≡◌, ℕ, zero, suc, Bool, true, false, List, [], ◌∷◌, ◌++◌, Some, None, refl, sym, subst, map, ◌⊎◌, inl, inr}
 use Rattle.std.specs.Prelude.{slice_get}
-use Rattle.def_machine.specs.Values.{Words, Value, Name, Object, naming}
-use Rattle.def_machine.specs.State.{Binding, Cell, Made, Happened, ObjectMade, SlotMade, SlotWrote, Vat, Done, Gives, Throws, Ejects, Stops}
+use Rattle.def_machine.specs.Values.{Words, Value, Name, Object, Own, spot_of, same_reference, naming}
+use Rattle.def_machine.specs.State.{Binding, Cell, Made, Resolver, Known, begun, Happened, PromiseMade, Waits, Views, ObjectMade, SlotMade, SlotWrote, Vat, Done, Gives, Throws, Ejects, Stops}
 use Rattle.law_machine.specs.Steps.{Step, does, After}
-use Rattle.def_run.specs.World.{Script, Program, Entry, Event, Here, Link, World, Goes, event_of, events_of, put_at, put_back, readied, within, names, fresh, fresh_from, begins, open_from, steps_from}
+use Rattle.def_run.specs.World.{Script, Program, Entry, Event, Here, Link, World, Goes, event_of, events_of, put_at, put_back, readied, within, names, known_root, fresh, fresh_from, begins, open_from, steps_from}
 use Rattle.law_run.proofs.RunKeeps.{Begins, IsKeptByRuns, run_keeps, opens_keep}
+use Rattle.law_name.proofs.SameNames.{reference_is}
 use Rattle.law_connected.specs.Known.{IsAmong}
 use Rattle.law_connected.specs.Liveness.{live_at, LeavesDead}
 use Rattle.law_connected.specs.Runs.{NothingLive}
 use Rattle.law_connected.proofs.StepDies.{steps_leave_dead}
-use Rattle.law_connected.specs.Told.{ObjectsTold, SlotsTold, ReadsTold, HeldTold}
+use Rattle.law_connected.specs.Told.{ObjectsTold, SlotsTold, ReadsTold, ResolversTold, WaitsTold, HeldTold}
 use Rattle.law_connected.proofs.FineSteps.{among_left, among_right, steps_tell}
 use Rattle.law_connected.proofs.FineRuns.{own_spots}
 
@@ -26,6 +27,8 @@ abbrev VatTold : List Event → ℕ → Vat Name → Type 0
 VatTold es v s = ((i node : ℕ) (caught : List (Binding Name)) (stamps : List (Value Name)) → slice_get s.things i ≡ Some (Made node caught stamps)
     → (a : ℕ) × (x : Words) × IsAmong (Here v (ObjectMade a (Object v i) x (map (λ b. b.bound) caught) stamps)) es)
     × ((k : ℕ) (c : Cell Name) → slice_get s.slots k ≡ Some c → (a : ℕ) × (IsAmong (Here v (SlotMade a k c.value)) es ⊎ IsAmong (Here v (SlotWrote a k c.value)) es))
+    × ((i : ℕ) (p : Name) → slice_get s.things i ≡ Some (Resolver p) → (a : ℕ) × (r : Name) × IsAmong (Here v (PromiseMade a p r)) es × (spot_of v r ≡ Own i))
+    × ((k : Known Name) (p : Name) → IsAmong k s.known → IsAmong p k.waiting → IsAmong (Here v (Waits p k.name)) es ⊎ IsAmong (Here v (Views p k.name)) es)
 
 not_true : (b : Bool) → (b ≡ true → ⊥) → b ≡ false
 not_true true f = absurd (f refl)
@@ -52,8 +55,12 @@ here_event ls v (x ∷ es) e f (inr m) = among_right (Here v e) (event_of ls v x
 
 module _ (h more : List Event) where
   longer : (v : ℕ) (s : Vat Name) → VatTold h v s → VatTold (h ++ more) v s
-  longer v s t = (λ i node caught stamps e. let k = t.0 i node caught stamps e in (k.0, k.1, among_left _ h more k.2), λ k c e. let n = t.1 k c e in (n.0, either n.0 k c n.1))
+  longer v s t = (λ i node caught stamps e. let k = t.0 i node caught stamps e in (k.0, k.1, among_left _ h more k.2), λ k c e. let n = t.1 k c e in (n.0, either n.0 k c n.1), λ i p e. let r = t.2 i p e in (r.0, r.1, among_left _ h more r.2, r.3), λ k p m n. wait k p (t.3 k p m n))
     where
+      wait : (k : Known Name) (p : Name) → IsAmong (Here v (Waits p k.name)) h ⊎ IsAmong (Here v (Views p k.name)) h → IsAmong (Here v (Waits p k.name)) (h ++ more) ⊎ IsAmong (Here v (Views p k.name)) (h ++ more)
+      wait k p (inl m) = inl (among_left _ h more m)
+      wait k p (inr m) = inr (among_left _ h more m)
+
       either : (a k : ℕ) (c : Cell Name) → IsAmong (Here v (SlotMade a k c.value)) h ⊎ IsAmong (Here v (SlotWrote a k c.value)) h → IsAmong (Here v (SlotMade a k c.value)) (h ++ more) ⊎ IsAmong (Here v (SlotWrote a k c.value)) (h ++ more)
       either a k c (inl m) = inl (among_left _ h more m)
       either a k c (inr m) = inr (among_left _ h more m)
@@ -78,9 +85,9 @@ goes_vats w x e = cc
 
 module _ (script : Script) where
   -- what is held after a step, the history with the step's lines tells
-  after_told : (v : ℕ) (w : World) (head : List Event) (r t : Vat Name) → VatTold w.history v r → ObjectsTold (names script v) r t → SlotsTold r t → VatTold (w.history ++ head ++ events_of w.links v t.happened) v t
+  after_told : (v : ℕ) (w : World) (head : List Event) (r t : Vat Name) → VatTold w.history v r → ObjectsTold (names script v) r t → SlotsTold r t → ResolversTold (names script v) r t → WaitsTold (names script v) r t → VatTold (w.history ++ head ++ events_of w.links v t.happened) v t
   unfolding names naming event_of
-  after_told v w head r t h o c = (λ i node caught stamps e. object i node caught stamps (o i node caught stamps e), λ k x e. cell k x (c k x e))
+  after_told v w head r t h o c ro wo = (λ i node caught stamps e. object i node caught stamps (o i node caught stamps e), λ k x e. cell k x (c k x e), λ i p e. resolver i p (ro i p e), λ k p m n. waiting k p (wo k p m n))
     where
       later : (e : Happened Name) → event_of w.links v e ≡ Here v e ∷ [] → IsAmong e t.happened → IsAmong (Here v e) (w.history ++ head ++ events_of w.links v t.happened)
       later e f m = among_right _ (w.history ++ head) (events_of w.links v t.happened) (here_event w.links v t.happened e f m)
@@ -92,6 +99,24 @@ module _ (script : Script) where
           → (a : ℕ) × (x : Words) × IsAmong (Here v (ObjectMade a (Object v i) x (map (λ b. b.bound) caught) stamps)) (w.history ++ head ++ events_of w.links v t.happened)
       object i node caught stamps (inl e) = let k = h.0 i node caught stamps e in (k.0, k.1, before _ k.2)
       object i node caught stamps (inr k) = (k.0, k.1, later (ObjectMade k.0 (Object v i) k.1 (map (λ b. b.bound) caught) stamps) refl k.2)
+
+      resolver : (i : ℕ) (p : Name) → (slice_get r.things i ≡ Some (Resolver p)) ⊎ ((a : ℕ) × (n : Name) × IsAmong (PromiseMade a p n) t.happened × (spot_of v n ≡ Own i))
+          → (a : ℕ) × (n : Name) × IsAmong (Here v (PromiseMade a p n)) (w.history ++ head ++ events_of w.links v t.happened) × (spot_of v n ≡ Own i)
+      resolver i p (inl e) = let k = h.2 i p e in (k.0, k.1, before _ k.2, k.3)
+      resolver i p (inr k) = (k.0, k.1, later (PromiseMade k.0 p k.1) refl k.2, k.3)
+
+      waited : (p q : Name) → IsAmong (Here v (Waits p q)) w.history ⊎ IsAmong (Here v (Views p q)) w.history → IsAmong (Here v (Waits p q)) (w.history ++ head ++ events_of w.links v t.happened) ⊎ IsAmong (Here v (Views p q)) (w.history ++ head ++ events_of w.links v t.happened)
+      waited p q (inl m) = inl (before _ m)
+      waited p q (inr m) = inr (before _ m)
+
+      waits : (p q : Name) → IsAmong (Waits p q) t.happened ⊎ IsAmong (Views p q) t.happened → IsAmong (Here v (Waits p q)) (w.history ++ head ++ events_of w.links v t.happened) ⊎ IsAmong (Here v (Views p q)) (w.history ++ head ++ events_of w.links v t.happened)
+      waits p q (inl m) = inl (later (Waits p q) refl m)
+      waits p q (inr m) = inr (later (Views p q) refl m)
+
+      waiting : (k : Known Name) (p : Name) → ((j : Known Name) × IsAmong j r.known × (j.name ≡ k.name) × IsAmong p j.waiting) ⊎ ((n : Name) × (IsAmong (Waits p n) t.happened ⊎ IsAmong (Views p n) t.happened) × (same_reference k.name n ≡ true))
+          → IsAmong (Here v (Waits p k.name)) (w.history ++ head ++ events_of w.links v t.happened) ⊎ IsAmong (Here v (Views p k.name)) (w.history ++ head ++ events_of w.links v t.happened)
+      waiting k p (inl j) = waited p k.name (subst (λ q. IsAmong (Here v (Waits p q)) w.history ⊎ IsAmong (Here v (Views p q)) w.history) j.2 (h.3 j.0 p j.1 j.3))
+      waiting k p (inr n) = waits p k.name (subst (λ q. IsAmong (Waits p q) t.happened ⊎ IsAmong (Views p q) t.happened) (sym (reference_is k.name n.0 n.2)) n.1)
 
       old : (k : ℕ) (x y : Value Name) (a : ℕ) → x ≡ y → IsAmong (Here v (SlotMade a k x)) w.history ⊎ IsAmong (Here v (SlotWrote a k x)) w.history
           → IsAmong (Here v (SlotMade a k y)) (w.history ++ head ++ events_of w.links v t.happened) ⊎ IsAmong (Here v (SlotWrote a k y)) (w.history ++ head ++ events_of w.links v t.happened)
@@ -108,12 +133,12 @@ module _ (script : Script) where
       cell k x (inl d) = let n = h.1 k d.0 d.1 in (n.0, old k d.0.value x.value n.0 d.2 n.1)
       cell k x (inr n) = (n.0, new k x.value n.0 n.1)
 
-  back_tells : (v : ℕ) (w x : World) (head : List Event) (n : ℕ) (r : Vat Name) (d : Done Name (Unit {0})) → Still r → VatTold w.history v r → LeavesDead r d → After (λ s t. ObjectsTold (names script v) s t × SlotsTold s t × ReadsTold s.slots [] t.happened) r d
+  back_tells : (v : ℕ) (w x : World) (head : List Event) (n : ℕ) (r : Vat Name) (d : Done Name (Unit {0})) → Still r → VatTold w.history v r → LeavesDead r d → After (λ s t. ObjectsTold (names script v) s t × SlotsTold s t × ReadsTold s.slots [] t.happened × ResolversTold (names script v) s t × WaitsTold (names script v) s t) r d
       → put_back v w head n d ≡ Goes x → Tells w → Tells x
   unfolding put_back
   back_tells v w x head n r (Gives a t) q k h o e all = subst Tells (goes_vats _ x e) (
     λ u s f. put_all (λ m z. Still z) v t w.vats (still_after r t h q) all.0 u s f,
-    λ u s f. put_all (λ m z. VatTold (w.history ++ head ++ events_of w.links v t.happened) m z) v t w.vats (after_told v w head r t k o.0 o.1) (λ m z g. longer (w.history ++ head) (events_of w.links v t.happened) m z (longer w.history head m z (all.1 m z g))) u s f,
+    λ u s f. put_all (λ m z. VatTold (w.history ++ head ++ events_of w.links v t.happened) m z) v t w.vats (after_told v w head r t k o.0 o.1 o.3 o.4) (λ m z g. longer (w.history ++ head) (events_of w.links v t.happened) m z (longer w.history head m z (all.1 m z g))) u s f,
   )
   back_tells v w x head n r (Throws p t) q k h o e all = cc
   back_tells v w x head n r (Ejects m y t) q k h o e all = cc
@@ -135,10 +160,21 @@ module _ (script : Script) where
     vat = λ v w x head n what s q e b i h. within_tells v w x head n what s q e b i h;
   }
 
+  no_waiting : (ws : List ℕ) (k : Known Name) (p : Name) → IsAmong k (map known_root ws) → IsAmong p k.waiting → ⊥
+  unfolding known_root begun
+  no_waiting [] k p m n = m
+  no_waiting (w ∷ ws) k p (inl e) n = subst (λ j. IsAmong p j.waiting) e n
+  no_waiting (w ∷ ws) k p (inr m) n = no_waiting ws k p m n
+
+  fresh_waiting : (v : ℕ) (q : Program) (k : Known Name) (p : Name) → IsAmong k (fresh script v q).known → IsAmong p k.waiting → ⊥
+  unfolding fresh known_root begun
+  fresh_waiting v q k p (inl e) n = subst (λ j. IsAmong p j.waiting) e n
+  fresh_waiting v q k p (inr m) n = no_waiting q.knows k p m n
+
   fresh_tells : (v : ℕ) (ps : List Program) (d u : ℕ) (s : Vat Name) → slice_get (fresh_from script v ps) u ≡ Some s → Still s × VatTold [] d s
   unfolding fresh_from fresh live_at
   fresh_tells v [] d u s e = absurd (no_some s e)
-  fresh_tells v (p ∷ ps) d zero s e = subst (λ z. Still z × VatTold [] d z) (same_some (fresh script v p) s e) (λ i. refl, (λ i node caught stamps f. cc, λ k c f. cc))
+  fresh_tells v (p ∷ ps) d zero s e = subst (λ z. Still z × VatTold [] d z) (same_some (fresh script v p) s e) (λ i. refl, (λ i node caught stamps f. cc, λ k c f. cc, λ i q f. cc, λ k q m n. absurd (fresh_waiting v p k q m n)))
   fresh_tells v (p ∷ ps) d (suc u) s e = fresh_tells (suc v) ps d u s e
 
   begins_tell : Tells (begins script)

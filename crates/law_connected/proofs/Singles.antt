@@ -2,7 +2,7 @@
 use Rattle.std.proofs.Common.{◌≡◌, ℕ, zero, suc, Bool, true, false, List, [], ◌∷◌, ◌++◌, Option, Some, None, length, refl, sym, subst, inl, inr}
 use Rattle.std.specs.Prelude.{slice_get, nat_le}
 use Rattle.def_machine.specs.Values.{Words, Value, Name, Coming, Mailing, naming, same_reference}
-use Rattle.def_machine.specs.State.{Thing, Bound, Message, Standing, Unsettled, WaitsOn, Viewed, Settled, Known, Note, Open, Ask, SettledTo, Elsewhere, Shorten, Passed, Put, Happened, Called, Back, Thrown, Left, Got, SlotMade, SlotRead, SlotWrote, ListMade, ListCame, EjectorMade, AuditionMade, PromiseMade, ObjectMade, Sends, Reacts, Finished, Threw, Settles, Waits, Views, Lost, Posted, Vat, tell, spend, spent, new_activation, new_thing, kill, new_slot, write_slot, new_list, enqueue, Change, Hold, Wait, WaitOn, See, React, ToTell, Settle, send_out, new_gift, open_gift, mark, draws, unless_settled, changed_to, changed, with_change, begun, alter, come, mail, new_promise, new_message, draw, new_lone_message}
+use Rattle.def_machine.specs.State.{Thing, Bound, Message, Standing, Unsettled, WaitsOn, Viewed, Settled, Known, Note, Open, Ask, Shorten, Put, Happened, Called, Back, Thrown, Left, Got, SlotMade, SlotRead, SlotWrote, ListMade, ListCame, EjectorMade, AuditionMade, PromiseMade, ObjectMade, Sends, Reacts, Finished, Threw, Settles, Waits, Views, Lost, Posted, Vat, tell, spend, spent, new_activation, new_thing, kill, new_slot, write_slot, new_list, enqueue, Change, Hold, Wait, WaitOn, See, React, ToTell, Settle, send_out, new_gift, open_gift, mark, draws, unless_settled, changed_to, changed, with_change, begun, alter, come, mail, new_promise, new_message, draw, new_lone_message}
 use Rattle.law_connected.specs.Known.{IsAmong, AllOf}
 use Rattle.law_connected.proofs.Knowing.{among_more}
 use Rattle.law_name.proofs.SameNames.{reference_is}
@@ -173,14 +173,6 @@ module _ (past : Past) where
   unfolding send_out
   brings_opens to i n = record { after = λ s g. (later_out s _, good_out s (record { to = to; note = Open i n }) tt g, tt) }
 
-  pub brings_settled : (to : ℕ) (n : Name) (y : Passed Name) → Brings past (send_out to (SettledTo n y))
-  unfolding send_out
-  brings_settled to n y = record { after = λ s g. (later_out s _, good_out s (record { to = to; note = SettledTo n y }) tt g, tt) }
-
-  pub brings_elsewhere : (to : ℕ) (n : Name) (c : ℕ) → Brings past (send_out to (Elsewhere n c))
-  unfolding send_out
-  brings_elsewhere to n c = record { after = λ s g. (later_out s _, good_out s (record { to = to; note = Elsewhere n c }) tt g, tt) }
-
   pub brings_shorten : (to : ℕ) (n : Name) (c i : ℕ) → Brings past (send_out to (Shorten n c i))
   unfolding send_out
   brings_shorten to n c i = record { after = λ s g. (later_out s _, good_out s (record { to = to; note = Shorten n c i }) tt g, tt) }
@@ -290,4 +282,4 @@ module _ (word : ℕ → ℕ) (v : ℕ) (past : Past) where
   unfolding draw
   brings_draw = record { after = λ s g. draws_after past s _ _ g }
 
-pub ruleset brings = (brings_bind, brings_then, brings_ending, brings_some, brings_if, brings_give, brings_throw, brings_eject, brings_stop, brings_look, tells_got, tells_back, tells_thrown, tells_left, tells_called, tells_slot_made, tells_slot_read, tells_slot_wrote, tells_list_made, tells_list_came, tells_ejector_made, tells_audition_made, tells_promise_made, tells_object_made, tells_sends, tells_reacts, tells_finished, tells_threw, tells_settles, tells_waits, tells_views, tells_lost, tells_posted, brings_activation, brings_spend, brings_thing, brings_kill, brings_slot, brings_write, brings_list, brings_ask, brings_opens, brings_settled, brings_elsewhere, brings_shorten, brings_gift, brings_open, brings_mark, brings_each, alters_wait, alters_wait_on, alters_tell, brings_come, brings_mail, brings_promise, brings_message, brings_lone_message, brings_draw)
+pub ruleset brings = (brings_bind, brings_then, brings_ending, brings_some, brings_if, brings_give, brings_throw, brings_eject, brings_stop, brings_look, tells_got, tells_back, tells_thrown, tells_left, tells_called, tells_slot_made, tells_slot_read, tells_slot_wrote, tells_list_made, tells_list_came, tells_ejector_made, tells_audition_made, tells_promise_made, tells_object_made, tells_sends, tells_reacts, tells_finished, tells_threw, tells_settles, tells_waits, tells_views, tells_lost, tells_posted, brings_activation, brings_spend, brings_thing, brings_kill, brings_slot, brings_write, brings_list, brings_ask, brings_opens, brings_shorten, brings_gift, brings_open, brings_mark, brings_each, alters_wait, alters_wait_on, alters_tell, brings_come, brings_mail, brings_promise, brings_message, brings_lone_message, brings_draw)

@@ -32,7 +32,7 @@ module _ {N W : Type 0} (K : Naming N W) (before : List (Known N)) where
     led_reaches on f n (WaitsOn q) h = itself
     led_reaches on f n Unsettled h = itself
 
-    follow_reaches : (d : ℕ) (x : Value N) → Reaches K before so x (follow_at K d ks x)
+    pub follow_reaches : (d : ℕ) (x : Value N) → Reaches K before so x (follow_at K d ks x)
     unfolding follow_at
     follow_reaches zero x = itself
     follow_reaches (suc d) (Ref n) = led_reaches (λ y. follow_at K d ks y) (λ y. follow_reaches d y) n (standing_of K ks n) (all n)

@@ -1,8 +1,9 @@
 -- When the history of a step is connected: an activation uses only what it knows, and gives back only what it knows.
 use Rattle.std.specs.Prelude.{◌≡◌, ℕ, List, [], ◌∷◌, ◌++◌, Option, Some, None, map, slice_get, ◌⊎◌}
 use Rattle.def_machine.specs.Values.{Words, Value, Null, Ref, Naming, Own}
-use Rattle.def_machine.specs.State.{Cell, Vat, Happened, Called, Back, Thrown, Left, Got, SlotMade, SlotRead, SlotWrote, ListMade, EjectorMade, AuditionMade, ObjectMade, Sends, Reacts, Finished}
+use Rattle.def_machine.specs.State.{Cell, Vat, Happened, Called, Back, Thrown, Left, Got, SlotMade, SlotRead, SlotWrote, ListMade, EjectorMade, AuditionMade, ObjectMade, Sends, Reacts, Finished, Settles, Waits, Views}
 use Rattle.law_machine.specs.Steps.{Step, Opens, Takes, Receives, Notices, does, After}
+use Rattle.law_connected.specs.Settlings.{Follows, SettlesWell, WaitsWell, ViewsBy}
 use Rattle.law_connected.specs.Known.{Item, AValue, ASlot, IsAmong, AllOf, Holdings, parts_of_all, by, values, IsThing, Knows, opened_known}
 
 -- ---- what a line uses
@@ -64,7 +65,7 @@ unfoldable pub served : {N : Type 0} → List (Open N) → Option (Value N)
 served [] = None
 served (c ∷ cs) = unless_begun c.begun c.receiver
 
-module _ {N W : Type 0} (K : Naming N W) (h : Holdings N) where
+module _ {N W : Type 0} (K : Naming N W) (h : Holdings N W) where
   -- The audition of that number is of an object that this activation evaluates. One that is made while an audition is asked is of the same object.
   pub data Judges (so : List (Happened N)) : ℕ → ℕ → Type 0 where
     evaluates : {a i : ℕ} (n : N) (front rest : List (Happened N)) → so ≡ front ++ AuditionMade a n ∷ rest → K.spot n ≡ Own i → served (open_from [] front) ≡ None → Judges so a i
@@ -92,6 +93,12 @@ module _ {N W : Type 0} (K : Naming N W) (h : Holdings N) where
   ComesWell so (Got a v) = GotWell so a v
   -- the guard of a slot is known to who makes it
   ComesWell so (SlotMade a k v) = (c : Cell N) × (slice_get h.slots k ≡ Some c) × Knows K h so a (AValue c.guard)
+  -- what reacts is what the vat follows the value to that is to react
+  ComesWell so (Reacts a x o m) = Follows K h.start so o m.target
+  -- what is told of a name has its cause
+  ComesWell so (Settles p y) = SettlesWell K h.start so p y
+  ComesWell so (Waits p q) = WaitsWell K h.start so p q
+  ComesWell so (Views p q) = ViewsBy K h.start h.start.step p q
   ComesWell so _ = Unit {0}
 
   -- a line, after these
@@ -121,8 +128,8 @@ given_to s (Takes tree depth m) = []
 given_to s (Receives from n) = []
 given_to s (Notices w) = []
 
-unfoldable pub held_from : {N W : Type 0} → Step N W → Vat N → Vat N → Holdings N
-held_from step s t = record { things = t.things; lists = t.lists; slots = t.slots; before = s.known; given = given_to s step }
+unfoldable pub held_from : {N W : Type 0} → Step N W → Vat N → Vat N → Holdings N W
+held_from step s t = record { things = t.things; lists = t.lists; slots = t.slots; before = s.known; given = given_to s step; start = record { step = step; vat = s } }
 
 -- The lines of a step are connected, however it ends. Before a step nothing has happened in it.
 abbrev pub StepConnected : {N W : Type 0} → Naming N W → Step N W → Vat N → Type 0

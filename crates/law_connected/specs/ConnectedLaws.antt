@@ -5,10 +5,10 @@ use Rattle.def_machine.specs.State.{Binding, Cell, Made, Happened}
 use Rattle.law_machine.specs.Steps.{Opens}
 use Rattle.law_connected.specs.Known.{Item, AValue, ASlot, IsAmong, Holdings, IsPlain, parts_of_all, tells, Leads, Runs, Knows}
 use Rattle.law_connected.specs.Connected.{Connected, StepConnected}
-use Rattle.law_connected.specs.Rows.{one_object, secret, handed, program, escaping, auditing, fresh}
+use Rattle.law_connected.specs.Rows.{one_object, secret, handed, answering, stray, program, escaping, auditing, fresh}
 
 -- A property of what activations have that each way to come by a reference keeps.
-pub record IsClosed {N W : Type 0} (K : Naming N W) (h : Holdings N) (so : List (Happened N)) (P : ℕ → Item N → Type 0) : Type 0 where
+pub record IsClosed {N W : Type 0} (K : Naming N W) (h : Holdings N W) (so : List (Happened N)) (P : ℕ → Item N → Type 0) : Type 0 where
   pub plain : (a : ℕ) (v : Value N) → IsPlain v → P a (AValue v)
   pub initial : (a : ℕ) (i : Item N) → IsAmong (a, i) h.given → P a i
   pub endowed : (a k node : ℕ) (caught : List (Binding N)) (stamps : List (Value N)) (i : Item N)
@@ -20,10 +20,10 @@ pub record IsClosed {N W : Type 0} (K : Naming N W) (h : Holdings N) (so : List 
 
 -- what an activation knows is the least that these ways give: whatever holds of all that they give holds of all that is known
 abbrev pub IsLeast : {N W : Type 0} → Naming N W → Type 0
-IsLeast {N} K = (h : Holdings N) (so : List (Happened N)) (p : ℕ → Item N → Bool) → IsClosed K h so (λ a i. p a i ≡ true) → (a : ℕ) (i : Item N) → Knows K h so a i → p a i ≡ true
+IsLeast {N} {W} K = (h : Holdings N W) (so : List (Happened N)) (p : ℕ → Item N → Bool) → IsClosed K h so (λ a i. p a i ≡ true) → (a : ℕ) (i : Item N) → Knows K h so a i → p a i ≡ true
 
 -- a later state, in which objects keep their captures, lists their members and slots their guards
-pub record Grown {N : Type 0} (h more : Holdings N) : Type 0 where
+pub record Grown {N W : Type 0} (h more : Holdings N W) : Type 0 where
   pub objects : (i node : ℕ) (caught : List (Binding N)) (stamps : List (Value N)) → slice_get h.things i ≡ Some (Made node caught stamps) → slice_get more.things i ≡ Some (Made node caught stamps)
   pub lists : (k : ℕ) (vs : List (Value N)) → slice_get h.lists k ≡ Some vs → slice_get more.lists k ≡ Some vs
   pub guards : (k : ℕ) (c : Cell N) → slice_get h.slots k ≡ Some c → (d : Cell N) × (slice_get more.slots k ≡ Some d) × (c.guard ≡ d.guard)
@@ -32,7 +32,7 @@ pub record Grown {N : Type 0} (h more : Holdings N) : Type 0 where
 
 -- what is known stays known, after more lines and in a later state
 abbrev pub Stays : {N W : Type 0} → Naming N W → Type 0
-Stays {N} K = (h later : Holdings N) (so more : List (Happened N)) (a : ℕ) (i : Item N) → Grown h later → Knows K h so a i → Knows K later (so ++ more) a i
+Stays {N} {W} K = (h later : Holdings N W) (so more : List (Happened N)) (a : ℕ) (i : Item N) → Grown h later → Knows K h so a i → Knows K later (so ++ more) a i
 
 -- under global names and under local numbers
 abbrev pub KnownIsLeast : Type 0
@@ -48,6 +48,10 @@ HandedIsConnected = (word : ℕ → ℕ) → Connected (naming word 0) one_objec
 -- what its caller has and does not hand to it, it may not
 abbrev pub KeptIsNotConnected : Type 0
 KeptIsNotConnected = (word : ℕ → ℕ) → Connected (naming word 0) one_object (handed []) → ⊥
+
+-- an answer may not settle to what the turn did not give
+abbrev pub StrayIsNotConnected : Type 0
+StrayIsNotConnected = (word : ℕ → ℕ) → Connected (naming word 0) answering stray → ⊥
 
 -- the opening turn of a small program, in which an object uses a capture, an argument and what a call gave back
 abbrev pub ProgramIsConnected : Type 0

@@ -1,8 +1,9 @@
 -- What an activation knows at a moment of a step of its vat: the least that initial conditions, endowment, parenthood and introduction give it.
 use Rattle.std.specs.Prelude.{◌≡◌, ℕ, true, List, [], ◌∷◌, ◌++◌, Some, map, slice_get, ◌⊎◌, Option, None}
 use Rattle.def_machine.specs.Values.{Words, Value, Null, Flag, Number, Letter, Text, Prim, Broken, Items, Ref, Naming, Own}
-use Rattle.def_machine.specs.State.{Bound, Fixed, Slot, Binding, Cell, Thing, Made, Message, Viewed, Settled, Known, Happened, Took, Called, Back, Got, SlotMade, SlotRead, ListMade, EjectorMade, AuditionMade, PromiseMade, ObjectMade, Sends, Reacts, Settles, Views}
+use Rattle.def_machine.specs.State.{Bound, Fixed, Slot, Binding, Cell, Thing, Made, Message, Viewed, Settled, Known, Happened, Took, Called, Back, Got, SlotMade, SlotRead, ListMade, EjectorMade, AuditionMade, PromiseMade, ObjectMade, Sends, Reacts, Settles, Views, Vat}
 use Rattle.def_machine.specs.Refs.{standing_of}
+use Rattle.law_machine.specs.Steps.{Step}
 
 -- what may be known: a value, or a var slot
 pub data Item (N : Type 0) : Type 0 where
@@ -18,8 +19,13 @@ abbrev pub AllOf : {A : Type 0} → (A → Type 0) → List A → Type 0
 AllOf P [] = Unit {0}
 AllOf P (x ∷ xs) = P x × AllOf P xs
 
+-- a step, and the vat before it
+pub record Start (N W : Type 0) : Type 0 where
+  pub step : Step N W
+  pub vat : Vat N
+
 -- What a step's lines are read against. Objects keep their captures, lists their members and slots their guards, so these may be looked up in the state after the step.
-pub record Holdings (N : Type 0) : Type 0 where
+pub record Holdings (N W : Type 0) : Type 0 where
   pub things : List (Thing N)
   pub lists : List (List (Value N))
   pub slots : List (Cell N)
@@ -27,6 +33,7 @@ pub record Holdings (N : Type 0) : Type 0 where
   pub before : List (Known N)
   -- what an opening activation is given, each with the number of that activation
   pub given : List (ℕ × Item N)
+  pub start : Start N W
 
 -- data in which no name and no list stands: everyone has it
 abbrev pub IsPlain : {N : Type 0} → Value N → Type 0
@@ -108,7 +115,7 @@ module _ {N W : Type 0} (K : Naming N W) (before : List (Known N)) where
   abbrev pub IsThing : List (Happened N) → Value N → ℕ → Type 0
   IsThing so x i = (n : N) × Reaches so x (Ref n) × (K.spot n ≡ Own i)
 
-module _ {N W : Type 0} (K : Naming N W) (h : Holdings N) where
+module _ {N W : Type 0} (K : Naming N W) (h : Holdings N W) where
   -- an activation runs the code of that object: a call on it began the activation, or it took a message
   pub data Runs (so : List (Happened N)) : ℕ → ℕ → Type 0 where
     called : {b i : ℕ} (a : ℕ) (x : Value N) (verb : Words) (args : List (Value N)) → IsAmong (Called a x verb args (Some b)) so → IsThing K h.before so x i → Runs so b i

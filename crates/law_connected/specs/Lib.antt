@@ -1,4 +1,6 @@
 pub mod Known
+pub mod Settlings
+pub mod Shortening
 pub mod Connected
 pub mod Natives
 pub mod Liveness

@@ -1,25 +1,35 @@
 -- In every world of a run each message stems from what was sent.
 use Rattle.std.specs.Prelude.{◌≡◌, ℕ, Some, slice_get}
-use Rattle.def_machine.specs.Values.{Name, Ref}
-use Rattle.def_machine.specs.State.{Message, Known, Note, Deliver, Open, Ask, SettledTo, Elsewhere, Shorten, Took, Vat}
+use Rattle.def_machine.specs.Values.{Name, Object, Ref}
+use Rattle.def_machine.specs.State.{Message, Known, Standing, Unsettled, WaitsOn, Viewed, Settled, Happened, Settles, Views, Note, Deliver, Open, Ask, SettledTo, Elsewhere, Shorten, Took, Vat}
 use Rattle.def_run.specs.World.{Link, Here, World}
 use Rattle.law_connected.specs.Known.{IsAmong, AllOf}
 use Rattle.law_fate.specs.FateRuns.{InRuns}
-use Rattle.law_connected.specs.Stems.{LeadsTo, HasLine, ArgsPass, Stems}
+use Rattle.law_connected.specs.Stems.{LeadsTo, PassesAs, HasLine, HasList, HasOpened, ArgsPass, Stems}
 
--- a deliver note from vat u: its message is one there, and its arguments stand for those
+-- A note from vat u: the message of a deliver note is one there, and its arguments stand for those. What it tells of a name is what the name leads to there.
 abbrev pub NoteStems : World → ℕ → Note Name → Type 0
 NoteStems w u (Deliver i n verb ys) = (m : Message Name) × Stems w u m × (m.id ≡ i.message) × (m.verb ≡ verb) × LeadsTo (HasLine w u) m.target (Ref n) × ArgsPass w u m.args ys
 NoteStems w u (Open i n) = Unit {0}
 NoteStems w u (Ask p i n) = Unit {0}
-NoteStems w u (SettledTo n y) = Unit {0}
-NoteStems w u (Elsewhere n c) = Unit {0}
+-- it tells what the name passes as, or that the name leads to an object of vat c
+NoteStems w u (SettledTo n y) = PassesAs (HasLine w u) (HasList w u) (HasOpened w u) (Ref n) y
+NoteStems w u (Elsewhere n c) = (i : ℕ) × LeadsTo (HasLine w u) (Ref n) (Ref (Object c i))
 NoteStems w u (Shorten n c i) = Unit {0}
+
+-- a standing of a name that these lines tell
+abbrev pub IsToldStanding : (Happened Name → Type 0) → Name → Standing Name → Type 0
+IsToldStanding line n Unsettled = Unit {0}
+IsToldStanding line n (WaitsOn q) = Unit {0}
+IsToldStanding line n (Viewed q) = line (Views n q)
+IsToldStanding line n (Settled y) = line (Settles n y)
 
 -- In a world each message stems from what was sent: in each vat those of its queue, and those that wait or react at a name; those under way; and those that were taken.
 pub record AllStem (w : World) : Type 0 where
   pub queues : (v : ℕ) (s : Vat Name) → slice_get w.vats v ≡ Some s → AllOf (Stems w v) s.queue
   pub names : (v : ℕ) (s : Vat Name) → slice_get w.vats v ≡ Some s → AllOf (λ (k : Known Name). AllOf (Stems w v) k.held × AllOf (Stems w v) k.reactions) s.known
+  -- to what a name settled and as what it is viewed, its vat told
+  pub standings : (v : ℕ) (s : Vat Name) → slice_get w.vats v ≡ Some s → AllOf (λ (k : Known Name). IsToldStanding (HasLine w v) k.name k.standing) s.known
   pub links : AllOf (λ (l : Link). AllOf (NoteStems w l.from) l.notes) w.links
   pub taken : (v a : ℕ) (m : Message Name) → IsAmong (Here v (Took a m)) w.history → Stems w v m
 

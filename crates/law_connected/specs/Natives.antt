@@ -15,7 +15,7 @@ ReplyHas P (Fails p) = Unit {0}
 
 -- Data on which an activation calls answers with what that activation knows: the value that it gives, the members of a list that is made of it, and what it calls in turn.
 abbrev pub AnswersKnown : {N W : Type 0} → Naming N W → Type 0
-AnswersKnown {N} K = (h : Holdings N) (so : List (Happened N)) (a : ℕ) (y : Value N) (verb : Words) (held args : List (Value N))
+AnswersKnown {N} {W} K = (h : Holdings N W) (so : List (Happened N)) (a : ℕ) (y : Value N) (verb : Words) (held args : List (Value N))
     → Knows K h so a (AValue y) → AllOf (λ v. Knows K h so a (AValue v)) held → AllOf (λ v. Knows K h so a (AValue v)) args
     → ReplyHas (λ v. Knows K h so a (AValue v)) (data_reply h.lists y verb held args)
 

@@ -1,11 +1,33 @@
 -- Histories that are connected, and one that is not.
 use Rattle.std.specs.Prelude.{ℕ, List, [], ◌∷◌, None, Some, codes}
 use Rattle.def_machine.specs.Values.{Value, Null, Ref, Name, Root, Object, Promise, Answer, Sent, Msg}
-use Rattle.def_machine.specs.State.{Made, Message, Vat, Happened, Took, Called, Sends, begun}
+use Rattle.def_machine.specs.State.{Made, Message, Vat, Happened, Took, Called, Sends, Finished, Settles, begun}
 use Rattle.def_kernel.specs.declared.node.Literal.TheVariants as literal
 use Rattle.def_kernel.specs.declared.node.Node.{Node}
 use Rattle.def_kernel.specs.declared.node.Node.TheVariants as node
+use Rattle.law_machine.specs.Steps.{Opens, Takes}
 use Rattle.law_connected.specs.Known.{Holdings}
+
+-- a vat before its opening turn, which knows its own root
+unfoldable pub fresh : Vat Name
+fresh = record {
+  number = 0;
+  fuel = 1000;
+  drawn = [];
+  things = [];
+  slots = [];
+  lists = [];
+  activations = 0;
+  messages = 0;
+  promises = 0;
+  queue = [];
+  known = begun (Root 0) 0 ∷ [];
+  mails = [];
+  gifts = [];
+  noticed = [];
+  outbox = [];
+  happened = [];
+}
 
 -- ---- handed on, or not
 
@@ -16,8 +38,8 @@ helper = Ref (Object 0 0)
 unfoldable pub secret : Value Name
 secret = Ref (Promise 0 0)
 
-unfoldable pub one_object : Holdings Name
-one_object = record { things = Made 0 [] [] ∷ []; lists = []; slots = []; before = []; given = [] }
+unfoldable pub one_object : Holdings Name Name
+one_object = record { things = Made 0 [] [] ∷ []; lists = []; slots = []; before = []; given = []; start = record { step = Opens [] 0 (Root 0) []; vat = fresh } }
 
 unfoldable pub sent : ℕ → Msg
 sent n = record { sender = 0; number = n }
@@ -31,6 +53,19 @@ handed args =
     Took 0 (message 0 Null (helper ∷ secret ∷ []))
     ∷ Called 0 helper (codes "run") args (Some 1)
     ∷ Sends 1 (message 1 secret [])
+    ∷ []
+
+-- ---- settled to what nobody gave
+
+unfoldable pub answering : Holdings Name Name
+answering = record one_object { start = record { step = Takes [] 0 (message 0 helper []); vat = fresh } }
+
+-- Activation 0 takes a message and gives null, and the answer settles to the secret.
+unfoldable pub stray : List (Happened Name)
+stray =
+    Took 0 (message 0 helper [])
+    ∷ Finished 0 Null
+    ∷ Settles (Answer 0 (sent 0)) secret
     ∷ []
 
 -- ---- a small program
@@ -109,27 +144,6 @@ auditing =
     ∷ node.Noun (codes "k")
     ∷ []
 
--- a vat before its opening turn, which knows its own root
-unfoldable pub fresh : Vat Name
-fresh = record {
-  number = 0;
-  fuel = 1000;
-  drawn = [];
-  things = [];
-  slots = [];
-  lists = [];
-  activations = 0;
-  messages = 0;
-  promises = 0;
-  queue = [];
-  known = begun (Root 0) 0 ∷ [];
-  mails = [];
-  gifts = [];
-  noticed = [];
-  outbox = [];
-  happened = [];
-}
-
 unfoldable pub opened_rows : Unit {0}
-unfolding helper secret one_object sent message handed program escaping auditing fresh
+unfolding helper secret one_object sent message handed answering stray program escaping auditing fresh
 opened_rows = tt

@@ -1,8 +1,8 @@
 -- Where the messages of a run come from: the line that sent each, and what its arguments were on the way.
-use Rattle.std.specs.Prelude.{◌≡◌, ℕ, List, [], ◌∷◌, Some, slice_get, ◌⊎◌}
-use Rattle.def_machine.specs.Values.{Value, Null, Flag, Number, Letter, Text, Prim, Broken, Items, Ref, Name, Gift}
-use Rattle.def_machine.specs.State.{Message, Passed, Passeds, Plain, AGift, Many, NoMore, More, Open, Happened, Sends, Reacts, Settles, Views, Vat}
-use Rattle.def_run.specs.World.{Link, Here, World, link_at}
+use Rattle.std.specs.Prelude.{◌≡◌, ℕ, List, [], ◌∷◌, Some, slice_get, ◌⊎◌, codes}
+use Rattle.def_machine.specs.Values.{Words, Value, Null, Flag, Number, Letter, Text, Prim, Broken, Items, Ref, Name, Gift}
+use Rattle.def_machine.specs.State.{Message, Delivery, Deliver, Passed, Passeds, Plain, AGift, Many, NoMore, More, Open, Happened, Sends, Reacts, Settles, Views, Vat}
+use Rattle.def_run.specs.World.{Link, Carried, Here, World, link_at}
 use Rattle.law_connected.specs.Known.{IsAmong}
 
 -- ---- how an argument passes
@@ -15,9 +15,9 @@ module _ (line : Happened Name → Type 0) where
     settled : {z : Value Name} (n : Name) (y : Value Name) → line (Settles n y) → LeadsTo y z → LeadsTo (Ref n) z
     viewed : {z : Value Name} (n q : Name) → line (Views n q) → LeadsTo (Ref q) z → LeadsTo (Ref n) z
 
-  -- A problem brings nothing; other data, and each name, is what the value leads to. No list passes by its number.
+  -- Data, and each name, is what the value leads to; or it leads to a name that is severed, or to a list above the limits, and passes as that problem. No list passes by its number.
   abbrev pub PassesPlain : Value Name → Value Name → Type 0
-  PassesPlain x (Broken p) = Unit {0}
+  PassesPlain x (Broken p) = LeadsTo x (Broken p) ⊎ ((n : Name) × LeadsTo x (Ref n) × (p ≡ codes "partition")) ⊎ ((k : ℕ) × LeadsTo x (Items k) × (p ≡ codes "too heavy"))
   PassesPlain x (Items k) = ⊥
   PassesPlain x (Ref n) = LeadsTo x (Ref n)
   PassesPlain x Null = LeadsTo x Null
@@ -77,9 +77,13 @@ module _ (w : World) where
   abbrev pub ArgsPass : ℕ → List (Value Name) → Passeds Name → Type 0
   ArgsPass u xs ys = PassAll (HasLine u) (HasList u) (HasOpened u) xs ys
 
+  -- a deliver note of this message was carried from vat u to vat v
+  abbrev pub HasCarried : ℕ → ℕ → Name → Name → Words → Passeds Name → Type 0
+  HasCarried u v id z verb ys = (k : ℕ) × (d : Delivery Name) × (bytes : List ℕ) × (d.message ≡ id) × IsAmong (Carried k u v (Deliver d z verb ys) bytes) w.history
+
   -- A message at vat v: it was sent there, or reacted there, or a note brought it from vat u, where it stems from.
   pub data Stems : ℕ → Message Name → Type 0 where
     sent : {v : ℕ} {m : Message Name} (a : ℕ) (x : Value Name) → HasLine v (Sends a (record m { target = x })) → LeadsTo (HasLine v) x m.target → Stems v m
     reacted : {v : ℕ} {m : Message Name} (a : ℕ) (x o t : Value Name) → m.args ≡ x ∷ [] → HasLine v (Reacts a x o (record m { target = t })) → LeadsTo (HasLine v) t m.target → Stems v m
-    carried : {v : ℕ} {m : Message Name} (u : ℕ) (n : Message Name) (z : Name) (ys : Passeds Name) → Stems u n → n.id ≡ m.id → n.verb ≡ m.verb → LeadsTo (HasLine u) n.target (Ref z) → LeadsTo (HasLine v) (Ref z) m.target
+    carried : {v : ℕ} {m : Message Name} (u : ℕ) (n : Message Name) (z : Name) (ys : Passeds Name) → HasCarried u v m.id z m.verb ys → Stems u n → n.id ≡ m.id → n.verb ≡ m.verb → LeadsTo (HasLine u) n.target (Ref z) → LeadsTo (HasLine v) (Ref z) m.target
         → ArgsPass u n.args ys → ComeAll (HasList v) ys m.args → Stems v m

@@ -1,7 +1,7 @@
--- What objects and var slots hold between steps, a line of the step in which it was put there tells.
-use Rattle.std.specs.Prelude.{◌≡◌, ℕ, zero, false, List, [], ◌∷◌, ◌++◌, Some, map, slice_get, ◌⊎◌}
-use Rattle.def_machine.specs.Values.{Words, Value, Name, Object, Naming, naming, numbering}
-use Rattle.def_machine.specs.State.{Binding, Cell, Made, Happened, ObjectMade, SlotMade, SlotRead, SlotWrote, Vat}
+-- What objects and var slots hold between steps, of which promise a resolver is and what waits on a name, a line of the step in which it came to be so tells.
+use Rattle.std.specs.Prelude.{◌≡◌, ℕ, zero, true, false, List, [], ◌∷◌, ◌++◌, Some, map, slice_get, ◌⊎◌}
+use Rattle.def_machine.specs.Values.{Words, Value, Name, Object, Own, spot_of, Naming, naming, numbering}
+use Rattle.def_machine.specs.State.{Binding, Cell, Made, Resolver, Known, Happened, PromiseMade, Waits, Views, ObjectMade, SlotMade, SlotRead, SlotWrote, Vat}
 use Rattle.law_machine.specs.Steps.{Step, does, After}
 use Rattle.def_run.specs.World.{Script, Program, Entry, World, Here, Goes, begins, open_from, steps_from}
 use Rattle.law_connected.specs.Known.{IsAmong}
@@ -27,9 +27,18 @@ abbrev pub ReadsTold : {N : Type 0} → List (Cell N) → List (Happened N) → 
 ReadsTold slots so [] = Unit {0}
 ReadsTold slots so (e ∷ es) = ReadTold slots so e × ReadsTold slots (so ++ e ∷ []) es
 
+-- each resolver was there before, or a line tells with which promise it was made
+abbrev pub ResolversTold : {N W : Type 0} → Naming N W → Vat N → Vat N → Type 0
+ResolversTold {N} K s t = (i : ℕ) (p : N) → slice_get t.things i ≡ Some (Resolver p) → (slice_get s.things i ≡ Some (Resolver p)) ⊎ ((a : ℕ) × (r : N) × IsAmong (PromiseMade a p r) t.happened × (K.spot r ≡ Own i))
+
+-- what waits on a name did so before, or a line tells that it waits on it or is viewed as it
+abbrev pub WaitsTold : {N W : Type 0} → Naming N W → Vat N → Vat N → Type 0
+WaitsTold {N} K s t = (k : Known N) (p : N) → IsAmong k t.known → IsAmong p k.waiting
+    → ((j : Known N) × IsAmong j s.known × (j.name ≡ k.name) × IsAmong p j.waiting) ⊎ ((n : N) × (IsAmong (Waits p n) t.happened ⊎ IsAmong (Views p n) t.happened) × (K.same k.name n ≡ true))
+
 -- after each step, however it ends, from a vat in which nothing has happened in the step and nothing is live
 abbrev pub StepsTell : {N W : Type 0} → Naming N W → Type 0
-StepsTell {N} {W} K = (step : Step N W) (s : Vat N) → s.happened ≡ [] → ((i : ℕ) → live_at s.things i ≡ false) → After (λ s t. ObjectsTold K s t × SlotsTold s t × ReadsTold s.slots [] t.happened) s (does K step s)
+StepsTell {N} {W} K = (step : Step N W) (s : Vat N) → s.happened ≡ [] → ((i : ℕ) → live_at s.things i ≡ false) → After (λ s t. ObjectsTold K s t × SlotsTold s t × ReadsTold s.slots [] t.happened × ResolversTold K s t × WaitsTold K s t) s (does K step s)
 
 -- under global names and under local numbers
 abbrev pub StepsTellWhatTheyMake : Type 0
@@ -45,9 +54,17 @@ abbrev pub ContentsTold : World → ℕ → Vat Name → Type 0
 ContentsTold w v s = (k : ℕ) (c : Cell Name) → slice_get s.slots k ≡ Some c
     → (a : ℕ) × (IsAmong (Here v (SlotMade a k c.value)) w.history ⊎ IsAmong (Here v (SlotWrote a k c.value)) w.history)
 
+-- with which promise each resolver was made
+abbrev pub PromisesTold : World → ℕ → Vat Name → Type 0
+PromisesTold w v s = (i : ℕ) (p : Name) → slice_get s.things i ≡ Some (Resolver p) → (a : ℕ) × (r : Name) × IsAmong (Here v (PromiseMade a p r)) w.history × (spot_of v r ≡ Own i)
+
+-- and that what waits on a name waits on it, or is viewed as it
+abbrev pub WaitingTold : World → ℕ → Vat Name → Type 0
+WaitingTold w v s = (k : Known Name) (p : Name) → IsAmong k s.known → IsAmong p k.waiting → IsAmong (Here v (Waits p k.name)) w.history ⊎ IsAmong (Here v (Views p k.name)) w.history
+
 -- in each vat of a world
 abbrev pub HeldTold : World → Type 0
-HeldTold w = (v : ℕ) (s : Vat Name) → slice_get w.vats v ≡ Some s → EndowmentsTold w v s × ContentsTold w v s
+HeldTold w = (v : ℕ) (s : Vat Name) → slice_get w.vats v ≡ Some s → EndowmentsTold w v s × ContentsTold w v s × PromisesTold w v s × WaitingTold w v s
 
 -- in the world after any of the opening turns, and after all of them and any entries
 abbrev pub RunsTellWhatIsHeld : Type 0

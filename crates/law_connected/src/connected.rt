@@ -6,7 +6,7 @@ ghost use Rattle.law_connected.specs.Liveness.{WhatIsMadeDies};
 ghost use Rattle.law_connected.specs.Runs.{NothingLiveInRuns};
 ghost use Rattle.law_connected.specs.Natives.{DataAddsNothing};
 ghost use Rattle.law_connected.specs.Nesting.{CallsNest};
-ghost use Rattle.law_connected.specs.ConnectedLaws.{AuditIsConnected, EscapeIsConnected, HandedIsConnected, KeptIsNotConnected, KnownIsLeast, KnownStays, ProgramIsConnected};
+ghost use Rattle.law_connected.specs.ConnectedLaws.{AuditIsConnected, EscapeIsConnected, HandedIsConnected, KeptIsNotConnected, KnownIsLeast, KnownStays, ProgramIsConnected, StrayIsNotConnected};
 
 /// What an activation knows is the least that initial conditions, endowment, parenthood and
 /// introduction give it: what holds of all that these give holds of all that it knows.
@@ -28,6 +28,12 @@ pub fn handed_is_connected()
 /// An activation that sends on what its caller has, and did not hand to it, is not.
 pub fn kept_is_not_connected()
     ensures { KeptIsNotConnected }
+{}
+
+/// A history is not connected in which the answer of a turn settles to a name, where the turn gave
+/// null.
+pub fn stray_is_not_connected()
+    ensures { StrayIsNotConnected }
 {}
 
 /// The opening turn of a small program is connected, in which an object uses a capture, an argument

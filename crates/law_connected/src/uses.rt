@@ -1,5 +1,6 @@
 //! What activations use, they know.
 
+ghost use Rattle.law_connected.specs.Shortening.{ShorteningsOpenWhatIsAsked};
 ghost use Rattle.law_connected.specs.UseLaws.{StepsAreConnected};
 ghost use Rattle.law_connected.specs.UseLaws.{RunsAreConnected};
 ghost use Rattle.law_connected.specs.Told.{StepsTellWhatTheyMake};
@@ -7,10 +8,18 @@ ghost use Rattle.law_connected.specs.Told.{RunsTellWhatIsHeld};
 ghost use Rattle.law_connected.specs.News.{WhatIsMadeIsNew};
 
 /// The lines of every step of a vat are connected, however it ends: an activation uses and gives
-/// back only what it knows by initial conditions, endowment, parenthood and introduction. It asks
+/// back only what it knows by initial conditions, endowment, parenthood and introduction, and what a
+/// line tells of a name, that it settles, waits or comes to be viewed, has its cause before it. It asks
 /// that nothing has happened in the step before, and that no ejector and no audition is live.
 pub fn steps_are_connected()
     ensures { StepsAreConnected }
+{}
+
+/// Where a note arrives that asks a vat to open a gift for what a name settled to, each note that the
+/// vat puts in this step opens that gift as an object to which the name leads, and goes to the vat of
+/// that object. It asks that nothing has happened in the step before and no note was put in it.
+pub fn shortenings_open_what_is_asked()
+    ensures { ShorteningsOpenWhatIsAsked }
 {}
 
 /// In every run, of any script, every step that a vat begins in a world of the run is connected:
@@ -20,7 +29,8 @@ pub fn runs_are_connected()
 {}
 
 /// After every step of a vat each object was there before it, or a line of the step tells with which
-/// captures and stamps it was made; what is in a var slot was in it before, or a line tells that an
+/// captures and stamps it was made, and each resolver, with which promise; what waits on a name did so
+/// before, or a line tells it; what is in a var slot was in it before, or a line tells that an
 /// activation put it there; and what a line says was read from a slot was in it before the step, or
 /// a line before it tells that. It asks what `steps_are_connected` asks.
 pub fn steps_tell_what_they_make()
@@ -28,7 +38,8 @@ pub fn steps_tell_what_they_make()
 {}
 
 /// In every world of every run the history tells with which captures and stamps each object was
-/// made, and that an activation of its vat put in each var slot what is in it.
+/// made, with which promise each resolver, that an activation of its vat put in each var slot what is
+/// in it, and that what waits on a name waits on it or is viewed as it.
 pub fn runs_tell_what_is_held()
     ensures { RunsTellWhatIsHeld }
 {}

@@ -196,3 +196,28 @@ fn lists_and_texts(rt: HostRuntime) -> Result<(), Fail> {
     assert!(rt; Str::copy_of(alloc, "né")?.as_str() == "né");
     Ok(())
 }
+
+/// The lines of the opening turn, of each entry and of the closing list are written before the next step begins: each by one put, where the
+/// sink takes all that it is handed.
+#[test]
+fn steps_are_written_one_by_one(rt: HostRuntime) -> Result<(), Fail> {
+    let alloc = rt.alloc();
+    let key = "0000000000000000000000000000000000000000000000000000000000000000";
+    let script = format!(in alloc;
+        "{{\"key\":\"{key}\",\"vats\":[{{\"name\":\"a\",\"knows\":[],\"source\":\"def o {{ method f(x) {{ x }} }}; o <- f(1); o <- f(2)\"}}],\"schedule\":[\"turn a\",\"turn a\",\"turn a\"]}}"
+    )?;
+    let mut words = Seq::new(alloc);
+    words.push(Str::copy_of(alloc, "run")?)?;
+    let bytes = Seq::of(Vec::from_slice(alloc, script.as_bytes())?);
+    let mut source = MemorySource::new(bytes, 4096, Seq::new(alloc));
+    let mut sink = MemorySink::new(alloc, 100_000, 100_000, Seq::new(alloc))?;
+    let status = top(alloc, &words, &mut source, &mut sink);
+    assert_eq!(rt; status.code(), 0);
+    assert_eq!(rt; sink.call, 5);
+    assert!(rt;
+        sink.bytes
+            .as_slice()
+            .ends_with(b"settle a?a/1 2\nsettle @a 2\n3 idle\nend\n")
+    );
+    Ok(())
+}

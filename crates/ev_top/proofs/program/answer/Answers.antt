@@ -1,8 +1,10 @@
-use Rattle.std.proofs.Common.{string_bytes, subst, Some, Option, IfSome, List, ℕ}
+use Rattle.std.proofs.Common.{◌≡◌, subst, Option, IfSome}
 use Rattle.ev_top.specs.Commands.{command_of}
-use Rattle.ev_top.specs.Due.{Pays, Finishes}
+use Rattle.ev_top.specs.Due.{IsOfRead, Pays, debt_of}
 use Rattle.ev_top.specs.declared.command.Command.{Command}
-use Rattle.ev_top.proofs.DueLemmas.{plain, pays_left, pays_usage}
+use Rattle.ev_top.specs.declared.status.Status.{Status}
+use Rattle.ev_top.specs.declared.status.Status.TheVariants.{ReadFault}
+use Rattle.ev_top.proofs.DueLemmas.{plain, pays_usage, settled_left, settles_as}
 use Rattle.ev_top.proofs.program.answer.Goals as goal
 
 pub returns-in_default-clause-due : goal.returns-in_default-clause-due
@@ -14,9 +16,14 @@ pub returns-in-Ok-clause-due : goal.returns-in-Ok-clause-due
 returns-in-Ok-clause-due g c =
     let left = g.S.Source.left c.args.src.now in
     let held = g.K.Sink.written c.args.out.now in
-    let held' = g.K.Sink.written c.finish-in-Ok.new.out in
-    let text = string_bytes c.in-Ok.reply.text in
-    let finishes : Finishes held held' c.in-Ok.reply.status text c.finish-in-Ok.result =
-    subst (λ (t : List ℕ). Finishes held held' c.in-Ok.reply.status t c.finish-in-Ok.result) c.as_bytes.ensures.value c.finish-in-Ok.ensures.text in
-    let paid = pays_left (Some c.in-Some.command) left c.in-Ok.reply.status text held held' c.finish-in-Ok.result (plain c.in-Ok.reply.status c.in-Ok.ensures.kind) c.in-Ok.ensures.due finishes in
-    subst (λ (k : Option Command). IfSome left (λ input. Pays held held' c.finish-in-Ok.result k input)) c.in-Some.ensures paid
+    let held' = g.K.Sink.written c.pay.new.out in
+    let debt = debt_of c.in-Ok.owed in
+    let paid = settled_left c.in-Some.command left debt held held' c.pay.result (plain debt.status c.in-Ok.ensures.kind) c.in-Ok.ensures.due c.pay.ensures.text in
+    subst (λ (k : Option Command). IfSome left (λ input. Pays held held' c.pay.result k input)) c.in-Some.ensures paid
+
+pub returns-in-Ok-clause-unread : goal.returns-in-Ok-clause-unread
+returns-in-Ok-clause-unread g c = λ unread is.
+    let debt = debt_of c.in-Ok.owed in
+    let same =
+    settles_as (λ (s : Status). s ≡ ReadFault) (g.K.Sink.written c.args.out.now) (g.K.Sink.written c.pay.new.out) debt c.pay.result c.pay.ensures.text is (λ e. cc) (λ e. cc) in
+    subst IsOfRead same.1 c.in-Ok.ensures.kind

@@ -1,5 +1,4 @@
 use Rattle.std.proofs.Common.{ap, length, map, string_bytes, sym, ◌∙◌}
-use Rattle.ev_script.specs.declared.script.Entry.{Entry}
 use Rattle.ev_script.specs.declared.script.VatScript.{VatScript}
 use Rattle.ev_world.specs.Running.{script_of}
 use Rattle.ev_world.proofs.Wholes.{done_with, many_are, names_are, stopped_end_is, stopped_text_is}

@@ -1,0 +1,527 @@
+-- What a line of a run says, by its words. Rule 42 fails where the words are no line, and rule 43 where they are one of a
+-- run in which frames were put on links by hand.
+use Rattle.std.specs.Prelude.{ℕ, ◌+◌, ◌==◌, nat_lt, nat_le, Bool, true, false, ◌&&◌, ◌||◌, if◌then◌else◌, List, [], ◌∷◌, take, drop, length, position, unwrap_or, codes, Some, None, option_map, Result, Ok, Err}
+use Rattle.std.specs.declared.option.Option.{Option}
+use Rattle.std.specs.List.{list_all}
+use Rattle.std.specs.Result.{result_ok}
+use Rattle.std.specs.Str.{bytes_eq}
+use Rattle.ev_base.specs.declared.names.Msg.{Msg}
+use Rattle.ev_base.specs.declared.names.Name.{Name}
+use Rattle.def_event.specs.declared.shown.Shown.{Shown}
+use Rattle.def_event.specs.declared.note.ShownNote.{ShownNote}
+use Rattle.def_event.specs.declared.note.ShownNote.TheVariants.{Deliver, DeliverOnly, Settled, Elsewhere, Open as Opens, Ask, Shorten}
+use Rattle.def_event.specs.declared.event.Addressed.{Addressed}
+use Rattle.def_event.specs.declared.event.Event.{Event}
+use Rattle.def_event.specs.declared.event.Event.TheVariants.{Open, Turn, Idle, Carry, Cut, Notice, Frame, Take, Call, Back, Thrown, Gone, Got, Slot, Read, Wrote, List as ListMade, Arrived, Ejector, Audition, Promise, Made, Send, SendOnly, When, Done, Threw, Settle, Wait, View, LostCut, LostBroken, LeftQueue, LeftHeld, LeftWait, LeftLink, End}
+use Rattle.hex.specs.Hex.{decode_of}
+use Rattle.ev_command_lines.specs.Lines.{is_lower_digit}
+use Rattle.ev_script.specs.Script.{rule, ◌>>=◌}
+use Rattle.ev_script.specs.Vats.{place_of}
+use Rattle.ev_trace_lines.specs.declared.notes.Delivered.{Delivered}
+use Rattle.ev_trace_words.specs.Parts.{activation, count, message, name, numbered}
+use Rattle.ev_trace_words.specs.Texts.{object_name, verb}
+use Rattle.ev_trace_words.specs.Values.{note_value, note_values, value, values}
+
+abbrev pub Words : Type 0
+Words = List (List ℕ)
+
+-- ---- words that stand between values
+
+abbrev pub place_of_word : List ℕ → Words → ℕ
+place_of_word word words = unwrap_or (position (λ w. bytes_eq w word) words) (length words)
+
+-- the words before the first such word, and those behind it
+abbrev pub before_word : List ℕ → Words → Words
+before_word word words = take (place_of_word word words) words
+
+abbrev pub behind_word : List ℕ → Words → Option Words
+behind_word word words = if nat_lt (place_of_word word words) (length words) then Some (drop (place_of_word word words + 1) words) else None
+
+-- bytes by their hexadecimal digits, at least one
+abbrev pub bytes_of : List ℕ → Result (List ℕ) ℕ
+bytes_of word = if nat_lt 0 (length word) && list_all is_lower_digit word then rule 42 (result_ok (decode_of word)) else Err 42
+
+-- ---- lines and parts of lines that name no vat
+
+abbrev pub begun : Option Words → Result (Option ℕ) ℕ
+begun None = Ok None
+begun (Some (b ∷ [])) = do
+  id ← rule 42 (activation b)
+  Ok (Some id)
+begun (Some _) = Err 42
+
+abbrev pub valued : ℕ → List ℕ → Shown → Option Event
+valued a word x =
+    if bytes_eq word (codes "back") then Some (Back a x)
+    else if bytes_eq word (codes "thrown") then Some (Thrown a x)
+    else if bytes_eq word (codes "got") then Some (Got a x)
+    else if bytes_eq word (codes "ejector") then Some (Ejector a x)
+    else if bytes_eq word (codes "audition") then Some (Audition a x)
+    else if bytes_eq word (codes "done") then Some (Done a x)
+    else if bytes_eq word (codes "threw") then Some (Threw a x)
+    else None
+
+abbrev pub gone : ℕ → Words → Result Event ℕ
+gone a [] = Ok (Gone a)
+gone a _ = Err 42
+
+abbrev pub idle : ℕ → Words → Result Event ℕ
+idle k [] = Ok (Idle k)
+idle k _ = Err 42
+
+abbrev pub injected_by : List ℕ → Result Event ℕ
+injected_by bytes = if nat_lt 4096 (length bytes) then Err 42 else Err 43
+
+abbrev pub injected : List ℕ → Result Event ℕ
+injected word = do
+  bytes ← bytes_of word
+  injected_by bytes
+
+-- the bytes of a frame that was put by hand, 1 to 4,096 of them, or `cut`
+abbrev pub injection : List ℕ → Result Event ℕ
+injection word = if bytes_eq word (codes "cut") then Err 43 else injected word
+
+-- a note that no vat makes: a frame that is malformed at this place, or one that goes to a hostile vat
+abbrev pub malformed : List ℕ → Result ShownNote ℕ
+malformed what = do
+  place ← rule 42 (count what)
+  Err 43
+
+abbrev pub raw : List ℕ → Result ShownNote ℕ
+raw what = do
+  bytes ← bytes_of what
+  Err 43
+
+abbrev pub strange_of : List ℕ → List ℕ → Result ShownNote ℕ
+strange_of kind what =
+    if bytes_eq kind (codes "malformed") then malformed what
+    else if bytes_eq kind (codes "bytes") then raw what
+    else Err 42
+
+abbrev pub strange_note : Words → Result ShownNote ℕ
+strange_note (kind ∷ what ∷ []) = strange_of kind what
+strange_note _ = Err 42
+
+abbrev pub is_strange : Words → Bool
+is_strange [] = false
+is_strange (kind ∷ rest) = bytes_eq kind (codes "malformed") || bytes_eq kind (codes "bytes")
+
+abbrev pub is_raw : Words → Bool
+is_raw [] = false
+is_raw (kind ∷ rest) = bytes_eq kind (codes "bytes")
+
+abbrev pub frame : Words → Result Event ℕ
+frame (word ∷ []) = do
+  bytes ← bytes_of word
+  Ok (Frame bytes)
+frame _ = Err 42
+
+abbrev pub lost_how : Msg → List ℕ → Option Event
+lost_how m word =
+    if bytes_eq word (codes "cut") then Some (LostCut m)
+    else if bytes_eq word (codes "broken") then Some (LostBroken m)
+    else None
+
+abbrev pub ended : Words → Result Event ℕ
+ended [] = Ok End
+ended _ = Err 42
+
+module _ (names : List (List ℕ)) where
+  abbrev pub vat : List ℕ → Result ℕ ℕ
+  vat word = rule 42 (place_of names word)
+
+  -- ---- a note
+
+  abbrev pub delivery : Words → Result Delivered ℕ
+  delivery (m ∷ t ∷ v ∷ args) = do
+    id ← rule 42 (message names m)
+    target ← rule 42 (name names t)
+    asked ← verb v
+    xs ← note_values names args
+    Ok (record { message = id; target = target; verb = asked; args = xs })
+  delivery _ = Err 42
+
+  abbrev pub two_names : Words → Result (Name × Name) ℕ
+  two_names (a ∷ b ∷ []) = do
+    first ← rule 42 (name names a)
+    second ← rule 42 (name names b)
+    Ok (first, second)
+  two_names _ = Err 42
+
+  abbrev pub name_and_vat : Words → Result (Name × ℕ) ℕ
+  name_and_vat (a ∷ b ∷ []) = do
+    first ← rule 42 (name names a)
+    v ← vat b
+    Ok (first, v)
+  name_and_vat _ = Err 42
+
+  abbrev pub settled_note : Words → Result ShownNote ℕ
+  settled_note (a ∷ b ∷ []) = do
+    first ← rule 42 (name names a)
+    x ← note_value names 100 b
+    Ok (Settled first x)
+  settled_note _ = Err 42
+
+  -- a delivery, whose message has no answer where it is only delivered
+  abbrev pub delivering : Bool → Words → Result ShownNote ℕ
+  delivering only words = do
+    d ← delivery words
+    if only then Ok (DeliverOnly d.message d.target d.verb d.args) else Ok (Deliver d.message d.target d.verb d.args)
+
+  abbrev pub elsewhere : Words → Result ShownNote ℕ
+  elsewhere words = do
+    n ← name_and_vat words
+    Ok (Elsewhere n.0 n.1)
+
+  abbrev pub opening : Words → Result ShownNote ℕ
+  opening words = do
+    n ← two_names words
+    Ok (Opens n.0 n.1)
+
+  abbrev pub asking : Words → Result ShownNote ℕ
+  asking words = do
+    n ← name_and_vat words
+    Ok (Ask n.0 n.1)
+
+  abbrev pub shortening : Words → Result ShownNote ℕ
+  shortening words = do
+    n ← two_names words
+    Ok (Shorten n.0 n.1)
+
+  abbrev pub note_of : List ℕ → Words → Result ShownNote ℕ
+  note_of kind rest =
+      if bytes_eq kind (codes "deliver") then delivering false rest
+      else if bytes_eq kind (codes "deliveronly") then delivering true rest
+      else if bytes_eq kind (codes "settled") then settled_note rest
+      else if bytes_eq kind (codes "elsewhere") then elsewhere rest
+      else if bytes_eq kind (codes "open") then opening rest
+      else if bytes_eq kind (codes "ask") then asking rest
+      else if bytes_eq kind (codes "shorten") then shortening rest
+      else Err 42
+
+  abbrev pub note : Words → Result ShownNote ℕ
+  note [] = Err 42
+  note (kind ∷ rest) = note_of kind rest
+
+  -- an object or a promise, and a value
+  abbrev pub name_and_value : Words → Result (Name × Shown) ℕ
+  name_and_value (n ∷ x ∷ []) = do
+    first ← rule 42 (name names n)
+    second ← value names x
+    Ok (first, second)
+  name_and_value _ = Err 42
+
+  -- ---- what an activation does
+
+  abbrev pub one_value : Words → Result Shown ℕ
+  one_value (x ∷ []) = value names x
+  one_value _ = Err 42
+
+  abbrev pub slot_and_value : Words → Result ((ℕ × ℕ) × Shown) ℕ
+  slot_and_value (s ∷ x ∷ []) = do
+    slot ← rule 42 (numbered names 38 s)
+    held ← value names x
+    Ok (slot, held)
+  slot_and_value _ = Err 42
+
+  abbrev pub list_and_members : Words → Result ((ℕ × ℕ) × List Shown) ℕ
+  list_and_members [] = Err 42
+  list_and_members (l ∷ rest) = do
+    list ← rule 42 (numbered names 37 l)
+    xs ← values names rest
+    Ok (list, xs)
+
+  abbrev pub addressed : ℕ → Words → Result Addressed ℕ
+  addressed a (m ∷ t ∷ v ∷ args) = do
+    id ← rule 42 (message names m)
+    target ← value names t
+    asked ← verb v
+    xs ← values names args
+    Ok (record { activation = a; message = id; target = target; verb = asked; args = xs })
+  addressed a _ = Err 42
+
+  abbrev pub called : ℕ → Words → Result Event ℕ
+  called a (t ∷ v ∷ rest) = do
+    target ← value names t
+    asked ← verb v
+    xs ← values names (before_word (codes "as") rest)
+    b ← begun (behind_word (codes "as") rest)
+    Ok (Call (record { activation = a; target = target; verb = asked; args = xs; begun = b }))
+  called a _ = Err 42
+
+  -- a word and the values behind it, at least one, or nothing
+  abbrev pub some_values : Words → Result (List Shown) ℕ
+  some_values [] = Err 42
+  some_values (x ∷ rest) = values names (x ∷ rest)
+
+  abbrev pub part_behind : Option Words → Result (List Shown) ℕ
+  part_behind None = Ok []
+  part_behind (Some words) = some_values words
+
+  abbrev pub captures : Words → Result (List Shown) ℕ
+  captures [] = Ok []
+  captures (w ∷ rest) = if bytes_eq w (codes "caps") then some_values rest else Err 42
+
+  abbrev pub made : ℕ → Words → Result Event ℕ
+  made a (o ∷ n ∷ rest) = do
+    object ← value names o
+    called ← object_name n
+    caps ← captures (before_word (codes "stamps") rest)
+    stamps ← part_behind (behind_word (codes "stamps") rest)
+    Ok (Made (record { activation = a; object = object; name = called; caps = caps; stamps = stamps }))
+  made a _ = Err 42
+
+  abbrev pub answered : Option Words → Result Name ℕ
+  answered (Some (n ∷ [])) = rule 42 (name names n)
+  answered _ = Err 42
+
+  abbrev pub sent : ℕ → Words → Result Event ℕ
+  sent a (m ∷ t ∷ v ∷ rest) = do
+    id ← rule 42 (message names m)
+    target ← value names t
+    asked ← verb v
+    xs ← values names (before_word (codes "->") rest)
+    answer ← answered (behind_word (codes "->") rest)
+    Ok (Send (record { activation = a; message = id; target = target; verb = asked; args = xs; answer = answer }))
+  sent a _ = Err 42
+
+  abbrev pub arrow_name : Words → Result Name ℕ
+  arrow_name (w ∷ n ∷ []) = if bytes_eq w (codes "->") then rule 42 (name names n) else Err 42
+  arrow_name _ = Err 42
+
+  abbrev pub reacting : ℕ → Words → Result Event ℕ
+  reacting a (m ∷ x ∷ o ∷ rest) = do
+    id ← rule 42 (message names m)
+    awaited ← value names x
+    reaction ← value names o
+    answer ← arrow_name rest
+    Ok (When (record { activation = a; message = id; value = awaited; reaction = reaction; answer = answer }))
+  reacting a _ = Err 42
+
+  -- an act of one value
+  abbrev pub act_on_value : ℕ → List ℕ → Words → Result Event ℕ
+  act_on_value a word rest = do
+    x ← one_value rest
+    rule 42 (valued a word x)
+
+  abbrev pub take_of : ℕ → Words → Result Event ℕ
+  take_of a words = do
+    m ← addressed a words
+    Ok (Take m)
+
+  abbrev pub slot_made : ℕ → Words → Result Event ℕ
+  slot_made a words = do
+    s ← slot_and_value words
+    Ok (Slot a s.0 s.1)
+
+  abbrev pub slot_read : ℕ → Words → Result Event ℕ
+  slot_read a words = do
+    s ← slot_and_value words
+    Ok (Read a s.0 s.1)
+
+  abbrev pub slot_wrote : ℕ → Words → Result Event ℕ
+  slot_wrote a words = do
+    s ← slot_and_value words
+    Ok (Wrote a s.0 s.1)
+
+  abbrev pub list_made : ℕ → Words → Result Event ℕ
+  list_made a words = do
+    l ← list_and_members words
+    Ok (ListMade a l.0 l.1)
+
+  abbrev pub promised : ℕ → Words → Result Event ℕ
+  promised a words = do
+    p ← name_and_value words
+    Ok (Promise a p.0 p.1)
+
+  abbrev pub sent_only : ℕ → Words → Result Event ℕ
+  sent_only a words = do
+    m ← addressed a words
+    Ok (SendOnly m)
+
+  abbrev pub act_of : ℕ → List ℕ → Words → Result Event ℕ
+  act_of a word rest =
+      if bytes_eq word (codes "take") then take_of a rest
+      else if bytes_eq word (codes "call") then called a rest
+      else if bytes_eq word (codes "gone") then gone a rest
+      else if bytes_eq word (codes "slot") then slot_made a rest
+      else if bytes_eq word (codes "read") then slot_read a rest
+      else if bytes_eq word (codes "wrote") then slot_wrote a rest
+      else if bytes_eq word (codes "list") then list_made a rest
+      else if bytes_eq word (codes "promise") then promised a rest
+      else if bytes_eq word (codes "made") then made a rest
+      else if bytes_eq word (codes "send") then sent a rest
+      else if bytes_eq word (codes "sendonly") then sent_only a rest
+      else if bytes_eq word (codes "when") then reacting a rest
+      else act_on_value a word rest
+
+  abbrev pub act : ℕ → Words → Result Event ℕ
+  act a [] = Err 42
+  act a (word ∷ rest) = act_of a word rest
+
+  -- ---- an entry
+
+  abbrev pub one_vat : Words → Result ℕ ℕ
+  one_vat (v ∷ []) = vat v
+  one_vat _ = Err 42
+
+  abbrev pub two_vats : Words → Result (ℕ × ℕ) ℕ
+  two_vats (v ∷ w ∷ []) = do
+    from ← vat v
+    to ← vat w
+    Ok (from, to)
+  two_vats _ = Err 42
+
+  abbrev pub inject : Words → Result Event ℕ
+  inject (v ∷ w ∷ what ∷ []) = do
+    from ← vat v
+    to ← vat w
+    injection what
+  inject _ = Err 42
+
+  abbrev pub carried : Words → Result ShownNote ℕ
+  carried words = if is_strange words then strange_note words else note words
+
+  abbrev pub waiting : Words → Result ShownNote ℕ
+  waiting words = if is_raw words then strange_note words else note words
+
+  abbrev pub carry : ℕ → Words → Result Event ℕ
+  carry k (v ∷ w ∷ rest) = do
+    from ← vat v
+    to ← vat w
+    n ← carried rest
+    Ok (Carry k from to n)
+  carry k _ = Err 42
+
+  abbrev pub turn_of : ℕ → Words → Result Event ℕ
+  turn_of k words = do
+    v ← one_vat words
+    Ok (Turn k v)
+
+  abbrev pub cut_of : ℕ → Words → Result Event ℕ
+  cut_of k words = do
+    p ← two_vats words
+    Ok (Cut k p.0 p.1)
+
+  abbrev pub notice_of : ℕ → Words → Result Event ℕ
+  notice_of k words = do
+    p ← two_vats words
+    Ok (Notice k p.0 p.1)
+
+  abbrev pub entry_of : ℕ → List ℕ → Words → Result Event ℕ
+  entry_of k word rest =
+      if bytes_eq word (codes "turn") then turn_of k rest
+      else if bytes_eq word (codes "idle") then idle k rest
+      else if bytes_eq word (codes "carry") then carry k rest
+      else if bytes_eq word (codes "cut") then cut_of k rest
+      else if bytes_eq word (codes "notice") then notice_of k rest
+      else if bytes_eq word (codes "inject") then inject rest
+      else Err 42
+
+  abbrev pub entry : ℕ → Words → Result Event ℕ
+  entry k [] = Err 42
+  entry k (word ∷ rest) = entry_of k word rest
+
+  -- ---- what is left, and other lines
+
+  abbrev pub lost : Words → Result Event ℕ
+  lost (m ∷ word ∷ []) = do
+    id ← rule 42 (message names m)
+    rule 42 (lost_how id word)
+  lost _ = Err 42
+
+  abbrev pub left_queue : Words → Result Event ℕ
+  left_queue (v ∷ m ∷ []) = do
+    host ← vat v
+    id ← rule 42 (message names m)
+    Ok (LeftQueue host id)
+  left_queue _ = Err 42
+
+  abbrev pub left_held : Words → Result Event ℕ
+  left_held (v ∷ p ∷ m ∷ []) = do
+    host ← vat v
+    promise ← rule 42 (name names p)
+    id ← rule 42 (message names m)
+    Ok (LeftHeld host promise id)
+  left_held _ = Err 42
+
+  abbrev pub left_wait : Words → Result Event ℕ
+  left_wait (v ∷ x ∷ m ∷ []) = do
+    host ← vat v
+    awaited ← value names x
+    id ← rule 42 (message names m)
+    Ok (LeftWait host awaited id)
+  left_wait _ = Err 42
+
+  abbrev pub left_link : Words → Result Event ℕ
+  left_link (v ∷ w ∷ rest) = do
+    from ← vat v
+    to ← vat w
+    n ← waiting rest
+    Ok (LeftLink from to n)
+  left_link _ = Err 42
+
+  abbrev pub left_of : List ℕ → Words → Result Event ℕ
+  left_of word rest =
+      if bytes_eq word (codes "queue") then left_queue rest
+      else if bytes_eq word (codes "held") then left_held rest
+      else if bytes_eq word (codes "wait") then left_wait rest
+      else if bytes_eq word (codes "link") then left_link rest
+      else Err 42
+
+  abbrev pub left : Words → Result Event ℕ
+  left [] = Err 42
+  left (word ∷ rest) = left_of word rest
+
+  abbrev pub opened : Words → Result Event ℕ
+  opened words = do
+    v ← one_vat words
+    Ok (Open v)
+
+  abbrev pub arrived : Words → Result Event ℕ
+  arrived words = do
+    l ← list_and_members words
+    Ok (Arrived l.0 l.1)
+
+  abbrev pub settled : Words → Result Event ℕ
+  settled words = do
+    p ← name_and_value words
+    Ok (Settle p.0 p.1)
+
+  abbrev pub waited : Words → Result Event ℕ
+  waited words = do
+    n ← two_names words
+    Ok (Wait n.0 n.1)
+
+  abbrev pub viewed : Words → Result Event ℕ
+  viewed words = do
+    n ← two_names words
+    Ok (View n.0 n.1)
+
+  abbrev pub other_line : List ℕ → Words → Result Event ℕ
+  other_line word rest =
+      if bytes_eq word (codes "open") then opened rest
+      else if bytes_eq word (codes "frame") then frame rest
+      else if bytes_eq word (codes "list") then arrived rest
+      else if bytes_eq word (codes "settle") then settled rest
+      else if bytes_eq word (codes "wait") then waited rest
+      else if bytes_eq word (codes "view") then viewed rest
+      else if bytes_eq word (codes "lost") then lost rest
+      else if bytes_eq word (codes "left") then left rest
+      else if bytes_eq word (codes "end") then ended rest
+      else Err 42
+
+  -- ---- a line: an activation's, an entry, or another
+
+  abbrev pub unnumbered : List ℕ → Option ℕ → Words → Result Event ℕ
+  unnumbered word None rest = other_line word rest
+  unnumbered word (Some k) rest = entry k rest
+
+  abbrev pub line_by : List ℕ → Option ℕ → Words → Result Event ℕ
+  line_by word None rest = unnumbered word (count word) rest
+  line_by word (Some a) rest = act a rest
+
+  -- what a line says, by its words
+  abbrev pub event_of : Words → Result Event ℕ
+  event_of [] = Err 42
+  event_of (word ∷ rest) = line_by word (activation word) rest

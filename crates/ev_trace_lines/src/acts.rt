@@ -1,0 +1,462 @@
+//! Lines that say what an activation does.
+
+ghost use Rattle.std.specs.Prelude.{◌≡◌, ◌≤◌, IfOk, length, option_map};
+ghost use Rattle.ev_script.specs.Script.{Reads};
+ghost use Rattle.ev_trace_lines.specs.Events.{act, act_of, act_on_value, addressed, answered, arrow_name, before_word, begun, behind_word, called, captures, gone, list_and_members, list_made, made, name_and_value, one_value, part_behind, place_of_word, promised, reacting, sent, sent_only, slot_and_value, slot_made, slot_read, slot_wrote, some_values, take_of, valued};
+
+use crate::notes::{message, name};
+use def_event::boxed::Boxed;
+use def_event::event::{Addressed, Called, Event, MadeObject, Reacting, Sent};
+use def_event::shown::Shown;
+use ev_base::{Memory, Name, Seq, Str, VatId};
+use ev_script::ScriptFault;
+use ev_trace_words::parts::{activation, numbered};
+use ev_trace_words::texts::{object_name, verb};
+use ev_trace_words::values::{value, values};
+use std::alloc::Global;
+
+/// A part of an event in memory of its own.
+pub(crate) fn boxed<T: Drop>(alloc: Global, part: T) -> Result<Boxed<T>, Memory>
+    ensures { IfOk result (λ b. b ≡ part) }
+{
+    Boxed::new(alloc, part)
+}
+
+/// The place of the first such word, or the count of the words.
+fn place_of_word(words: &[Str], word: &str) -> usize
+    ensures { result ≡ place_of_word word.now words.now }
+{
+    let mut place: usize = 0;
+    for found in words {
+        if found.as_str() == word {
+            return place;
+        }
+        place += 1;
+    }
+    place
+}
+
+/// The words before the first such word.
+fn before_word<'w>(words: &'w [Str], word: &str) -> &'w [Str]
+    ensures { result.now ≡ before_word word.now words.now }
+{
+    &words[..place_of_word(words, word)]
+}
+
+/// The words behind the first such word, where there is one.
+fn behind_word<'w>(words: &'w [Str], word: &str) -> Option<&'w [Str]>
+    ensures { option_map (λ ws. ws.now) result ≡ behind_word word.now words.now }
+{
+    let place = place_of_word(words, word);
+    if place < words.len() {
+        Some(&words[place + 1..])
+    } else {
+        None
+    }
+}
+
+fn one_value(alloc: Global, names: &[Str], words: &[Str]) -> Result<Shown, ScriptFault>
+    requires { length names.now ≤ 16 }
+    ensures { Reads result (one_value names.now words.now) }
+{
+    match words {
+        [x] => value(alloc, names, x.as_str()),
+        _ => Err(ScriptFault::Rule(42)),
+    }
+}
+
+fn slot_and_value(
+    alloc: Global,
+    names: &[Str],
+    words: &[Str],
+) -> Result<((VatId, u64), Shown), ScriptFault>
+    requires { length names.now ≤ 16 }
+    ensures { Reads result (slot_and_value names.now words.now) }
+{
+    match words {
+        [slot, x] => {
+            let Some(slot) = numbered(names, slot.as_str(), '&') else {
+                return Err(ScriptFault::Rule(42));
+            };
+            let held = value(alloc, names, x.as_str())?;
+            Ok((slot, held))
+        }
+        _ => Err(ScriptFault::Rule(42)),
+    }
+}
+
+/// A list by its number, and its members.
+pub(crate) fn list_and_members(
+    alloc: Global,
+    names: &[Str],
+    words: &[Str],
+) -> Result<((VatId, u64), Seq<Shown>), ScriptFault>
+    requires { length names.now ≤ 16 }
+    ensures { Reads result (list_and_members names.now words.now) }
+{
+    match words {
+        [] => Err(ScriptFault::Rule(42)),
+        [list, members @ ..] => {
+            let Some(list) = numbered(names, list.as_str(), '%') else {
+                return Err(ScriptFault::Rule(42));
+            };
+            let found = values(alloc, names, members)?;
+            Ok((list, found))
+        }
+    }
+}
+
+/// An object or a promise, and a value.
+pub(crate) fn name_and_value(
+    alloc: Global,
+    names: &[Str],
+    words: &[Str],
+) -> Result<(Name, Shown), ScriptFault>
+    requires { length names.now ≤ 16 }
+    ensures { Reads result (name_and_value names.now words.now) }
+{
+    match words {
+        [first, second] => {
+            let subject = name(names, first.as_str())?;
+            let x = value(alloc, names, second.as_str())?;
+            Ok((subject, x))
+        }
+        _ => Err(ScriptFault::Rule(42)),
+    }
+}
+
+fn addressed(alloc: Global, names: &[Str], a: u64, words: &[Str]) -> Result<Addressed, ScriptFault>
+    requires { length names.now ≤ 16 }
+    ensures { Reads result (addressed names.now a words.now) }
+{
+    match words {
+        [id, target, asked, args @ ..] => {
+            let message = message(names, id.as_str())?;
+            let target = value(alloc, names, target.as_str())?;
+            let verb = verb(alloc, asked.as_str())?;
+            let args = values(alloc, names, args)?;
+            Ok(Addressed {
+                activation: a,
+                message,
+                target,
+                verb,
+                args,
+            })
+        }
+        _ => Err(ScriptFault::Rule(42)),
+    }
+}
+
+/// The activation that a call begins.
+fn begun(words: Option<&[Str]>) -> Result<Option<u64>, ScriptFault>
+    ensures { Reads result (begun (option_map (λ ws. ws.now) words.entry)) }
+{
+    match words {
+        None => Ok(None),
+        Some([id]) => match activation(id.as_str()) {
+            Some(id) => Ok(Some(id)),
+            None => Err(ScriptFault::Rule(42)),
+        },
+        Some(_) => Err(ScriptFault::Rule(42)),
+    }
+}
+
+fn called(alloc: Global, names: &[Str], a: u64, words: &[Str]) -> Result<Event, ScriptFault>
+    requires { length names.now ≤ 16 }
+    ensures { Reads result (called names.now a words.now) }
+{
+    match words {
+        [target, asked, rest @ ..] => {
+            let target = value(alloc, names, target.as_str())?;
+            let verb = verb(alloc, asked.as_str())?;
+            let args = values(alloc, names, before_word(rest, "as"))?;
+            let begun = begun(behind_word(rest, "as"))?;
+            let call = Called {
+                activation: a,
+                target,
+                verb,
+                args,
+                begun,
+            };
+            Ok(Event::Call(boxed(alloc, call)?))
+        }
+        _ => Err(ScriptFault::Rule(42)),
+    }
+}
+
+/// Values, at least one.
+fn some_values(alloc: Global, names: &[Str], words: &[Str]) -> Result<Seq<Shown>, ScriptFault>
+    requires { length names.now ≤ 16 }
+    ensures { Reads result (some_values names.now words.now) }
+{
+    match words {
+        [] => Err(ScriptFault::Rule(42)),
+        _ => values(alloc, names, words),
+    }
+}
+
+fn part_behind(
+    alloc: Global,
+    names: &[Str],
+    words: Option<&[Str]>,
+) -> Result<Seq<Shown>, ScriptFault>
+    requires { length names.now ≤ 16 }
+    ensures { Reads result (part_behind names.now (option_map (λ ws. ws.now) words.entry)) }
+{
+    match words {
+        None => Ok(Seq::new(alloc)),
+        Some(words) => some_values(alloc, names, words),
+    }
+}
+
+fn captures(alloc: Global, names: &[Str], words: &[Str]) -> Result<Seq<Shown>, ScriptFault>
+    requires { length names.now ≤ 16 }
+    ensures { Reads result (captures names.now words.now) }
+{
+    match words {
+        [] => Ok(Seq::new(alloc)),
+        [word, rest @ ..] => {
+            if word.as_str() == "caps" {
+                some_values(alloc, names, rest)
+            } else {
+                Err(ScriptFault::Rule(42))
+            }
+        }
+    }
+}
+
+fn made(alloc: Global, names: &[Str], a: u64, words: &[Str]) -> Result<Event, ScriptFault>
+    requires { length names.now ≤ 16 }
+    ensures { Reads result (made names.now a words.now) }
+{
+    match words {
+        [object, called, rest @ ..] => {
+            let object = value(alloc, names, object.as_str())?;
+            let name = object_name(alloc, called.as_str())?;
+            let caps = captures(alloc, names, before_word(rest, "stamps"))?;
+            let stamps = part_behind(alloc, names, behind_word(rest, "stamps"))?;
+            let made = MadeObject {
+                activation: a,
+                object,
+                name,
+                caps,
+                stamps,
+            };
+            Ok(Event::Made(boxed(alloc, made)?))
+        }
+        _ => Err(ScriptFault::Rule(42)),
+    }
+}
+
+/// The answer of a send.
+fn answered(names: &[Str], words: Option<&[Str]>) -> Result<Name, ScriptFault>
+    requires { length names.now ≤ 16 }
+    ensures { Reads result (answered names.now (option_map (λ ws. ws.now) words.entry)) }
+{
+    match words {
+        Some([answer]) => name(names, answer.as_str()),
+        _ => Err(ScriptFault::Rule(42)),
+    }
+}
+
+fn sent(alloc: Global, names: &[Str], a: u64, words: &[Str]) -> Result<Event, ScriptFault>
+    requires { length names.now ≤ 16 }
+    ensures { Reads result (sent names.now a words.now) }
+{
+    match words {
+        [id, target, asked, rest @ ..] => {
+            let message = message(names, id.as_str())?;
+            let target = value(alloc, names, target.as_str())?;
+            let verb = verb(alloc, asked.as_str())?;
+            let args = values(alloc, names, before_word(rest, "->"))?;
+            let answer = answered(names, behind_word(rest, "->"))?;
+            let sent = Sent {
+                activation: a,
+                message,
+                target,
+                verb,
+                args,
+                answer,
+            };
+            Ok(Event::Send(boxed(alloc, sent)?))
+        }
+        _ => Err(ScriptFault::Rule(42)),
+    }
+}
+
+/// A name behind an arrow.
+fn arrow_name(names: &[Str], words: &[Str]) -> Result<Name, ScriptFault>
+    requires { length names.now ≤ 16 }
+    ensures { Reads result (arrow_name names.now words.now) }
+{
+    match words {
+        [arrow, answer] => {
+            if arrow.as_str() == "->" {
+                name(names, answer.as_str())
+            } else {
+                Err(ScriptFault::Rule(42))
+            }
+        }
+        _ => Err(ScriptFault::Rule(42)),
+    }
+}
+
+fn reacting(alloc: Global, names: &[Str], a: u64, words: &[Str]) -> Result<Event, ScriptFault>
+    requires { length names.now ≤ 16 }
+    ensures { Reads result (reacting names.now a words.now) }
+{
+    match words {
+        [id, awaited, reaction, rest @ ..] => {
+            let message = message(names, id.as_str())?;
+            let value_awaited = value(alloc, names, awaited.as_str())?;
+            let reaction = value(alloc, names, reaction.as_str())?;
+            let answer = arrow_name(names, rest)?;
+            let reacting = Reacting {
+                activation: a,
+                message,
+                value: value_awaited,
+                reaction,
+                answer,
+            };
+            Ok(Event::When(boxed(alloc, reacting)?))
+        }
+        _ => Err(ScriptFault::Rule(42)),
+    }
+}
+
+/// What an activation does with a value.
+fn valued(a: u64, word: &str, x: Shown) -> Option<Event>
+    ensures { result ≡ valued a word.now x }
+{
+    match word {
+        "back" => Some(Event::Back(a, x)),
+        "thrown" => Some(Event::Thrown(a, x)),
+        "got" => Some(Event::Got(a, x)),
+        "ejector" => Some(Event::Ejector(a, x)),
+        "audition" => Some(Event::Audition(a, x)),
+        "done" => Some(Event::Done(a, x)),
+        "threw" => Some(Event::Threw(a, x)),
+        _ => None,
+    }
+}
+
+fn act_on_value(
+    alloc: Global,
+    names: &[Str],
+    a: u64,
+    word: &str,
+    rest: &[Str],
+) -> Result<Event, ScriptFault>
+    requires { length names.now ≤ 16 }
+    ensures { Reads result (act_on_value names.now a word.now rest.now) }
+{
+    let x = one_value(alloc, names, rest)?;
+    match valued(a, word, x) {
+        Some(event) => Ok(event),
+        None => Err(ScriptFault::Rule(42)),
+    }
+}
+
+fn gone(a: u64, words: &[Str]) -> Result<Event, ScriptFault>
+    ensures { Reads result (gone a words.now) }
+{
+    match words {
+        [] => Ok(Event::Gone(a)),
+        _ => Err(ScriptFault::Rule(42)),
+    }
+}
+
+fn take_of(alloc: Global, names: &[Str], a: u64, words: &[Str]) -> Result<Event, ScriptFault>
+    requires { length names.now ≤ 16 }
+    ensures { Reads result (take_of names.now a words.now) }
+{
+    let m = addressed(alloc, names, a, words)?;
+    Ok(Event::Take(boxed(alloc, m)?))
+}
+
+fn sent_only(alloc: Global, names: &[Str], a: u64, words: &[Str]) -> Result<Event, ScriptFault>
+    requires { length names.now ≤ 16 }
+    ensures { Reads result (sent_only names.now a words.now) }
+{
+    let m = addressed(alloc, names, a, words)?;
+    Ok(Event::SendOnly(boxed(alloc, m)?))
+}
+
+fn slot_made(alloc: Global, names: &[Str], a: u64, words: &[Str]) -> Result<Event, ScriptFault>
+    requires { length names.now ≤ 16 }
+    ensures { Reads result (slot_made names.now a words.now) }
+{
+    let (slot, x) = slot_and_value(alloc, names, words)?;
+    Ok(Event::Slot(a, slot, x))
+}
+
+fn slot_read(alloc: Global, names: &[Str], a: u64, words: &[Str]) -> Result<Event, ScriptFault>
+    requires { length names.now ≤ 16 }
+    ensures { Reads result (slot_read names.now a words.now) }
+{
+    let (slot, x) = slot_and_value(alloc, names, words)?;
+    Ok(Event::Read(a, slot, x))
+}
+
+fn slot_wrote(alloc: Global, names: &[Str], a: u64, words: &[Str]) -> Result<Event, ScriptFault>
+    requires { length names.now ≤ 16 }
+    ensures { Reads result (slot_wrote names.now a words.now) }
+{
+    let (slot, x) = slot_and_value(alloc, names, words)?;
+    Ok(Event::Wrote(a, slot, x))
+}
+
+fn list_made(alloc: Global, names: &[Str], a: u64, words: &[Str]) -> Result<Event, ScriptFault>
+    requires { length names.now ≤ 16 }
+    ensures { Reads result (list_made names.now a words.now) }
+{
+    let (list, members) = list_and_members(alloc, names, words)?;
+    Ok(Event::List(a, list, members))
+}
+
+fn promised(alloc: Global, names: &[Str], a: u64, words: &[Str]) -> Result<Event, ScriptFault>
+    requires { length names.now ≤ 16 }
+    ensures { Reads result (promised names.now a words.now) }
+{
+    let (promise, resolver) = name_and_value(alloc, names, words)?;
+    Ok(Event::Promise(a, promise, resolver))
+}
+
+/// What an activation does, by the word and the words behind it.
+fn act_of(
+    alloc: Global,
+    names: &[Str],
+    a: u64,
+    word: &str,
+    rest: &[Str],
+) -> Result<Event, ScriptFault>
+    requires { length names.now ≤ 16 }
+    ensures { Reads result (act_of names.now a word.now rest.now) }
+{
+    match word {
+        "take" => take_of(alloc, names, a, rest),
+        "call" => called(alloc, names, a, rest),
+        "gone" => gone(a, rest),
+        "slot" => slot_made(alloc, names, a, rest),
+        "read" => slot_read(alloc, names, a, rest),
+        "wrote" => slot_wrote(alloc, names, a, rest),
+        "list" => list_made(alloc, names, a, rest),
+        "promise" => promised(alloc, names, a, rest),
+        "made" => made(alloc, names, a, rest),
+        "send" => sent(alloc, names, a, rest),
+        "sendonly" => sent_only(alloc, names, a, rest),
+        "when" => reacting(alloc, names, a, rest),
+        _ => act_on_value(alloc, names, a, word, rest),
+    }
+}
+
+/// What an activation does.
+pub(crate) fn act(alloc: Global, names: &[Str], a: u64, words: &[Str]) -> Result<Event, ScriptFault>
+    requires { length names.now ≤ 16 }
+    ensures { Reads result (act names.now a words.now) }
+{
+    match words {
+        [] => Err(ScriptFault::Rule(42)),
+        [word, rest @ ..] => act_of(alloc, names, a, word.as_str(), rest),
+    }
+}

@@ -1,0 +1,7 @@
+pub mod WordLemmas
+pub mod AllOf
+pub mod LastMark
+pub mod NoteLemmas
+pub mod Joined
+pub mod Printed
+pub mod Spelled

@@ -1,0 +1,5 @@
+pub mod Plain
+pub mod Texts
+pub mod Keys
+pub mod Entries
+pub mod Acceptance

@@ -1,0 +1,4 @@
+//! What a notice breaks is broken for good, and what of gifts no step undoes.
+#![tactic(auto)]
+
+pub mod gifts;

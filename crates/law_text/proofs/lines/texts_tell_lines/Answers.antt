@@ -1,0 +1,5 @@
+use Rattle.law_text.proofs.Told.{texts_tell}
+use Rattle.law_text.proofs.lines.texts_tell_lines.Goals as goal
+
+pub returns : goal.returns
+returns c = texts_tell

@@ -1,0 +1,5 @@
+use Rattle.law_text.proofs.Told.{event_words}
+use Rattle.law_text.proofs.words.each_word_is_one.Goals as goal
+
+pub returns : goal.returns
+returns c = event_words

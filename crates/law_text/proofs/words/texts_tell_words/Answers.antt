@@ -1,0 +1,5 @@
+use Rattle.law_text.proofs.Told.{texts_tell_words}
+use Rattle.law_text.proofs.words.texts_tell_words.Goals as goal
+
+pub returns : goal.returns
+returns c = texts_tell_words

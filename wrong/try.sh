@@ -1,0 +1,20 @@
+#!/bin/sh
+# Makes the change of wrong/NAME.patch on a copy of what is committed, and checks there the law that the patch names.
+# It ends with 0 where that law is refused, and proves all crates below it again: that takes long.
+set -eu
+here=$(cd "$(dirname "$0")/.." && pwd)
+patch="$here/wrong/$1.patch"
+law=$(sed -n 's/^refused by: //p' "$patch")
+copy=$(mktemp -d)
+trap 'rm -rf "$copy"' EXIT
+git clone -q "$here" "$copy/tree"
+git -C "$copy/tree" apply "$patch"
+cd "$copy/tree/crates/${law%%::*}"
+rt check > "$copy/log" 2>&1 || true
+if grep -q "^fn $law: not proved" "$copy/log"; then
+    echo "$1: refused by $law"
+else
+    tail -n 20 "$copy/log"
+    echo "$1: not refused by $law"
+    exit 1
+fi
