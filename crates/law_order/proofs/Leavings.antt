@@ -1,5 +1,5 @@
 -- As the first message of a lane leaves, each other stands where it stood, or one nearer to the front.
-use Rattle.std.proofs.Common.{◌≡◌, ℕ, Bool, true, false, List, [], ◌∷◌, ◌++◌, Some, refl, sym, ap, subst, ◌∙◌, ◌⊎◌, inl, inr}
+use Rattle.std.proofs.Common.{◌≡◌, ℕ, Bool, true, false, List, [], ◌∷◌, ◌++◌, Some, None, refl, sym, ap, subst, ◌∙◌, ◌⊎◌, inl, inr}
 use Rattle.std.proofs.lemmas.List.{append-nil, append_assoc}
 use Rattle.std.specs.Prelude.{slice_get}
 use Rattle.def_machine.specs.Values.{Words, Ref, Name}
@@ -7,19 +7,20 @@ use Rattle.def_machine.specs.State.{Message, Passeds, Delivery, Note, Deliver, V
 use Rattle.def_machine.specs.Refs as refs
 use Rattle.def_run.specs.World.{Script, Link, World, names}
 use Rattle.def_run.specs.World as world
-use Rattle.law_order.specs.Ways.{Lane, Queue, Held, Way, Item, Mid, Ways}
-use Rattle.law_order.specs.Changes.{Beheads, stays, nearer}
+use Rattle.law_order.specs.Ways.{Lane, Queue, Held, Way, Item, Place, Nowhere, Free, End, Mid, Ways, IsIn}
+use Rattle.law_order.specs.Changes.{Beheads, stays, nearer, Lacks}
 use Rattle.law_order.specs.Places.{item, queued, held_in, delivered, is_honest, stands_at, ways_of, ways, amid}
-use Rattle.law_order.specs.Messages.{More, StandsAt}
+use Rattle.law_order.specs.Messages.{More, StandsAt, StandsOnce, stands_not}
 use Rattle.law_order.specs.Worlds.{AddsOnly}
 use Rattle.law_order.specs.Arrivals.{in_front, keeping, IsOpenWay}
-use Rattle.law_order.specs.Leavings.{FirstLeft, FirstLeftKeeps, TakenIsFirst, CarriedIsFirst}
+use Rattle.law_order.specs.Leavings.{FirstLeft, FirstLeftKeeps, TakenIsFirst, TakenIsNowhere, CarriedIsFirst}
 use Rattle.law_order.proofs.Amid as amid_proofs
 use Rattle.law_order.specs.Comings.{CarriedArePutLast}
 use Rattle.law_order.proofs.Arrived.{all_open, carried_messages_are_put_on}
 use Rattle.law_order.proofs.Messages.{gone_on_is_behind}
 use Rattle.law_order.proofs.Comings.{put_on, note_open}
 use Rattle.law_order.proofs.Lanes.{Same, other_of, same_lane}
+use Rattle.law_order.proofs.OrderPassing.{Found, here, apart, none, found}
 use Rattle.law_order.proofs.OrderKeeping.{all_put_on}
 use Rattle.law_order.proofs.Pushing.{push_append}
 use Rattle.law_order.proofs.Sends.{found_ends, link_here, link_behind, ends_of}
@@ -79,6 +80,81 @@ module _ (script : Script) (honest : ℕ → Bool) (w : World) (v : ℕ) (r s : 
 
 pub taken_is_first : TakenIsFirst
 taken_is_first = λ script honest w v r s m ms n at first on. taken_first script honest w v r s m ms n at first on
+
+in_split : (i : Item) (js : List Item) → IsIn i js → (b : List Item) × (rest : List Item) × (js ≡ b ++ i ∷ rest)
+in_split i [] h = absurd h
+in_split i (j ∷ js) (inl e) = ([], js, ap (λ z. z ∷ js) (sym e))
+in_split i (j ∷ js) (inr h) = let f = in_split i js h in (j ∷ f.0, f.1, ap (λ z. j ∷ z) f.2)
+
+abbrev lane_in : Lane → Place → Lane
+lane_in k (Mid l b n) = l
+lane_in k (End l n) = l
+lane_in k Nowhere = k
+lane_in k Free = k
+
+abbrev front_in : Place → List Item
+front_in (Mid l b n) = b
+front_in (End l n) = []
+front_in Nowhere = []
+front_in Free = []
+
+abbrev IsEmpty : List Item → Type 0
+IsEmpty [] = Unit {0}
+IsEmpty (j ∷ js) = ⊥
+
+module _ (script : Script) (honest : ℕ → Bool) (w : World) (v : ℕ) (r s : Vat Name) (m : Message Name) (ms : List (Message Name)) (n : Name) (at : slice_get w.vats v ≡ Some r) (first : s.queue ≡ m ∷ ms) (on : m.target ≡ Ref n) (once : StandsOnce (ways script honest (amid v s w)) m.id) where
+  abbrev W : Vat Name → Ways
+  W t = ways script honest (amid v t w)
+
+  abbrev Then : Vat Name
+  Then = record s { queue = ms }
+
+  queue_same : (u : ℕ) → (u ≡ v → ⊥) → Found v s Then w.vats u → (W Then).stands (Queue u) ≡ (W s).stands (Queue u)
+  unfolding ways ways_of stands_at amid
+  queue_same u f (here e i j) = absurd (f e)
+  queue_same u f (apart e i) = ap (λ o. elim o [ Some q ↦ queued q.queue | None ↦ [] ]) i
+  queue_same u f (none i j) = ap (λ o. elim o [ Some q ↦ queued q.queue | None ↦ [] ]) (j ∙ sym i)
+
+  held_same : (u : ℕ) (p : Name) → Found v s Then w.vats u → (W Then).stands (Held u p) ≡ (W s).stands (Held u p)
+  unfolding ways ways_of stands_at amid
+  held_same u p (here e i j) = ap (λ o. elim o [ Some q ↦ held_in p (refs.entry_of (names script u) q.known p) | None ↦ [] ]) j ∙ sym (ap (λ o. elim o [ Some q ↦ held_in p (refs.entry_of (names script u) q.known p) | None ↦ [] ]) i)
+  held_same u p (apart e i) = ap (λ o. elim o [ Some q ↦ held_in p (refs.entry_of (names script u) q.known p) | None ↦ [] ]) i
+  held_same u p (none i j) = ap (λ o. elim o [ Some q ↦ held_in p (refs.entry_of (names script u) q.known p) | None ↦ [] ]) (j ∙ sym i)
+
+  way_same : (a b : ℕ) → (W Then).stands (Way a b) ≡ (W s).stands (Way a b)
+  unfolding ways ways_of stands_at amid
+  way_same a b = refl
+
+  same_stands : (l : Lane) → (l ≡ Queue v → ⊥) → (W Then).stands l ≡ (W s).stands l
+  same_stands (Queue u) f = queue_same u (λ e. f (ap Queue e)) (found v s Then w.vats u)
+  same_stands (Held u p) f = held_same u p (found v s Then w.vats u)
+  same_stands (Way a b) f = way_same a b
+
+  stood_first : (W s).stands (Queue v) ≡ item m.id n ∷ queued ms
+  stood_first = queue_is script honest w v r at s ∙ amid_proofs.queue_is script honest w v s m ms n first on
+
+  was_first : StandsAt (W s) m.id (Queue v) [] n
+  was_first = record { behind = queued ms; found = stood_first }
+
+  -- were it anywhere still, it would have stood twice
+  not_behind : (o : Name) → IsIn (item m.id o) (queued ms) → ⊥
+  not_behind o j =
+      let f = in_split (item m.id o) (queued ms) j in
+      let again : StandsAt (W s) m.id (Queue v) (item m.id n ∷ f.0) o = record { behind = f.1; found = stood_first ∙ ap (λ z. item m.id n ∷ z) f.2 } in
+      subst IsEmpty (ap (λ c. front_in c) (sym (once (Queue v) (Queue v) [] (item m.id n ∷ f.0) n o was_first again))) tt
+
+  not_apart : (l : Lane) (o : Name) → (l ≡ Queue v → ⊥) → IsIn (item m.id o) ((W s).stands l) → ⊥
+  not_apart l o e j =
+      let f = in_split (item m.id o) ((W s).stands l) j in
+      let again : StandsAt (W s) m.id l f.0 o = record { behind = f.1; found = f.2 } in
+      e (ap (λ c. lane_in l c) (once (Queue v) l [] f.0 n o was_first again))
+
+  lacks_in : (l : Lane) → Same l (Queue v) → Lacks m.id ((W Then).stands l)
+  lacks_in l (inl e) = λ o j. not_behind o (subst (IsIn (item m.id o)) (queue_is script honest w v r at Then) (subst (λ z. IsIn (item m.id o) ((W Then).stands z)) e j))
+  lacks_in l (inr e) = λ o j. not_apart l o e (subst (IsIn (item m.id o)) (same_stands l e) j)
+
+pub taken_is_nowhere : TakenIsNowhere
+taken_is_nowhere = λ script honest w v r s m ms n at first on once. stands_not (λ l. lacks_in script honest w v r s m ms n at first on once l (same_lane l (Queue v)))
 
 -- ---- one arrives
 

@@ -3,10 +3,10 @@ use Rattle.std.specs.Prelude.{◌≡◌, ℕ, Bool, List, [], ◌∷◌, ◌++�
 use Rattle.def_machine.specs.Values.{Words, Ref, Name}
 use Rattle.def_machine.specs.State.{Message, Passeds, Delivery, Deliver, Vat}
 use Rattle.def_run.specs.World.{Script, World, names}
-use Rattle.law_order.specs.Ways.{Lane, Queue, Way, Item, Mid, Ways}
+use Rattle.law_order.specs.Ways.{Lane, Queue, Way, Item, Nowhere, Mid, Ways}
 use Rattle.law_order.specs.Changes.{Beheads}
 use Rattle.law_order.specs.Places.{item, ways, amid}
-use Rattle.law_order.specs.Messages.{More, StandsAt}
+use Rattle.law_order.specs.Messages.{More, StandsAt, StandsOnce, IsPlace}
 use Rattle.law_order.specs.Worlds.{AddsOnly}
 use Rattle.law_order.specs.Arrivals.{keeping, IsOpenWay}
 
@@ -26,6 +26,11 @@ FirstLeftKeeps = (w u : Ways) (k : Lane) (i : Item) → FirstLeft w u k i → (m
 abbrev pub TakenIsFirst : Type 0
 TakenIsFirst = (script : Script) (honest : ℕ → Bool) (w : World) (v : ℕ) (r s : Vat Name) (m : Message Name) (ms : List (Message Name)) (n : Name) → slice_get w.vats v ≡ Some r → s.queue ≡ m ∷ ms → m.target ≡ Ref n
     → FirstLeft (ways script honest (amid v s w)) (ways script honest (amid v (record s { queue = ms }) w)) (Queue v) (item m.id n)
+
+-- A message that is taken, and stood once, is nowhere then.
+abbrev pub TakenIsNowhere : Type 0
+TakenIsNowhere = (script : Script) (honest : ℕ → Bool) (w : World) (v : ℕ) (r s : Vat Name) (m : Message Name) (ms : List (Message Name)) (n : Name) → slice_get w.vats v ≡ Some r → s.queue ≡ m ∷ ms → m.target ≡ Ref n
+    → StandsOnce (ways script honest (amid v s w)) m.id → IsPlace (ways script honest (amid v (record s { queue = ms }) w)) m.id Nowhere
 
 -- So it is as a note arrives that delivers a message, whatever its receiver adds.
 abbrev pub CarriedIsFirst : Type 0

@@ -2,7 +2,7 @@
 
 ghost use Rattle.law_order.specs.Comings.{CarriedArePutLast, CarriedComeLast, FoundPlacesKeep, HeldComeInOrder, LostMessagesDoom, QueuesTellOrder, SendsComeLast};
 ghost use Rattle.law_order.specs.Example.{HeldGoInOrder, MessagesAreFound, WaitingComeLast};
-ghost use Rattle.law_order.specs.Leavings.{CarriedIsFirst, FirstLeftKeeps, TakenIsFirst};
+ghost use Rattle.law_order.specs.Leavings.{CarriedIsFirst, FirstLeftKeeps, TakenIsFirst, TakenIsNowhere};
 ghost use Rattle.law_order.specs.Messages.{ComersAreBehind, GoneOnIsBehind, LostIsNowhere, NowhereIsDoomed, PlacesAreFound, PlacesAreOne};
 
 /// The place that is found by a message's name is where the message stands: its lane, with just what is in
@@ -137,4 +137,9 @@ pub fn waiting_come_last()
 /// It asks what `carried_messages_are_put_on` asks, and that the vat does not host it itself.
 pub fn carried_are_put_last()
     ensures { CarriedArePutLast }
+{}
+
+/// A message on an object that is taken from a queue is nowhere then, if it stood once.
+pub fn taken_is_nowhere()
+    ensures { TakenIsNowhere }
 {}
