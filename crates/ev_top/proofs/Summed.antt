@@ -65,7 +65,7 @@ script_summed script programs e events status written admitted is are ended same
     let steady = runs_are_steady theirs lawful in
     let mirrors = runs_are_mirrored theirs lawful in
     let told = same ∙ ap (λ (n : ℕ). summed_by events n e) (steps_are script programs) ∙ ap (λ (es : List ShownEvent). summed_by es (steps_of theirs) e) (are steady)
-        ∙ ap (summed_by (events_of (numbers.run theirs)) (steps_of theirs)) (is steady) ∙ summed_same theirs (machine.run theirs) (numbers.run theirs) mirrors in (
+    ∙ ap (summed_by (events_of (numbers.run theirs)) (steps_of theirs)) (is steady) ∙ summed_same theirs (machine.run theirs) (numbers.run theirs) mirrors in (
       ended ∙ ap (status_by script) (is steady) ∙ told_end script (summary_of theirs) (machine.run theirs) (numbers.run theirs) mirrors,
       told ∙ due_text script (summary_of theirs) (machine.run theirs),
     )
