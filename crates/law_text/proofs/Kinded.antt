@@ -1,10 +1,12 @@
 -- The words of each line tell its kind.
-use Rattle.std.proofs.Common.{◌≡◌, ℕ, cond, Bool, true, false, List, [], ◌∷◌, ◌++◌, refl, sym}
+use Rattle.std.proofs.Common.{◌≡◌, ℕ, cond, Bool, true, false, List, [], ◌∷◌, ◌++◌, refl, sym, map, ap, ◌∙◌}
 use Rattle.std.specs.Prelude.{decimal, codes, bytes_eq}
+use Rattle.def_event.specs.declared.event.Event.{Event}
 use Rattle.def_event.specs.declared.event.Event.TheVariants.{Open, Turn, Idle, Carry, Cut, Notice, Frame, Take, Call, Back, Thrown, Gone, Got, Slot as SlotMade, Read, Wrote, List as ListMade, Arrived, Ejector, Audition, Promise, Made, Send, SendOnly, When, Done, Threw, Settle, Wait, View, LostCut, LostBroken, LeftQueue, LeftHeld, LeftWait, LeftLink, End}
-use Rattle.def_event.specs.Lines.{vat, note_words}
-use Rattle.law_text.specs.Kinds.{kind_in, first_of, second_of, is_number, is_activation, WordsTellKinds}
-use Rattle.law_text.proofs.Front.{true_false}
+use Rattle.def_event.specs.Lines.{vat, note_words, words}
+use Rattle.law_text.specs.Kinds.{kind, kind_in, first_of, second_of, is_number, is_activation, WordsTellKinds, TextsTellKinds}
+use Rattle.law_text.proofs.Front.{true_false, cons_is}
+use Rattle.law_text.proofs.Told.{texts_tell_words}
 use Rattle.law_text.proofs.Valued.{is_digit, digit_is, decimal_passes}
 
 taken : (b : Bool) (xs ys : List ℕ) → b ≡ true → cond b xs ys ≡ xs
@@ -53,3 +55,10 @@ kinds_told vats (LeftHeld v p m) = refl
 kinds_told vats (LeftWait v x m) = refl
 kinds_told vats (LeftLink v w note) = refl
 kinds_told vats End = refl
+
+kinds_of : (vats : List (List ℕ)) (xs : List Event) → map kind_in (map (words vats) xs) ≡ map kind xs
+kinds_of vats [] = refl
+kinds_of vats (x ∷ xs) = cons_is (kind_in (words vats x)) (kind x) (map kind_in (map (words vats) xs)) (map kind xs) (kinds_told vats x) (kinds_of vats xs)
+
+pub texts_tell_kinds : TextsTellKinds
+texts_tell_kinds vats good xs ys h k e = sym (kinds_of vats xs) ∙ ap (map kind_in) (texts_tell_words vats good xs ys h k e) ∙ kinds_of vats ys

@@ -1,9 +1,11 @@
 -- The kind of a line by the words with which it begins.
-use Rattle.std.specs.Prelude.{◌≡◌, ℕ, Bool, false, ◌==◌, ◌&&◌, nat_le, if◌then◌else◌, List, [], ◌∷◌, ◌++◌, codes, bytes_eq}
+use Rattle.std.specs.Prelude.{◌≡◌, ℕ, Bool, false, ◌==◌, ◌&&◌, nat_le, if◌then◌else◌, List, [], ◌∷◌, ◌++◌, codes, bytes_eq, map}
 use Rattle.std.specs.List.{list_all}
 use Rattle.def_event.specs.declared.event.Event.{Event}
 use Rattle.def_event.specs.declared.event.Event.TheVariants.{Open, Turn, Idle, Carry, Cut, Notice, Frame, Take, Call, Back, Thrown, Gone, Got, Slot as SlotMade, Read, Wrote, List as ListMade, Arrived, Ejector, Audition, Promise, Made, Send, SendOnly, When, Done, Threw, Settle, Wait, View, LostCut, LostBroken, LeftQueue, LeftHeld, LeftWait, LeftLink, End}
-use Rattle.def_event.specs.Lines.{words}
+use Rattle.def_event.specs.Lines.{words, render}
+use Rattle.law_text.specs.Feeds.{AllOf}
+use Rattle.law_text.specs.Words.{IsOrdinary, WordsFit}
 
 -- the kind of an event: behind `#` where its line begins with the number of an entry, behind `!` where it begins with an activation
 abbrev pub kind : Event → List ℕ
@@ -72,3 +74,7 @@ kind_in (w ∷ ws) =
 
 abbrev pub WordsTellKinds : Type 0
 WordsTellKinds = (vats : List (List ℕ)) (e : Event) → kind_in (words vats e) ≡ kind e
+
+-- of vats whose names are of ordinary bytes
+abbrev pub TextsTellKinds : Type 0
+TextsTellKinds = (vats : List (List ℕ)) → AllOf IsOrdinary vats → (xs ys : List Event) → AllOf WordsFit xs → AllOf WordsFit ys → render vats xs ≡ render vats ys → map kind xs ≡ map kind ys
