@@ -7,3 +7,4 @@ pub mod Split
 pub mod Told
 pub mod Named
 pub mod Valued
+pub mod Kinded

@@ -33,10 +33,10 @@ cancel_last z (x ∷ xs) (y ∷ ys) e = cons_is x y xs ys (head_is x y (xs ++ z 
 
 -- ---- digits
 
-abbrev is_digit : ℕ → Bools
+abbrev pub is_digit : ℕ → Bools
 is_digit c = leb 48 c && leb c 57
 
-digit_is : (d : ℕ) → d < 10 → is_digit (48 + d) ≡ true
+pub digit_is : (d : ℕ) → d < 10 → is_digit (48 + d) ≡ true
 digit_is d h = grind (arith, nat_tests)
 
 digit_names : (d : ℕ) → d < 10 → names_vat (48 + d) ≡ true
@@ -74,7 +74,7 @@ module _ (p : ℕ → Bools) (each : (d : ℕ) → d < 10 → p (48 + d) ≡ tru
       let one : list_all p (digit_glyph false (n % 10) ∷ acc) ≡ true = both_true (p (digit_glyph false (n % 10))) (list_all p acc) (glyph_passes (n % 10) (ltb (n % 10) 10) (below_ten n) refl) h in
       pick_all (eqb (n / 10) 0) (digit_glyph false (n % 10) ∷ acc) (digits_onto k 10 false (n / 10) (digit_glyph false (n % 10) ∷ acc)) one (onto_pass k (n / 10) (digit_glyph false (n % 10) ∷ acc) one)
 
-  decimal_passes : (n : ℕ) → list_all p (decimal n) ≡ true
+  pub decimal_passes : (n : ℕ) → list_all p (decimal n) ≡ true
   unfolding digits
   decimal_passes n = onto_pass 64 n [] refl
 

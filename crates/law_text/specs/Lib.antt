@@ -2,3 +2,4 @@ pub mod Feeds
 pub mod Words
 pub mod Names
 pub mod Values
+pub mod Kinds

@@ -1,0 +1,5 @@
+use Rattle.law_text.proofs.Kinded.{texts_tell_kinds}
+use Rattle.law_text.proofs.kinds.texts_tell_kinds.Goals as goal
+
+pub returns : goal.returns
+returns c = texts_tell_kinds
