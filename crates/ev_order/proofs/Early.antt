@@ -38,9 +38,9 @@ takes_not labels sent taken e line t b single takes overtakes no_one m h =
 pub none_more : (labels : List (Option ℕ)) (sent taken : MentionList) (events : List Event) (line : ℕ) (e : Event) → slice_get events line ≡ Some e → NoneEarly labels sent taken events line → ((m : Msg) → TakesAt labels sent taken e line m → ⊥) → NoneEarly labels sent taken events (line + 1)
 none_more labels sent taken events line e at none here j d m less there h = ⊎_elim
     (λ (same : (_ : _) × (j ≡ line)).
-      let two : Some d ≡ Some e = sym there ∙ ap (slice_get events) same.1 ∙ at in
-      let is : d ≡ e = cc in
-      here m (subst (λ (k : ℕ). TakesAt labels sent taken e k m) same.1 (subst (λ (x : Event). TakesAt labels sent taken x j m) is h)))
+    let two : Some d ≡ Some e = sym there ∙ ap (slice_get events) same.1 ∙ at in
+    let is : d ≡ e = cc in
+    here m (subst (λ (k : ℕ). TakesAt labels sent taken e k m) same.1 (subst (λ (x : Event). TakesAt labels sent taken x j m) is h)))
     (λ (other : (_ : _) × (j ≡ line → ⊥)). none j d m (omega (arith, less, other.1)) there h)
     (eqb_tells j line)
 
@@ -51,9 +51,9 @@ pub waits_more : (places : List Place) (sent taken : MentionList) (line : ℕ) (
 waits_more places sent taken line seeds n o w new = record {
   size = omega (arith, length-append seeds (o ∷ []), w.size);
   each = λ k m s p less at got. ⊎_elim
-    (λ (old : slice_get seeds k ≡ Some p). w.each k m s p (omega (arith, slice_get_within seeds k p old, w.size)) at old)
-    (λ (is : (k ≡ length seeds) × (p ≡ o)).
+      (λ (old : slice_get seeds k ≡ Some p). w.each k m s p (omega (arith, slice_get_within seeds k p old, w.size)) at old)
+      (λ (is : (k ≡ length seeds) × (p ≡ o)).
       let here : k ≡ n = omega (arith, is.0, w.size) in
       subst (IsWaiting places taken line m s) (sym is.1) (new m s (sym (ap (slice_get sent) here) ∙ at)))
-    (get_either seeds o k p got);
+      (get_either seeds o k p got);
 }

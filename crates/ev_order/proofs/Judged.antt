@@ -27,9 +27,9 @@ use Rattle.ev_order.proofs.Graphs.{mention_of, single, sent_fit}
 seed_next : (places : List Place) (x a : ℕ) → next_of (slice_get places x) ≡ Some a → HasNext places x a
 seed_next places x a h = cases (slice_get places x) refl h
   where
-  cases : (o : Option Place) → slice_get places x ≡ o → next_of o ≡ Some a → HasNext places x a
-  cases None e is = cc
-  cases (Some p) e is = (p, e, is)
+    cases : (o : Option Place) → slice_get places x ≡ o → next_of o ≡ Some a → HasNext places x a
+    cases None e is = cc
+    cases (Some p) e is = (p, e, is)
 
 next_seed : (places : List Place) (x a : ℕ) → HasNext places x a → next_of (slice_get places x) ≡ Some a
 next_seed places x a h = ap next_of h.1 ∙ h.2
@@ -49,12 +49,11 @@ late_second s k line p more le = rw (le-ltb k s more) (rw (le-ltb p.1.line line 
 late_means : (s k line : ℕ) (p : Msg × Mention) → s ≤ k → late s k line (Some p) ≡ true → line ≤ p.1.line
 late_means s k line p more h = cases (nat_lt p.1.line line) refl (rw (le-ltb k s more) at h)
   where
-  cases : (b : Bool) → nat_lt p.1.line line ≡ b → not b ≡ true → line ≤ p.1.line
-  cases true e is = cc
-  cases false e is = ltb-false p.1.line line e
+    cases : (b : Bool) → nat_lt p.1.line line ≡ b → not b ≡ true → line ≤ p.1.line
+    cases true e is = cc
+    cases false e is = ltb-false p.1.line line e
 
 module _ (lines : List Event) (places : List Place) (g : IsGraph lines places) (sent taken : MentionList) (hs : HoldsSent lines sent) (ht : HoldsTaken lines taken) where
-
   -- the place on which a mentioned message was sent
   place_of : (m : Msg) (s : Mention) (h : IsThere m s sent) → s.first + s.args ≡ start lines s.line + length (hs.noted h.0 m s h.1).what.args
   place_of m s h =
@@ -88,7 +87,7 @@ module _ (lines : List Event) (places : List Place) (g : IsGraph lines places) (
       let end = end_there (s.first + s.args) a (u.first + u.args) on led in
       let to = sent_on n u hn end.0 end.1 in
       leads_before lines places g m n s.line u.line next.1.0 end.0 from.0 to.0 a
-        (subst (λ (x : ℕ). HasNext places x a) from.1 on) (subst (Leads places a) to.1 led)
+      (subst (λ (x : ℕ). HasNext places x a) from.1 on) (subst (Leads places a) to.1 led)
 
   pub single_sent : (m : Msg) (s t : Mention) → IsThere m s sent → IsThere m t sent → s ≡ t
   single_sent = single sending (λ (x : Sending). x.message) sent_mention lines sent hs
@@ -136,7 +135,6 @@ module _ (lines : List Event) (places : List Place) (g : IsGraph lines places) (
   absent_not line m absent b = let there = ht.all b.0 b.1 b.3 in absent there.0 (subst (λ (x : Msg). IsThere x there.0 taken) b.4 there.1)
 
   module _ (seeds labels : List (Option ℕ)) (hr : IsRanked places sent taken seeds (length sent) (length taken)) (hl : HasFirstLabels places seeds labels) where
-
     -- ---- by the label, and so by the trace
 
     pub overtaken_from : (e : Event) (line : ℕ) (n : Msg) → slice_get lines line ≡ Some e → TakesAt labels sent taken e line n → (m : Msg) × ((i : ℕ) × IsOvertaken lines line n m i)
@@ -147,29 +145,51 @@ module _ (lines : List Event) (places : List Place) (g : IsGraph lines places) (
         let led = hl.leads (u.first + u.args) k late_is.1 in
         ⊎_elim
         (λ (less : k < length sent).
-          let p = get_or sent k (n, u) in
-          let there = slice_get-get_or sent k (n, u) less in
-          ⊎_elim
-          (λ (free : IsAbsent p.0 taken × (Some led.0 ≡ seed_of places p.1)).
-            (p.0, (p.1.line, record { took = h.take; taken = (e, at, h.takes); message = h.message; by_object = h.by_object;
-              before = leads_is_before p.0 n p.1 u (k, there) h.early.1 led.0 free.1 led.2; waits = absent_not line p.0 free.0 })))
-          (λ (no : ((t : Mention) × IsThere p.0 t taken) × (Some led.0 ≡ None)). let no_way = no.1 in cc)
-          (hr.first k p.0 p.1 (Some led.0) less there led.1))
+        let p = get_or sent k (n, u) in
+        let there = slice_get-get_or sent k (n, u) less in
+        ⊎_elim
+        (λ (free : IsAbsent p.0 taken × (Some led.0 ≡ seed_of places p.1)). (
+          p.0,
+          (
+            p.1.line,
+            record {
+              took = h.take;
+              taken = (e, at, h.takes);
+              message = h.message;
+              by_object = h.by_object;
+              before = leads_is_before p.0 n p.1 u (k, there) h.early.1 led.0 free.1 led.2;
+              waits = absent_not line p.0 free.0;
+            },
+          ),
+        ))
+        (λ (no : ((t : Mention) × IsThere p.0 t taken) × (Some led.0 ≡ None)). let no_way = no.1 in cc)
+        (hr.first k p.0 p.1 (Some led.0) less there led.1))
         (λ (more : length sent ≤ k).
-          let inside = slice_get_within seeds k (Some led.0) led.1 in
-          let b = k - length sent in
-          let small : b < length taken = omega (arith, inside, hr.size, more) in
-          let spot : length taken - 1 - b < length taken = omega (arith, small) in
-          let p = get_or taken (length taken - 1 - b) (n, u) in
-          let there = slice_get-get_or taken (length taken - 1 - b) (n, u) spot in
-          let same : k ≡ length sent + b = omega (arith, more) in
-          let late_p = late_means (length sent) k line p more (subst (λ (o : Option (Msg × Mention)). late (length sent) k line o ≡ true) there late_is.2) in
-          ⊎_elim
-          (λ (is : (s : Mention) × IsThere p.0 s sent × (Some led.0 ≡ seed_of places s)).
-            (p.0, (is.0.line, record { took = h.take; taken = (e, at, h.takes); message = h.message; by_object = h.by_object;
-              before = leads_is_before p.0 n is.0 u is.1 h.early.1 led.0 is.2 led.2; waits = not_before line p.0 p.1 (length taken - 1 - b, there) late_p })))
-          (λ (no : IsAbsent p.0 sent × (Some led.0 ≡ None)). let no_way = no.1 in cc)
-          (hr.second b p.0 p.1 (Some led.0) small there (sym (ap (slice_get seeds) same) ∙ led.1)))
+        let inside = slice_get_within seeds k (Some led.0) led.1 in
+        let b = k - length sent in
+        let small : b < length taken = omega (arith, inside, hr.size, more) in
+        let spot : length taken - 1 - b < length taken = omega (arith, small) in
+        let p = get_or taken (length taken - 1 - b) (n, u) in
+        let there = slice_get-get_or taken (length taken - 1 - b) (n, u) spot in
+        let same : k ≡ length sent + b = omega (arith, more) in
+        let late_p = late_means (length sent) k line p more (subst (λ (o : Option (Msg × Mention)). late (length sent) k line o ≡ true) there late_is.2) in
+        ⊎_elim
+        (λ (is : (s : Mention) × IsThere p.0 s sent × (Some led.0 ≡ seed_of places s)). (
+          p.0,
+          (
+            is.0.line,
+            record {
+              took = h.take;
+              taken = (e, at, h.takes);
+              message = h.message;
+              by_object = h.by_object;
+              before = leads_is_before p.0 n is.0 u is.1 h.early.1 led.0 is.2 led.2;
+              waits = not_before line p.0 p.1 (length taken - 1 - b, there) late_p;
+            },
+          ),
+        ))
+        (λ (no : IsAbsent p.0 sent × (Some led.0 ≡ None)). let no_way = no.1 in cc)
+        (hr.second b p.0 p.1 (Some led.0) small there (sym (ap (slice_get seeds) same) ∙ led.1)))
         (cases_lt k (length sent))
 
     -- ---- by the trace, and so by the label
@@ -182,9 +202,9 @@ module _ (lines : List Event) (places : List Place) (g : IsGraph lines places) (
     label_late u n there line k a seed led later =
         let first = hl.first (u.first + u.args) k a seed led (within u n there) in
         ap (late_label sent taken line) first.2 ∙ ⊎_elim
-          (λ (less : first.0 < length sent). late_first (length sent) first.0 line (slice_get taken (length taken - 1 - (first.0 - length sent))) less)
-          (λ (more : length sent ≤ first.0). later first.0 first.1 more)
-          (cases_lt first.0 (length sent))
+        (λ (less : first.0 < length sent). late_first (length sent) first.0 line (slice_get taken (length taken - 1 - (first.0 - length sent))) less)
+        (λ (more : length sent ≤ first.0). later first.0 first.1 more)
+        (cases_lt first.0 (length sent))
 
     -- the takes of the ranks up to that of a message come no earlier than its own
     ranks_late : (line f : ℕ) (m : Msg) (t : Mention) → slice_get taken f ≡ Some (m, t) → line ≤ t.line → (j : ℕ) → j ≤ length sent + (length taken - 1 - f) → length sent ≤ j → late (length sent) j line (slice_get taken (length taken - 1 - (j - length sent))) ≡ true
@@ -195,40 +215,43 @@ module _ (lines : List Event) (places : List Place) (g : IsGraph lines places) (
         let there = slice_get-get_or taken (length taken - 1 - (j - length sent)) (m, t) spot in
         let above : f ≤ length taken - 1 - (j - length sent) = omega (arith, small, more, inside) in
         let line_le : line ≤ p.1.line = ⊎_elim
-          (λ (same : (_ : _) × (length taken - 1 - (j - length sent) ≡ f)).
-            let two : Some p ≡ Some (m, t) = sym there ∙ ap (slice_get taken) same.1 ∙ at in
-            let is : p ≡ (m, t) = cc in
-            let e = ap (λ (q : Msg × Mention). q.1.line) is in
-            omega (arith, e, le))
-          (λ (other : (_ : _) × (length taken - 1 - (j - length sent) ≡ f → ⊥)).
-            omega (arith, le, ht.ascending f (length taken - 1 - (j - length sent)) m p.0 t p.1 (omega (arith, above, other.1)) at there))
-          (eqb_tells (length taken - 1 - (j - length sent)) f) in
+        (λ (same : (_ : _) × (length taken - 1 - (j - length sent) ≡ f)).
+        let two : Some p ≡ Some (m, t) = sym there ∙ ap (slice_get taken) same.1 ∙ at in
+        let is : p ≡ (m, t) = cc in
+        let e = ap (λ (q : Msg × Mention). q.1.line) is in
+        omega (arith, e, le))
+        (λ (other : (_ : _) × (length taken - 1 - (j - length sent) ≡ f → ⊥)).
+        omega (arith, le, ht.ascending f (length taken - 1 - (j - length sent)) m p.0 t p.1 (omega (arith, above, other.1)) at there))
+        (eqb_tells (length taken - 1 - (j - length sent)) f) in
         ap (late (length sent) j line) there ∙ late_second (length sent) j line p more line_le
 
     seen_early : (line : ℕ) (m : Msg) (i : ℕ) (n : Msg) → Sees m i n → (IsTakenBefore lines line m → ⊥) → IsEarly labels sent taken n line
     seen_early line m i n s waits =
         let k = s.there.0 in
         let inside = slice_get_within sent k (m, s.send) s.there.1 in
-        let got = slice_get-get_or seeds k None (omega (arith, inside, hr.size)) in
-        (s.later, s.later_there, ⊎_elim
-          (λ (free : IsAbsent m taken × (get_or seeds k None ≡ seed_of places s.send)).
-            label_late s.later n s.later_there line k s.seed (got ∙ ap Some (free.1 ∙ s.seed_is)) s.leads (λ j small more. absurd (omega (arith, small, more, inside))))
-          (λ (is : ((t : Mention) × IsThere m t taken) × (get_or seeds k None ≡ None)).
-            let t = is.0.0 in
-            let f = is.0.1.0 in
-            let at = is.0.1.1 in
-            let within_f = slice_get_within taken f (m, t) at in
-            let le : line ≤ t.line = ⊎_elim (λ (less : t.line < line). absurd (waits (taken_there line m t (f, at) less))) (λ (le : line ≤ t.line). le) (cases_lt t.line line) in
-            let b = length taken - 1 - f in
-            let back : length taken - 1 - b ≡ f = omega (arith, within_f) in
-            let found = slice_get-get_or seeds (length sent + b) None (omega (arith, within_f, hr.size)) in
-            ⊎_elim
-            (λ (was_sent : (x : Mention) × IsThere m x sent × (get_or seeds (length sent + b) None ≡ seed_of places x)).
+        let got = slice_get-get_or seeds k None (omega (arith, inside, hr.size)) in (
+          s.later,
+          s.later_there,
+          ⊎_elim
+              (λ (free : IsAbsent m taken × (get_or seeds k None ≡ seed_of places s.send)).
+              label_late s.later n s.later_there line k s.seed (got ∙ ap Some (free.1 ∙ s.seed_is)) s.leads (λ j small more. absurd (omega (arith, small, more, inside))))
+              (λ (is : ((t : Mention) × IsThere m t taken) × (get_or seeds k None ≡ None)).
+              let t = is.0.0 in
+              let f = is.0.1.0 in
+              let at = is.0.1.1 in
+              let within_f = slice_get_within taken f (m, t) at in
+              let le : line ≤ t.line = ⊎_elim (λ (less : t.line < line). absurd (waits (taken_there line m t (f, at) less))) (λ (le : line ≤ t.line). le) (cases_lt t.line line) in
+              let b = length taken - 1 - f in
+              let back : length taken - 1 - b ≡ f = omega (arith, within_f) in
+              let found = slice_get-get_or seeds (length sent + b) None (omega (arith, within_f, hr.size)) in
+              ⊎_elim
+              (λ (was_sent : (x : Mention) × IsThere m x sent × (get_or seeds (length sent + b) None ≡ seed_of places x)).
               let same = single_sent m was_sent.0 s.send was_sent.1 s.there in
               label_late s.later n s.later_there line (length sent + b) s.seed (found ∙ ap Some (was_sent.2 ∙ ap (seed_of places) same ∙ s.seed_is)) s.leads (ranks_late line f m t at le))
-            (λ (none : IsAbsent m sent × (get_or seeds (length sent + b) None ≡ None)). absurd (none.0 s.send s.there))
-            (hr.second b m t (get_or seeds (length sent + b) None) (omega (arith, within_f)) (ap (slice_get taken) back ∙ at) found))
-          (hr.first k m s.send (get_or seeds k None) inside s.there.1 got))
+              (λ (none : IsAbsent m sent × (get_or seeds (length sent + b) None ≡ None)). absurd (none.0 s.send s.there))
+              (hr.second b m t (get_or seeds (length sent + b) None) (omega (arith, within_f)) (ap (slice_get taken) back ∙ at) found))
+              (hr.first k m s.send (get_or seeds k None) inside s.there.1 got),
+        )
 
     pub overtaken_early : (line : ℕ) (n m : Msg) (i : ℕ) → IsOvertaken lines line n m i → (e : Event) × (slice_get lines line ≡ Some e) × TakesAt labels sent taken e line n
     overtaken_early line n m i o =

@@ -9,8 +9,8 @@ ghost use Rattle.ev_order.specs.Over.{AreSingle};
 ghost use Rattle.ev_order.specs.Walk.{HoldsSent, HoldsTaken};
 ghost use Rattle.ev_order.specs.Judge.{AreRanks, AreWaiting, FitLabels, FitPlaces, IsFirstBefore, IsFirstEarly, IsRanked, IsTakenSeed, IsUntaken, IsWaiting, Overtakes, TakesEarly, TellsTaken, HasRanks, HasWaiting, IsEarliest, IsFound, late, seed_of};
 
-use crate::mentions::{Mention, Mentions};
 use crate::graph::graph_of;
+use crate::mentions::{Mention, Mentions};
 use crate::spread::{Place, first_labels};
 use crate::walk::is_object;
 use def_event::Event;
@@ -27,12 +27,7 @@ fn seed_of(places: &[Place], sent: Mention) -> Option<usize>
 }
 
 /// The seed of a message that was sent, by its number, where none takes it.
-fn untaken_seed(
-    places: &[Place],
-    sent: &Mentions,
-    taken: &Mentions,
-    number: usize,
-) -> Option<usize>
+fn untaken_seed(places: &[Place], sent: &Mentions, taken: &Mentions, number: usize) -> Option<usize>
     requires { FitPlaces places.now sent.now }
     ensures { (m : Msg) (s : Mention) → slice_get sent.now number ≡ Some (m, s) → IsUntaken places.now taken.now m s result }
 {
@@ -46,12 +41,7 @@ fn untaken_seed(
 }
 
 /// The seed of a message that was taken, by its number, where it was sent.
-fn taken_seed(
-    places: &[Place],
-    sent: &Mentions,
-    taken: &Mentions,
-    number: usize,
-) -> Option<usize>
+fn taken_seed(places: &[Place], sent: &Mentions, taken: &Mentions, number: usize) -> Option<usize>
     requires { FitPlaces places.now sent.now }
     ensures { (m : Msg) (t : Mention) → slice_get taken.now number ≡ Some (m, t) → IsTakenSeed places.now sent.now m result }
 {

@@ -130,15 +130,27 @@ fn one_reference(rt: HostRuntime) -> Result<(), Fail> {
     let ordered = trace(rt.alloc(), pair(rt.alloc(), 0, 1)?);
     assert_eq!(rt; judge_order(rt.alloc(), &ordered)?, None);
     let exchanged = trace(rt.alloc(), pair(rt.alloc(), 1, 0)?);
-    assert_eq!(rt; judge_order(rt.alloc(), &exchanged)?, Some((message(0, 0), message(0, 1))));
+    assert_eq!(rt;
+        judge_order(rt.alloc(), &exchanged)?,
+        Some((message(0, 0), message(0, 1)))
+    );
     Ok(())
 }
 
 #[test]
 fn a_reference_that_is_handed_on(rt: HostRuntime) -> Result<(), Fail> {
-    let ordered = trace(rt.alloc(), triangle(rt.alloc(), message(0, 0), message(1, 0))?);
+    let ordered = trace(
+        rt.alloc(),
+        triangle(rt.alloc(), message(0, 0), message(1, 0))?,
+    );
     assert_eq!(rt; judge_order(rt.alloc(), &ordered)?, None);
-    let exchanged = trace(rt.alloc(), triangle(rt.alloc(), message(1, 0), message(0, 0))?);
-    assert_eq!(rt; judge_order(rt.alloc(), &exchanged)?, Some((message(0, 0), message(1, 0))));
+    let exchanged = trace(
+        rt.alloc(),
+        triangle(rt.alloc(), message(1, 0), message(0, 0))?,
+    );
+    assert_eq!(rt;
+        judge_order(rt.alloc(), &exchanged)?,
+        Some((message(0, 0), message(1, 0)))
+    );
     Ok(())
 }

@@ -4,7 +4,7 @@ use Rattle.ev_order.proofs.judge.earliest.Goals as goal
 
 pub returns : goal.returns
 returns c = record {
-    labels = c.deref.result.now;
-    ranks = subst (HasRanks c.args.places.now c.args.sent.now c.args.taken.now) (sym c.deref.ensures.value) c.in_ok-labels.ensures;
-    early = c.first_early.ensures;
-  }
+  labels = c.deref.result.now;
+  ranks = subst (HasRanks c.args.places.now c.args.sent.now c.args.taken.now) (sym c.deref.ensures.value) c.in_ok-labels.ensures;
+  early = c.first_early.ensures;
+}

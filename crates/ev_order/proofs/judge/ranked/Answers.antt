@@ -14,4 +14,4 @@ pub loop-back-preserved : goal.loop-back-preserved
 loop-back-preserved c =
     subst (λ (os : List (Option ℕ)). IsRanked c.args.places.now c.args.sent.now c.args.taken.now os (length c.args.sent.now) (c.loop-back.back + 1)) (sym c.in_ok-push-2.ensures.items)
     (ranks_second c.args.places.now c.args.sent.now c.args.taken.now c.loop-back.seeds.items (length c.args.sent.now) c.loop-back.back c.taken_seed.result c.loop-back.invariant
-      (λ m t h. c.taken_seed.ensures m t (ap (λ (k : ℕ). slice_get c.args.taken.now (k - 1 - c.loop-back.back)) c.len.ensures ∙ h)))
+    (λ m t h. c.taken_seed.ensures m t (ap (λ (k : ℕ). slice_get c.args.taken.now (k - 1 - c.loop-back.back)) c.len.ensures ∙ h)))
