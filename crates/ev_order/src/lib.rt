@@ -9,3 +9,5 @@ pub mod mentions;
 pub mod over;
 pub mod spread;
 pub mod walk;
+
+pub use judge::judge_order;

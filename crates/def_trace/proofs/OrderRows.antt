@@ -1,1 +1,0 @@
--- Order in small traces.
