@@ -1,7 +1,6 @@
 -- When the lines of a history use only what is known to who uses it, by these lines alone.
 -- A line stands with those before it, the last of them first.
-use Rattle.std.specs.Prelude.{◌≡◌, ℕ, ◌+◌, ◌<◌, ◌==◌, nat_eq, bytes_eq, Bool, true, false, ◌&&◌, ◌||◌, if◌then◌else◌, ◌⊎◌, ◌↔◌, List, [], ◌∷◌, ◌++◌, map, take, drop, length, slice_get, codes, Option, Some, None, unwrap_or}
-use Rattle.std.specs.Option.{option_eq}
+use Rattle.std.specs.Prelude.{◌≡◌, ℕ, ◌+◌, ◌<◌, ◌==◌, bytes_eq, Bool, true, false, ◌&&◌, ◌||◌, if◌then◌else◌, ◌⊎◌, ◌↔◌, List, [], ◌∷◌, ◌++◌, map, take, drop, length, slice_get, codes, Option, Some, None, unwrap_or}
 use Rattle.ev_base.specs.declared.names.Name.{Name}
 use Rattle.ev_base.specs.declared.names.Name.TheVariants.{Object, Gift, Root}
 use Rattle.ev_base.specs.declared.names.Msg.{Msg}
@@ -11,38 +10,63 @@ use Rattle.def_event.specs.declared.note.ShownNote.TheVariants.{Deliver, Deliver
 use Rattle.def_event.specs.declared.event.Event.{Event}
 use Rattle.def_event.specs.declared.event.Called.{Called}
 use Rattle.def_event.specs.declared.event.Event.TheVariants.{Open, Turn, Idle, Carry, Cut, Notice, Take, Call, Back, Thrown, Gone, Got, Read, Wrote, List as ListMade, Arrived, Ejector, Audition as AuditionMade, Promise, Made as ObjectMade, Send, SendOnly, When, Done, Settle, View}
-use Rattle.def_trace.specs.declared.known.Activation.{Activation}
-use Rattle.def_trace.specs.declared.known.Thing.{Thing}
-use Rattle.def_trace.specs.declared.known.Thing.TheVariants as thing
-use Rattle.def_trace.specs.declared.known.Fact.{Fact}
-use Rattle.def_trace.specs.declared.known.Fact.TheVariants.{Begun, Opened, Given, Made, Captured, Audition}
-use Rattle.def_trace.specs.declared.known.Way.{Way}
-use Rattle.def_trace.specs.declared.known.Way.TheVariants.{Listed, Settled}
-use Rattle.def_trace.specs.declared.known.Lead.{Lead}
 
--- ---- lines and their vats
+-- ---- what is known, and by whom
 
--- a line, and the vat of its step: none before the first step, and after an idle or a cut entry
+-- what can be known: a name, or a list, by the vat that made it and its number there
+pub data Thing : Type 0 where
+  AName : Name → Thing
+  AList : ℕ → ℕ → Thing
+
+-- an activation, by the place of its lines and its number there
+pub record Activation : Type 0 where
+  pub at : ℕ
+  pub number : ℕ
+
+-- what a line tells by itself of who knows what
+pub data Fact : Type 0 where
+  -- the activation has begun; it began as the opening of its vat; it made the thing or was given it
+  Begun : Activation → Fact
+  Opened : Activation → Fact
+  Given : Activation → Thing → Fact
+  -- the object was made; it captured the thing when it was made; it is an audition
+  Made : Name → Fact
+  Captured : Name → Thing → Fact
+  Audition : Name → Fact
+
+-- a list leads to its members at every vat, a name to what it settled to or to its view at the place of that line
+pub data Way : Type 0 where
+  Listed : Way
+  Settled : ℕ → Way
+
+pub record Lead : Type 0 where
+  pub way : Way
+  pub from : Thing
+  pub to : Thing
+
+-- ---- lines and their places
+
+-- A line, and its place: the number of the vat of its step from 1 on, or 0 for none, before the first step and after an idle or a cut entry.
 pub record Line : Type 0 where
-  pub at : Option ℕ
+  pub at : ℕ
   pub event : Event
 
--- the vat of a line, by that of the line before it
-unfoldable pub vat_after : Option ℕ → Event → Option ℕ
-vat_after at (Open v) = Some v
-vat_after at (Turn k v) = Some v
-vat_after at (Notice k v w) = Some v
-vat_after at (Carry k v w note) = Some w
-vat_after at (Idle k) = None
-vat_after at (Cut k v w) = None
-vat_after at _ = at
+-- the place of a line, by that of the line before it
+unfoldable pub place_after : ℕ → Event → ℕ
+place_after at (Open v) = v + 1
+place_after at (Turn k v) = v + 1
+place_after at (Notice k v w) = v + 1
+place_after at (Carry k v w note) = w + 1
+place_after at (Idle k) = 0
+place_after at (Cut k v w) = 0
+place_after at _ = at
 
-abbrev pub vat_of : List Line → Option ℕ
-vat_of [] = None
-vat_of (l ∷ past) = l.at
+abbrev pub place_of : List Line → ℕ
+place_of [] = 0
+place_of (l ∷ past) = l.at
 
 abbrev pub line_after : List Line → Event → Line
-line_after past e = record { at = vat_after (vat_of past) e; event = e }
+line_after past e = record { at = place_after (place_of past) e; event = e }
 
 -- these lines with those of more events
 abbrev pub and_lines : List Line → List Event → List Line
@@ -57,8 +81,8 @@ IsAmong x (y ∷ ys) = (y ≡ x) ⊎ IsAmong x ys
 
 -- the name or the list that a value is
 unfoldable pub things_of : Shown → List Thing
-things_of (Named n) = thing.Name n ∷ []
-things_of (ListOf v n) = thing.List v n ∷ []
+things_of (Named n) = AName n ∷ []
+things_of (ListOf v n) = AList v n ∷ []
 things_of _ = []
 
 abbrev pub things : List Shown → List Thing
@@ -67,27 +91,27 @@ things (x ∷ xs) = things_of x ++ things xs
 
 -- the list that a value is
 unfoldable pub lists_of : Shown → List Thing
-lists_of (ListOf v n) = thing.List v n ∷ []
+lists_of (ListOf v n) = AList v n ∷ []
 lists_of _ = []
 
 -- ---- what lines tell
 
-abbrev pub given : Option ℕ → ℕ → List Thing → List Fact
+abbrev pub given : ℕ → ℕ → List Thing → List Fact
 given at a ts = map (λ t. Given (record { at = at; number = a }) t) ts
 
 -- What the activation of a line made, got, read or was given back, and the answers of its sends and reactions; and that an object is an audition.
-unfoldable pub gains : Option ℕ → Event → List Fact
+unfoldable pub gains : ℕ → Event → List Fact
 gains at (Back a x) = given at a (things_of x)
 gains at (Got a x) = given at a (things_of x)
 gains at (Read a s x) = given at a (things_of x)
-gains at (ListMade a l members) = given at a (thing.List l.0 l.1 ∷ [])
+gains at (ListMade a l members) = given at a (AList l.0 l.1 ∷ [])
 gains at (Ejector a o) = given at a (things_of o)
-gains at (AuditionMade a (Named n)) = Audition n ∷ given at a (thing.Name n ∷ [])
+gains at (AuditionMade a (Named n)) = Audition n ∷ given at a (AName n ∷ [])
 gains at (AuditionMade a o) = given at a (things_of o)
-gains at (Promise a p o) = given at a (thing.Name p ∷ things_of o)
+gains at (Promise a p o) = given at a (AName p ∷ things_of o)
 gains at (ObjectMade o) = given at o.activation (things_of o.object)
-gains at (Send m) = given at m.activation (thing.Name m.answer ∷ [])
-gains at (When w) = given at w.activation (thing.Name w.answer ∷ [])
+gains at (Send m) = given at m.activation (AName m.answer ∷ [])
+gains at (When w) = given at w.activation (AName w.answer ∷ [])
 gains at _ = []
 
 -- what is told where a first fact was not told before
@@ -95,15 +119,15 @@ pub record Anew : Type 0 where
   pub mark : Fact
   pub facts : List Fact
 
-abbrev pub begun : Option ℕ → ℕ → List Fact → Option Anew
+abbrev pub begun : ℕ → ℕ → List Fact → Option Anew
 begun at a facts = Some (record { mark = Begun (record { at = at; number = a }); facts = facts })
 
-abbrev pub begun_call : Option ℕ → Called → Option ℕ → Option Anew
+abbrev pub begun_call : ℕ → Called → Option ℕ → Option Anew
 begun_call at c None = None
 begun_call at c (Some b) = begun at b (given at b (things c.args))
 
 -- An activation begins with the first of its lines: the opening of a vat, a message taken, or a call. It is given the arguments, and a list that takes the message.
-unfoldable pub begins : Option ℕ → Event → Option Anew
+unfoldable pub begins : ℕ → Event → Option Anew
 begins at (Open v) = begun at 0 (Opened (record { at = at; number = 0 }) ∷ [])
 begins at (Take t) = begun at t.activation (given at t.activation (lists_of t.target ++ things t.args))
 begins at (Call c) = begun_call at c c.begun
@@ -135,11 +159,11 @@ abbrev pub led : Way → Thing → List Thing → List Lead
 led way from ts = map (λ t. record { way = way; from = from; to = t }) ts
 
 -- a list line leads to the members, a settle or view line of a vat from the name to what it gives there
-unfoldable pub leads : Option ℕ → Event → List Lead
-leads at (Settle p x) = led (Settled at) (thing.Name p) (things_of x)
-leads at (View p q) = led (Settled at) (thing.Name p) (thing.Name q ∷ [])
-leads at (ListMade a l members) = led Listed (thing.List l.0 l.1) (things members)
-leads at (Arrived l members) = led Listed (thing.List l.0 l.1) (things members)
+unfoldable pub leads : ℕ → Event → List Lead
+leads at (Settle p x) = led (Settled at) (AName p) (things_of x)
+leads at (View p q) = led (Settled at) (AName p) (AName q ∷ [])
+leads at (ListMade a l members) = led Listed (AList l.0 l.1) (things members)
+leads at (Arrived l members) = led Listed (AList l.0 l.1) (things members)
 leads at _ = []
 
 unfoldable pub IsLead : List Line → Lead → Type 0
@@ -176,18 +200,18 @@ views (View p q) = Some (record { name = p; value = Some q })
 views _ = None
 
 -- a line of the vat gives something for the name
-abbrev pub IsGivenBy : (Event → Option Given_for) → List Line → Option ℕ → Name → Type 0
+abbrev pub IsGivenBy : (Event → Option Given_for) → List Line → ℕ → Name → Type 0
 IsGivenBy by [] at n = ⊥
 IsGivenBy by (l ∷ past) at n = IsGivenBy by past at n ⊎ ((l.at ≡ at) × (value : Option Name) × (by l.event ≡ Some (record { name = n; value = value })))
 
 -- the first such line gives this
-abbrev pub IsFirstGivenBy : (Event → Option Given_for) → List Line → Option ℕ → Name → Option Name → Type 0
+abbrev pub IsFirstGivenBy : (Event → Option Given_for) → List Line → ℕ → Name → Option Name → Type 0
 IsFirstGivenBy by [] at n value = ⊥
 IsFirstGivenBy by (l ∷ past) at n value =
     IsFirstGivenBy by past at n value ⊎ ((IsGivenBy by past at n → ⊥) × (l.at ≡ at) × (by l.event ≡ Some (record { name = n; value = value })))
 
 -- what a name leads to: by its first settle line, else by its first view line
-abbrev pub IsNext : List Line → Option ℕ → Name → Name → Type 0
+abbrev pub IsNext : List Line → ℕ → Name → Name → Type 0
 IsNext past at n m =
     IsFirstGivenBy settles past at n (Some m) ⊎ ((IsGivenBy settles past at n → ⊥) × IsFirstGivenBy views past at n (Some m))
 
@@ -196,7 +220,7 @@ is_object (Object v n) = true
 is_object _ = false
 
 -- a name is followed at a vat up to an object
-pub data IsFollowed (past : List Line) (at : Option ℕ) : Name → Name → Type 0 where
+pub data IsFollowed (past : List Line) (at : ℕ) : Name → Name → Type 0 where
   there : {o : Name} → is_object o ≡ true → IsFollowed past at o o
   further : {n o : Name} (m : Name) → is_object n ≡ false → IsNext past at n m → IsFollowed past at m o → IsFollowed past at n o
 
@@ -224,7 +248,7 @@ Runs (l ∷ past) a o =
 -- ---- what an activation knows
 
 unfoldable pub is_root : Thing → Bool
-is_root (thing.Name (Root v)) = true
+is_root (AName (Root v)) = true
 is_root _ = false
 
 -- what an activation has by itself: as an opening one each root, what it made or was given, and what the object whose code it runs captured
@@ -233,15 +257,15 @@ Has past a t =
     ((is_root t ≡ true) × IsTold past (Opened a)) ⊎ (IsTold past (Given a t) ⊎ ((o : Name) × Runs past a o × IsTold past (Captured o t)))
 
 -- lists lead on everywhere, settle and view lines at their vat
-abbrev pub IsOpenAt : Option ℕ → Way → Type 0
+abbrev pub IsOpenAt : ℕ → Way → Type 0
 IsOpenAt at Listed = Unit {0}
 IsOpenAt at (Settled v) = v ≡ at
 
 abbrev pub Knows : List Line → Activation → Thing → Type 0
 Knows past a t = Reaches past (Has past a) (IsOpenAt a.at) t
 
-abbrev pub KnowsName : List Line → Option ℕ → ℕ → Name → Type 0
-KnowsName past at a n = Knows past (record { at = at; number = a }) (thing.Name n)
+abbrev pub KnowsName : List Line → ℕ → ℕ → Name → Type 0
+KnowsName past at a n = Knows past (record { at = at; number = a }) (AName n)
 
 -- ---- 1. What a line uses is known to its activation, or made by the line.
 
@@ -307,17 +331,17 @@ calls_after past (Gone b) a calls = if b == a then drop 1 calls else calls
 calls_after past _ a calls = calls
 
 -- the innermost first
-abbrev pub open_calls : List Line → Option ℕ → ℕ → List OpenCall
+abbrev pub open_calls : List Line → ℕ → ℕ → List OpenCall
 open_calls [] at a = []
 open_calls (l ∷ past) at a =
-    if option_eq nat_eq l.at at then calls_after past l.event a (open_calls past at a) else open_calls past at a
+    if l.at == at then calls_after past l.event a (open_calls past at a) else open_calls past at a
 
 -- it asks for a guard what was followed to an audition
-abbrev pub AsksAudition : Option ℕ → OpenCall → Type 0
+abbrev pub AsksAudition : ℕ → OpenCall → Type 0
 AsksAudition at c =
     (c.call.verb ≡ codes "getGuard") × (n o : Name) × (name_of c.call.target ≡ Some n) × IsFollowed c.before at n o × IsTold c.before (Audition o)
 
-abbrev pub GivesBack : List Line → Option ℕ → ℕ → Name → List OpenCall → Type 0
+abbrev pub GivesBack : List Line → ℕ → ℕ → Name → List OpenCall → Type 0
 GivesBack past at a n [] = KnowsName past at a n
 GivesBack past at a n (c ∷ calls) = KnowsName past at (unwrap_or c.call.begun a) n ⊎ AsksAudition at c
 
@@ -331,8 +355,8 @@ abbrev mutual
   -- the names and lists in a value of a note
   pub parts : Shown → List Thing
   parts (Members' shape members) = member_parts members
-  parts (Named n) = thing.Name n ∷ []
-  parts (ListOf v n) = thing.List v n ∷ []
+  parts (Named n) = AName n ∷ []
+  parts (ListOf v n) = AList v n ∷ []
   parts Null = []
   parts (Flag b) = []
   parts (Int z) = []
@@ -393,7 +417,7 @@ IsListed way = way ≡ Listed
 
 -- the name stands in these, lists taken apart
 abbrev pub StandsIn : List Line → List Thing → Name → Type 0
-StandsIn past ts n = Reaches past (λ t. IsAmong t ts) IsListed (thing.Name n)
+StandsIn past ts n = Reaches past (λ t. IsAmong t ts) IsListed (AName n)
 
 unfoldable pub TakesSent : List Event → List Line → Event → Type 0
 TakesSent whole past (Take t) = (n : Name) → StandsIn past (all_parts t.args) n ↔ StandsIn past (arguments_in whole t.message) n
@@ -402,8 +426,8 @@ TakesSent whole past _ = Unit {0}
 -- ---- 4. What is carried was there in the line before of the message, or is what that leads to, or a gift.
 
 unfoldable pub delivered : ShownNote → Option (Msg × List Thing)
-delivered (Deliver m target verb args) = Some (m, thing.Name target ∷ all_parts args)
-delivered (DeliverOnly m target verb args) = Some (m, thing.Name target ∷ all_parts args)
+delivered (Deliver m target verb args) = Some (m, AName target ∷ all_parts args)
+delivered (DeliverOnly m target verb args) = Some (m, AName target ∷ all_parts args)
 delivered _ = None
 
 abbrev pub of_delivered : {A : Type 0} → Msg → Option (Msg × A) → Option A
@@ -412,7 +436,7 @@ of_delivered m (Some d) = of_message m d.0 d.1
 
 -- what a line of a message has: its target, its arguments and its answer
 unfoldable pub had : Msg → Event → Option (List Thing)
-had m (Send s) = of_message m s.message (parts s.target ++ all_parts s.args ++ thing.Name s.answer ∷ [])
+had m (Send s) = of_message m s.message (parts s.target ++ all_parts s.args ++ AName s.answer ∷ [])
 had m (SendOnly s) = of_message m s.message (parts s.target ++ all_parts s.args)
 had m (Carry k v w note) = of_delivered m (delivered note)
 had m _ = None
@@ -427,7 +451,7 @@ is_gift _ = false
 abbrev pub CarriesThese : List Line → Option (Msg × List Thing) → Type 0
 CarriesThese past None = Unit {0}
 CarriesThese past (Some d) =
-    (n : Name) → IsAmong (thing.Name n) d.1 → (is_gift n ≡ true) ⊎ Reaches past (λ t. IsAmong t (line_before past d.0)) (λ _. Unit {0}) (thing.Name n)
+    (n : Name) → IsAmong (AName n) d.1 → (is_gift n ≡ true) ⊎ Reaches past (λ t. IsAmong t (line_before past d.0)) (λ _. Unit {0}) (AName n)
 
 unfoldable pub CarriesSent : List Line → Event → Type 0
 CarriesSent past (Carry k v w note) = CarriesThese past (delivered note)

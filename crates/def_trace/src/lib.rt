@@ -1,8 +1,6 @@
 //! What the text of a run says: its events, the names of its vats, and the line with which it stopped.
 #![tactic(auto)]
 
-pub mod known;
 pub mod trace;
 
-pub use known::{Activation, Fact, Lead, Thing, Way};
 pub use trace::Trace;
