@@ -1,8 +1,10 @@
 //! Whether the lines of a history use only what is known to who uses it.
 #![tactic(auto)]
 
+pub mod facts;
 pub mod label;
 pub mod links;
 
+pub use facts::{Activation, Fact, Facts};
 pub use label::{Kind, Label};
 pub use links::{Labels, Link, Links, Scope, Way};
