@@ -1,2 +1,6 @@
 pub mod Among
+pub mod Keys
 pub mod Spreading
+pub mod Told
+pub mod Walking
+pub mod Followed

@@ -1,5 +1,5 @@
 -- What the facts that were told are after more lines, in the terms of a set.
-use Rattle.std.specs.Prelude.{◌≡◌, ℕ, Bool, if◌then◌else◌, List, [], ◌∷◌, ◌++◌, map, Option, Some, None}
+use Rattle.std.specs.Prelude.{◌≡◌, ◌↔◌, ℕ, Bool, if◌then◌else◌, List, [], ◌∷◌, ◌++◌, map, Option, Some, None}
 use Rattle.std.specs.List.{list_any}
 use Rattle.indexmap.specs.IndexSet.{insert_key}
 use Rattle.ev_base.specs.declared.names.Name.{Name}
@@ -10,7 +10,7 @@ use Rattle.def_event.specs.declared.event.MadeObject.{MadeObject}
 use Rattle.def_event.specs.declared.event.Event.{Event}
 use Rattle.def_event.specs.declared.event.Event.TheVariants.{Open, Take, Call, Made as ObjectMade}
 use Rattle.def_trace.specs.Uses as uses
-use Rattle.def_trace.specs.Uses.{things_of, lists_of, given, gains, Captured, Thing}
+use Rattle.def_trace.specs.Uses.{things_of, lists_of, given, gains, Captured, IsAmong, IsTold, Line}
 use Rattle.ev_uses.specs.declared.label.Label.{Label}
 use Rattle.ev_uses.specs.declared.facts.Activation.{Activation}
 use Rattle.ev_uses.specs.declared.facts.Fact.{Fact}
@@ -88,3 +88,7 @@ told_made _ old = old
 -- the facts after a line at a place
 abbrev pub told_line : ℕ → Event → List Fact → List Fact
 told_line at e old = told (told_begun at e (told_made e old)) (map key (gains at e))
+
+-- the set has exactly the facts that the lines tell
+pub record StandsFor (facts : List Fact) (past : List Line) : Type 0 where
+  pub each : (f : uses.Fact) → IsAmong (key f) facts ↔ IsTold past f

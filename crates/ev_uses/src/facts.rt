@@ -1,9 +1,9 @@
 //! What the lines so far tell, as a set.
 
-ghost use Rattle.std.specs.Prelude.{◌≡◌, [], map, OnOk};
-ghost use Rattle.def_trace.specs.Uses.{AName, Captured as Captures, gains, given, lists_of, things_of};
+ghost use Rattle.std.specs.Prelude.{◌≡◌, [], ◌∷◌, List, map, OnOk};
+ghost use Rattle.def_trace.specs.Uses.{AName, Line, Captured as Captures, gains, given, lists_of, things_of};
 ghost use Rattle.def_event.specs.declared.event.Event.TheVariants.{Audition as AuditionMade};
-ghost use Rattle.ev_uses.specs.Telling.{is_told, key, told, told_begun, told_called, told_captures, told_line, told_made, told_object, told_opened, told_taken, told_value, told_values, with_fact};
+ghost use Rattle.ev_uses.specs.Telling.{StandsFor, is_told, key, told, told_begun, told_called, told_captures, told_line, told_made, told_object, told_opened, told_taken, told_value, told_values, with_fact};
 
 use crate::label::{Label, list_label, name_label};
 use def_event::{Addressed, Called, Event, Shown};
@@ -78,7 +78,8 @@ fn of(at: u64, number: u64) -> Activation
 impl Facts {
     /// Nothing was told. It takes no memory.
     pub fn new(alloc: Global) -> Facts
-        ensures { result ≡ [] }
+        ensures empty { result ≡ [] }
+        ensures stands { StandsFor result [] }
     {
         Facts {
             told: IndexSet::new(alloc),
@@ -297,9 +298,11 @@ impl Facts {
         }
     }
 
-    /// What a line at a place tells.
+    /// What a line at a place tells. A set that stands for the lines before it stands for these and the line.
+    #[tactic(auto, using(crate::proofs::Told::line_stands))]
     pub fn tell_line(&mut self, at: u64, event: &Event) -> Result<(), Memory>
-        ensures { OnOk result (self.new ≡ told_line at event.now self.old) }
+        ensures told { OnOk result (self.new ≡ told_line at event.now self.old) }
+        ensures stands { (past : List Line) → StandsFor self.old past → OnOk result (StandsFor self.new (record { at = at; event = event.now } ∷ past)) }
     {
         self.tell_made(event)?;
         self.tell_begun(at, event)?;
