@@ -12,9 +12,10 @@ use Rattle.ev_uses.specs.declared.following.Goal.{Goal}
 use Rattle.ev_uses.specs.declared.following.Goal.TheVariants.{To, Data}
 use Rattle.ev_uses.specs.contracts.following.SpotPartialEq.TheImpl.{eq-value}
 use Rattle.ev_uses.specs.Label.{label}
-use Rattle.ev_uses.specs.Following.{Table, goal, goal_at, Puts, Noted, NotedFor, FirstAs, GivesFirst, is_object_label, next_by, next_of, Follows, there, further}
+use Rattle.ev_uses.specs.Following.{Table, goal, goal_at, Puts, Noted, NotedFor, FollowsTo, FollowedAs, Tables, TablesStand, FirstAs, GivesFirst, is_object_label, next_by, next_of, Follows, there, further}
 use Rattle.ev_uses.proofs.Among.{IsExact}
 use Rattle.ev_uses.proofs.Keys.{name_same}
+use Rattle.ev_uses.proofs.Walking.{follows_one}
 
 spot_is : (a b : Spot) → IsTrue (eq-value.it a b) ↔ (a ≡ b)
 spot_is a b = search rules
@@ -47,9 +48,13 @@ module _ (by : Event → Option Given_for) where
   -- the first that gives something for the name
   fresh : (l : Line) (past : List Line) (at : ℕ) (n : Name) (v : Option Name) → (IsGivenBy by past at n → ⊥) → l.at ≡ at → by l.event ≡ Some (record { name = n; value = v })
       → FirstAs by (l ∷ past) at n (Some (goal v))
-  fresh l past at n v new here e =
-      (inr (here, v, e), v, refl, inr (new, here, e),
-       λ w f. elim f [ inl a ↦ absurd (new (first_given past at n w a)) | inr b ↦ value_same n v w (by l.event) e b.2 ])
+  fresh l past at n v new here e = (
+    inr (here, v, e),
+    v,
+    refl,
+    inr (new, here, e),
+    λ w f. elim f [ inl a ↦ absurd (new (first_given past at n w a)) | inr b ↦ value_same n v w (by l.event) e b.2 ],
+  )
 
   -- what stood there stands
   stood : (b : Bool) (s : Spot) (g : Goal) (old new : Table) (x : Goal) → Noted s g b old new → b ≡ is_some (goal_at old s) → goal_at old s ≡ Some x → goal_at new s ≡ Some x
@@ -98,19 +103,23 @@ module _ (by : Event → Option Given_for) where
   noted_if false l past g old new at n e h noted is =
       subst (FirstAs by (l ∷ past) at n) (sym (other (is_some (goal_at old (spot l.at g.name))) (spot l.at g.name) (spot at n) (goal g.value) old new noted e))
       (kept l past at n (goal_at old (spot at n))
-        (λ v here k.
-          let this : g.name ≡ n = name_given g n v (by l.event) is k in
-          let same : spot l.at g.name ≡ spot at n = ap (λ (j : ℕ). spot j g.name) here ∙ ap (spot at) this in
-          let bad : eq-value.it (spot l.at g.name) (spot at n) ≡ true = (spot_is (spot l.at g.name) (spot at n)).1 same in
-          absurd (let worse : true ≡ false = sym bad ∙ e in cc))
-        (h.each at n))
+      (λ v here k.
+      let this : g.name ≡ n = name_given g n v (by l.event) is k in
+      let same : spot l.at g.name ≡ spot at n = ap (λ (j : ℕ). spot j g.name) here ∙ ap (spot at) this in
+      let bad : eq-value.it (spot l.at g.name) (spot at n) ≡ true = (spot_is (spot l.at g.name) (spot at n)).1 same in
+      absurd (let worse : true ≡ false = sym bad ∙ e in cc))
+      (h.each at n))
 
   noted_for : (o : Option Given_for) (l : Line) (past : List Line) (old new : Table) → by l.event ≡ o → NotedFor l.at o old new → GivesFirst by old past → GivesFirst by new (l ∷ past)
-  noted_for None l past old new is noted h = record { each = λ at n.
-      subst (λ (es : Table). FirstAs by (l ∷ past) at n (goal_at es (spot at n))) (sym noted)
-      (kept l past at n (goal_at old (spot at n)) (λ v here k. let bad : None ≡ Some (record { name = n; value = v }) = sym is ∙ k in absurd cc) (h.each at n)) }
-  noted_for (Some g) l past old new is noted h = record { each = λ at n.
-      noted_if (eq-value.it (spot l.at g.name) (spot at n)) l past g old new at n refl h noted is }
+  noted_for None l past old new is noted h = record {
+    each = λ at n.
+        subst (λ (es : Table). FirstAs by (l ∷ past) at n (goal_at es (spot at n))) (sym noted)
+        (kept l past at n (goal_at old (spot at n)) (λ v here k. let bad : None ≡ Some (record { name = n; value = v }) = sym is ∙ k in absurd cc) (h.each at n));
+  }
+  noted_for (Some g) l past old new is noted h = record {
+    each = λ at n.
+        noted_if (eq-value.it (spot l.at g.name) (spot at n)) l past g old new at n refl h noted is;
+  }
 
 pub settles_first : (l : Line) (past : List Line) (old new : Table) → NotedFor l.at (settles l.event) old new → GivesFirst settles old past → GivesFirst settles new (l ∷ past)
 settles_first l past old new noted h = noted_for settles (settles l.event) l past old new refl noted h
@@ -174,6 +183,28 @@ module _ (settled viewed : Table) (past : List Line) (s : GivesFirst settles set
   followed_back l p n is (there e) = (n, is, uses.there (sym (object_label n) ∙ ap is_object_label is ∙ e))
   followed_back l p n is (further m e next r) =
       let found = next_back_by past at n m (goal_at settled (spot at n)) (goal_at viewed (spot at n)) (s.each at n) (v.each at n)
-        (ap (next_of settled viewed at) is ∙ next) in
+      (ap (next_of settled viewed at) is ∙ next) in
       let rest = followed_back m p found.0 found.1 r in
       (rest.0, rest.1, uses.further found.0 (sym (object_label n) ∙ ap is_object_label is ∙ e) found.2 rest.2)
+
+pub none_stand : TablesStand (record { settled = []; viewed = [] }) []
+none_stand = record { settled = none_first settles; viewed = none_first views }
+
+pub line_followed : (at : ℕ) (e : Event) (past : List Line) (old new : Tables) → NotedFor at (settles e) old.settled new.settled → NotedFor at (views e) old.viewed new.viewed
+    → TablesStand old past → TablesStand new (record { at = at; event = e } ∷ past)
+line_followed at e past old new s v h = record {
+  settled = settles_first (record { at = at; event = e }) past old.settled new.settled s h.settled;
+  viewed = views_first (record { at = at; event = e }) past old.viewed new.viewed v h.viewed;
+}
+
+pub followed_as : (tables : Tables) (past : List Line) (at : ℕ) (n : Name) (object : Option Label) → TablesStand tables past
+    → FollowsTo tables.settled tables.viewed at (label (AName n)) object → FollowedAs past at n object
+followed_as tables past at n None h f = λ o g. f (label (AName o)) (followed_there tables.settled tables.viewed past h.settled h.viewed at n o g)
+followed_as tables past at n (Some l) h f =
+    let found = followed_back tables.settled tables.viewed past h.settled h.viewed at (label (AName n)) l n refl f in (
+      found.0,
+      found.1,
+      found.2,
+      λ p g. name_same p found.0
+          (follows_one tables.settled tables.viewed at (label (AName n)) (label (AName p)) l (followed_there tables.settled tables.viewed past h.settled h.viewed at n p g) f ∙ sym found.1),
+    )

@@ -4,3 +4,5 @@ pub mod Spreading
 pub mod Told
 pub mod Walking
 pub mod Followed
+pub mod Leading
+pub mod Running

@@ -3,7 +3,7 @@ use Rattle.std.specs.Prelude.{◌≡◌, ℕ, Bool, true, false, cond, List, Opt
 use Rattle.std.specs.Map.{lookup}
 use Rattle.ev_base.specs.declared.names.Name.{Name}
 use Rattle.def_event.specs.declared.event.Event.{Event}
-use Rattle.def_trace.specs.Uses.{AName, Given_for, IsGivenBy, IsFirstGivenBy, Line}
+use Rattle.def_trace.specs.Uses.{AName, Given_for, IsGivenBy, IsFirstGivenBy, IsFollowed, Line, settles, views}
 use Rattle.ev_uses.specs.declared.label.Label.{Label}
 use Rattle.ev_uses.specs.declared.label.Kind.{Kind}
 use Rattle.ev_uses.specs.declared.label.Kind.TheVariants as kind
@@ -75,3 +75,17 @@ FirstAs by past at n (Some g) =
 
 pub record GivesFirst (by : Event → Option Given_for) (es : Table) (past : List Line) : Type 0 where
   pub each : (at : ℕ) (n : Name) → FirstAs by past at n (goal_at es (record { at = at; name = label (AName n) }))
+
+pub record Tables : Type 0 where
+  pub settled : Table
+  pub viewed : Table
+
+-- tables that have what the first lines give
+pub record TablesStand (tables : Tables) (past : List Line) : Type 0 where
+  pub settled : GivesFirst settles tables.settled past
+  pub viewed : GivesFirst views tables.viewed past
+
+-- the one object to which a name leads, or none
+abbrev pub FollowedAs : List Line → ℕ → Name → Option Label → Type 0
+FollowedAs past at n None = (o : Name) → IsFollowed past at n o → ⊥
+FollowedAs past at n (Some l) = (o : Name) × (label (AName o) ≡ l) × IsFollowed past at n o × ((p : Name) → IsFollowed past at n p → p ≡ o)

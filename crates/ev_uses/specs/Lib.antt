@@ -2,3 +2,5 @@ pub mod Label
 pub mod Links
 pub mod Telling
 pub mod Following
+pub mod Leads
+pub mod Runs

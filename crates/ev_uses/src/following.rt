@@ -2,12 +2,12 @@
 
 ghost use Rattle.std.specs.Prelude.{◌≡◌, [], ◌∷◌, List, IfOk, OnOk, is_some};
 ghost use Rattle.def_trace.specs.Uses.{Line, name_of, settles, views};
-ghost use Rattle.ev_uses.specs.Following.{Follows, FollowsTo, GivesFirst, Noted, Puts, goal, goal_at, is_object_label, next_of};
+ghost use Rattle.ev_uses.specs.Following.{FollowedAs, Follows, FollowsTo, GivesFirst, Noted, NotedFor, Puts, TablesStand, goal, goal_at, is_object_label, next_of};
 
 use crate::label::{Kind, Label, name_label};
 use crate::links::Labels;
 use def_event::{Event, Shown};
-use ev_base::Memory;
+use ev_base::{Memory, Name};
 use indexmap::IndexMap;
 use std::alloc::Global;
 use std::marker::Model;
@@ -155,4 +155,72 @@ fn follow_in(
         current = next;
     }
     Ok(Some(current))
+}
+
+/// Notes what a settle line gives.
+#[tactic(auto, unfolding(def_trace::specs::Uses::settles))]
+fn note_settled(settled: &mut Firsts, at: u64, event: &Event) -> Result<(), Memory>
+    ensures { OnOk result (NotedFor at (settles event.now) settled.old settled.new) }
+{
+    match event {
+        Event::Settle(name, value) => settled.note(at, name_label(name), goal_of(value)),
+        _ => Ok(()),
+    }
+}
+
+/// Notes what a view line gives.
+#[tactic(auto, unfolding(def_trace::specs::Uses::views))]
+fn note_viewed(viewed: &mut Firsts, at: u64, event: &Event) -> Result<(), Memory>
+    ensures { OnOk result (NotedFor at (views event.now) viewed.old viewed.new) }
+{
+    match event {
+        Event::View(name, view) => viewed.note(at, name_label(name), Goal::To(name_label(view))),
+        _ => Ok(()),
+    }
+}
+
+/// What names settled to and have as their views, by the first line that says so of each at each place.
+#[derive(Drop)]
+pub struct Following {
+    settled: Firsts,
+    viewed: Firsts,
+}
+
+impl Model for Following {
+    ghost use Rattle.ev_uses.specs.Following.{Tables};
+
+    ghost Value = { Tables };
+
+    ghost view = { λ f. record { settled = f.settled; viewed = f.viewed } };
+}
+
+impl Following {
+    /// Nothing. It takes no memory.
+    #[tactic(auto, using(crate::proofs::Followed::none_stand))]
+    pub fn new(alloc: Global) -> Following
+        ensures { TablesStand result [] }
+    {
+        Following {
+            settled: Firsts::new(alloc),
+            viewed: Firsts::new(alloc),
+        }
+    }
+
+    /// Notes what a line at a place gives. Tables that stand for the lines before it stand for these and the line.
+    #[tactic(auto, using(crate::proofs::Followed::line_followed))]
+    pub fn tell_line(&mut self, at: u64, event: &Event) -> Result<(), Memory>
+        ensures { (past : List Line) → TablesStand self.old past → OnOk result (TablesStand self.new (record { at = at; event = event.now } ∷ past)) }
+    {
+        note_settled(&mut self.settled, at, event)?;
+        note_viewed(&mut self.viewed, at, event)?;
+        Ok(())
+    }
+
+    /// The object to which a name leads at a place.
+    #[tactic(auto, using(crate::proofs::Followed::followed_as))]
+    pub fn follow(&self, alloc: Global, at: u64, name: &Name) -> Result<Option<Label>, Memory>
+        ensures { (past : List Line) → TablesStand self.now past → IfOk result (λ object. FollowedAs past at name.now object) }
+    {
+        follow_in(alloc, &self.settled, &self.viewed, at, name_label(name))
+    }
 }

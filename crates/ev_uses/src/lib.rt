@@ -4,9 +4,13 @@
 pub mod facts;
 pub mod following;
 pub mod label;
+pub mod leads;
 pub mod links;
+pub mod runs;
 
 pub use facts::{Activation, Fact, Facts};
-pub use following::{Firsts, Goal, Spot};
+pub use following::{Firsts, Following, Goal, Spot};
 pub use label::{Kind, Label};
+pub use leads::tell_leads;
 pub use links::{Labels, Link, Links, Scope, Way};
+pub use runs::Runs;
