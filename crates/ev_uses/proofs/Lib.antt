@@ -6,3 +6,6 @@ pub mod Walking
 pub mod Followed
 pub mod Leading
 pub mod Running
+pub mod Knowing
+pub mod Deciding
+pub mod Judging

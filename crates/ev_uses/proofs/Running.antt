@@ -160,7 +160,6 @@ activation_of l r t u a here is e =
     let n : r ≡ a.number = number_same (record { activation = r; target = Some t }) (record { activation = a.number; target = Some u }) (sym is ∙ e) in
     λ i. record { at = here i; number = n i }
 
-
 pub after_stands : (l : Line) (past : List Line) (r : ℕ) (t : Name) (old new : List (Activation × Label)) → runs l.event ≡ Some (record { activation = r; target = Some t })
     → RunAfter past l.at r t old new → RunsStand old past → RunsStand new (l ∷ past)
 after_stands l past r t old new is (inl k) h =

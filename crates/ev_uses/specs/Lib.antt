@@ -4,3 +4,5 @@ pub mod Telling
 pub mod Following
 pub mod Leads
 pub mod Runs
+pub mod Knowing
+pub mod Using

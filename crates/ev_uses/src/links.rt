@@ -217,6 +217,13 @@ impl Labels {
         add_label(&mut self.set, label)
     }
 
+    /// The labels, lent in order.
+    pub fn as_slice(&self) -> &[Label]
+        ensures { result.now ≡ self.now }
+    {
+        self.set.as_slice()
+    }
+
     /// How many there are.
     pub fn len(&self) -> usize
         ensures { result ≡ length self.now }

@@ -13,5 +13,5 @@ unfolding leads
 returns-in_ok-lead_to_name-in-View c =
     subst (λ (e : Event). AddsLeads (leads c.args.at e) c.args.links.now c.lead_to_name.new.links) (sym c.in-View.is)
     (led_added (Settled c.args.at) (AName c.in-View.name) (AName c.in-View.view ∷ []) c.settled_link-link-in-View.result c.args.links.now c.lead_to_name.new.links
-      c.in_ok-lead_to_name-in-View.ensures
-      (c.settled_link-link-in-View.ensures ∙ ap (λ (from : Label). record { way = Settling c.args.at; other = from }) c.name_label-in-View.ensures))
+    c.in_ok-lead_to_name-in-View.ensures
+    (c.settled_link-link-in-View.ensures ∙ ap (λ (from : Label). record { way = Settling c.args.at; other = from }) c.name_label-in-View.ensures))

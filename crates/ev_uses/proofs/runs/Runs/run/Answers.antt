@@ -15,12 +15,20 @@ pub returns-in_default : goal.returns-in_default
 unfolding key
 returns-in_default c past s t =
     let a : uses.Activation = record { at = c.args.activation.at; number = c.args.activation.number } in
-    inr (not_told c.args.facts.now past (uses.Begun a) s (sym c.has.ensures ∙ c.if-has.false), None,
-     subst (FollowedAs past c.args.activation.at c.args.target.now) c.in_default.is (c.in_ok-object.ensures past t), refl)
+    inr (
+      not_told c.args.facts.now past (uses.Begun a) s (sym c.has.ensures ∙ c.if-has.false),
+      None,
+      subst (FollowedAs past c.args.activation.at c.args.target.now) c.in_default.is (c.in_ok-object.ensures past t),
+      refl,
+    )
 
 pub returns : goal.returns
 unfolding key
 returns c past s t =
     let a : uses.Activation = record { at = c.args.activation.at; number = c.args.activation.number } in
-    inr (not_told c.args.facts.now past (uses.Begun a) s (sym c.has.ensures ∙ c.if-has.false), Some c.in-Some.object,
-     subst (FollowedAs past c.args.activation.at c.args.target.now) c.in-Some.is (c.in_ok-object.ensures past t), c.in_ok-put.ensures)
+    inr (
+      not_told c.args.facts.now past (uses.Begun a) s (sym c.has.ensures ∙ c.if-has.false),
+      Some c.in-Some.object,
+      subst (FollowedAs past c.args.activation.at c.args.target.now) c.in-Some.is (c.in_ok-object.ensures past t),
+      c.in_ok-put.ensures,
+    )
