@@ -1,6 +1,6 @@
 -- Deciding whether names are known, one by one.
 use Rattle.std.proofs.Common.{◌≡◌, ℕ, zero, suc, ◌+◌, ◌≤◌, arith, Bool, true, false, List, [], ◌∷◌, ◌++◌, take, length, slice_get, Option, Some, None, append_assoc, refl, sym, ap, subst, ◌∙◌, inl, inr}
-use Rattle.std.specs.Prelude.{◌⊎◌, ◌↔◌, if◌then◌else◌}
+use Rattle.std.specs.Prelude.{◌↔◌}
 use Rattle.std.proofs.lemmas.List.{append-nil}
 use Rattle.ev_base.specs.declared.names.Name.{Name}
 use Rattle.def_event.specs.declared.shown.Shown.{Shown}
@@ -10,7 +10,7 @@ use Rattle.ev_uses.specs.declared.facts.Activation.{Activation}
 use Rattle.ev_uses.specs.declared.label.Label.{Label}
 use Rattle.ev_uses.specs.Knowing.{Known, KnownStand}
 use Rattle.ev_uses.specs.Label.{label}
-use Rattle.ev_uses.specs.Using.{AllKnown, DecidesAll, label_of}
+use Rattle.ev_uses.specs.Using.{DecidesAll, label_of}
 use Rattle.ev_uses.proofs.Among.{among_left, among_right, among_cases}
 use Rattle.ev_uses.proofs.Keys.{name_same}
 

@@ -1,6 +1,6 @@
 -- The tables have what the first lines give, so that names are followed by them as by the lines.
 use Rattle.std.proofs.Common.{◌≡◌, ℕ, Bool, true, false, cond, List, [], ◌∷◌, Option, Some, None, refl, sym, ap, subst, ◌∙◌, inl, inr, rules}
-use Rattle.std.specs.Prelude.{◌⊎◌, ◌↔◌, IsTrue, is_some}
+use Rattle.std.specs.Prelude.{◌↔◌, IsTrue, is_some}
 use Rattle.ev_base.specs.declared.names.Name.{Name}
 use Rattle.ev_base.specs.declared.names.Name.TheVariants.{Object, Own, Answer, Gift, Root}
 use Rattle.def_event.specs.declared.event.Event.{Event}
@@ -12,8 +12,7 @@ use Rattle.ev_uses.specs.declared.following.Goal.{Goal}
 use Rattle.ev_uses.specs.declared.following.Goal.TheVariants.{To, Data}
 use Rattle.ev_uses.specs.contracts.following.SpotPartialEq.TheImpl.{eq-value}
 use Rattle.ev_uses.specs.Label.{label}
-use Rattle.ev_uses.specs.Following.{Table, goal, goal_at, Puts, Noted, NotedFor, FollowsTo, FollowedAs, Tables, TablesStand, FirstAs, GivesFirst, is_object_label, next_by, next_of, Follows, there, further}
-use Rattle.ev_uses.proofs.Among.{IsExact}
+use Rattle.ev_uses.specs.Following.{Table, goal, goal_at, Noted, NotedFor, FollowsTo, FollowedAs, Tables, TablesStand, FirstAs, GivesFirst, is_object_label, next_by, next_of, Follows, there, further}
 use Rattle.ev_uses.proofs.Keys.{name_same}
 use Rattle.ev_uses.proofs.Walking.{follows_one}
 

@@ -1,6 +1,6 @@
 -- Labels and keys tell things and facts apart.
-use Rattle.std.proofs.Common.{◌≡◌, ℕ, Bool, true, false, List, [], ◌∷◌, ◌++◌, map, refl, sym, ap, ◌∙◌, inl, inr, rules, ◌&&◌}
-use Rattle.std.specs.Prelude.{◌⊎◌, ◌↔◌, IsTrue}
+use Rattle.std.proofs.Common.{◌≡◌, ℕ, Bool, true, false, List, [], ◌∷◌, map, refl, sym, ap, ◌∙◌, inl, inr, rules, ◌&&◌}
+use Rattle.std.specs.Prelude.{◌↔◌, IsTrue}
 use Rattle.ev_base.specs.declared.names.Name.{Name}
 use Rattle.ev_base.specs.declared.names.Name.TheVariants.{Object, Own, Answer, Gift, Root}
 use Rattle.def_trace.specs.Uses as uses
@@ -15,7 +15,7 @@ use Rattle.ev_uses.specs.contracts.label.LabelPartialEq.TheImpl.{eq-value as lab
 use Rattle.ev_uses.specs.contracts.facts.ActivationPartialEq.TheImpl.{eq-value as activation_eq}
 use Rattle.ev_uses.specs.contracts.facts.FactPartialEq.TheImpl.{eq-value as fact_eq}
 use Rattle.ev_uses.specs.Label.{label}
-use Rattle.ev_uses.specs.Telling.{activation, key}
+use Rattle.ev_uses.specs.Telling.{key}
 use Rattle.ev_uses.proofs.Among.{IsExact}
 
 -- ---- what a label stands for

@@ -1,6 +1,6 @@
 -- The tables tell what activations know.
-use Rattle.std.proofs.Common.{◌≡◌, ℕ, Bool, true, false, List, [], ◌∷◌, Option, Some, None, refl, sym, ap, subst, ◌∙◌, inl, inr, eq-eqb}
-use Rattle.std.specs.Prelude.{◌⊎◌, ◌↔◌, ◌&&◌, ◌==◌, if◌then◌else◌}
+use Rattle.std.proofs.Common.{◌≡◌, Bool, true, false, List, [], ◌∷◌, Option, Some, None, refl, sym, ap, subst, ◌∙◌, inl, inr, eq-eqb}
+use Rattle.std.specs.Prelude.{◌⊎◌, ◌↔◌, ◌&&◌, if◌then◌else◌}
 use Rattle.std.proofs.lemmas.Bool.{eqb-true}
 use Rattle.ev_base.specs.declared.names.Name.{Name}
 use Rattle.ev_base.specs.declared.names.Name.TheVariants.{Object, Own, Answer, Gift, Root}
@@ -14,14 +14,14 @@ use Rattle.ev_uses.specs.declared.links.Link.{Link}
 use Rattle.ev_uses.specs.declared.links.Scope.TheVariants.{Place}
 use Rattle.ev_uses.specs.Label.{label}
 use Rattle.ev_uses.specs.Leads.{LinksStand, backward, way_of}
-use Rattle.ev_uses.specs.Links.{AreReached, IsReached, start, onward, is_open, row, with_label}
+use Rattle.ev_uses.specs.Links.{AreReached, IsReached, start, onward, is_open, with_label}
 use Rattle.ev_uses.specs.Following.{Tables, TablesStand}
 use Rattle.ev_uses.specs.Runs.{RunsAs, RunsStand, runner}
 use Rattle.ev_uses.specs.Telling.{StandsFor, activation, is_told, key}
 use Rattle.ev_uses.specs.Knowing.{Known, KnownStand, any_has, has_captured, has_in, is_root_label}
 use Rattle.ev_uses.proofs.Keys.{label_same}
-use Rattle.ev_uses.proofs.Told.{nothing_stands, told_among, among_is_told}
-use Rattle.ev_uses.proofs.Running.{none_run, told_is}
+use Rattle.ev_uses.proofs.Told.{among_is_told}
+use Rattle.ev_uses.proofs.Running.{told_is}
 use Rattle.ev_uses.proofs.Leading.{none_lead}
 
 pub none_known : (facts : List Fact) (following : Tables) (runs : List (Activation × Label)) (links : List (Label × List Link)) → StandsFor facts [] → TablesStand following [] → RunsStand runs [] → links ≡ []

@@ -1,8 +1,6 @@
 -- The table of runs has the object whose code each activation runs.
 use Rattle.std.proofs.Common.{◌≡◌, ℕ, Bool, true, false, cond, List, [], ◌∷◌, ◌++◌, Option, Some, None, refl, sym, ap, subst, ◌∙◌, inl, inr}
-use Rattle.std.specs.Prelude.{◌⊎◌}
 use Rattle.ev_base.specs.declared.names.Name.{Name}
-use Rattle.def_event.specs.declared.shown.Shown.{Shown}
 use Rattle.def_event.specs.declared.event.Called.{Called}
 use Rattle.def_event.specs.declared.event.Event.{Event}
 use Rattle.def_event.specs.declared.event.Event.TheVariants.{Take, Call}
@@ -15,7 +13,6 @@ use Rattle.ev_uses.specs.Label.{label}
 use Rattle.ev_uses.specs.Telling.{activation, is_told, key, StandsFor}
 use Rattle.ev_uses.specs.declared.facts.Fact.{Fact}
 use Rattle.ev_uses.specs.declared.facts.Fact.TheVariants as fact
-use Rattle.ev_uses.specs.Following.{FollowedAs}
 use Rattle.ev_uses.specs.Runs.{runner, RunsPut, RunsAs, RunsStand, RunAfter, RunTarget, RunTold}
 use Rattle.ev_uses.proofs.Keys.{exact_activation}
 use Rattle.ev_uses.proofs.Told.{told_among, among_is_told}

@@ -1,5 +1,5 @@
 -- A search along links finds what is reached.
-use Rattle.std.proofs.Common.{◌≡◌, ℕ, zero, suc, ◌+◌, ◌≤◌, arith, Bool, true, false, cond, List, [], ◌∷◌, ◌++◌, length, take, slice_get, Some, None, refl, sym, ap, subst, ◌∙◌, inl, inr, rules}
+use Rattle.std.proofs.Common.{◌≡◌, ℕ, zero, suc, ◌+◌, ◌≤◌, arith, Bool, true, false, cond, List, [], ◌∷◌, ◌++◌, length, take, slice_get, Some, refl, sym, ap, subst, ◌∙◌, inl, inr, rules}
 use Rattle.std.specs.Prelude.{◌⊎◌, ◌↔◌, IsTrue, if◌then◌else◌, unwrap_or, Option}
 use Rattle.std.specs.Map.{lookup}
 use Rattle.std.specs.List.{list_any}
@@ -10,8 +10,8 @@ use Rattle.ev_uses.specs.declared.label.Label.{Label}
 use Rattle.ev_uses.specs.declared.links.Link.{Link}
 use Rattle.ev_uses.specs.declared.links.Scope.{Scope}
 use Rattle.ev_uses.specs.contracts.label.LabelPartialEq.TheImpl.{eq-value}
-use Rattle.ev_uses.specs.Links.{row, no_links, Adds, is_open, has_label, with_label, with_others, IsReached, start, onward, AreReached}
-use Rattle.ev_uses.proofs.Among.{IsExact, among_left, among_right, among_cases, among_push, inserted}
+use Rattle.ev_uses.specs.Links.{row, no_links, Adds, is_open, with_label, with_others, IsReached, start, onward, AreReached}
+use Rattle.ev_uses.proofs.Among.{IsExact, among_left, among_cases, among_push, inserted}
 
 label_is : (a b : Label) → IsTrue (eq-value.it a b) ↔ (a ≡ b)
 label_is a b = search rules

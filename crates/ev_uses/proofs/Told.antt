@@ -1,7 +1,6 @@
 -- The facts of the set are those that the lines tell.
 use Rattle.std.proofs.Common.{◌≡◌, ℕ, Bool, true, false, List, [], ◌∷◌, ◌++◌, map, Option, Some, None, refl, sym, ap, subst, ◌∙◌, inl, inr}
 use Rattle.std.specs.Prelude.{◌⊎◌, ◌↔◌, if◌then◌else◌}
-use Rattle.std.specs.List.{list_any}
 use Rattle.ev_base.specs.declared.names.Name.{Name}
 use Rattle.def_event.specs.declared.shown.Shown.{Shown, Name as Named}
 use Rattle.def_event.specs.declared.event.Called.{Called}

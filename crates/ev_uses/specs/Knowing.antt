@@ -1,5 +1,5 @@
 -- What activations know, in the terms of tables.
-use Rattle.std.specs.Prelude.{◌≡◌, Bool, true, false, ◌&&◌, ◌||◌, if◌then◌else◌, List, [], ◌∷◌, Option, Some, None}
+use Rattle.std.specs.Prelude.{Bool, true, false, ◌&&◌, if◌then◌else◌, List, [], ◌∷◌, Option, Some, None}
 use Rattle.def_trace.specs.Uses.{Line}
 use Rattle.ev_uses.specs.declared.facts.Activation.{Activation}
 use Rattle.ev_uses.specs.declared.facts.Fact.{Fact}

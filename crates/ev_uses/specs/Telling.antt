@@ -1,17 +1,15 @@
 -- What the facts that were told are after more lines, in the terms of a set.
-use Rattle.std.specs.Prelude.{◌≡◌, ◌↔◌, ℕ, Bool, if◌then◌else◌, List, [], ◌∷◌, ◌++◌, map, Option, Some, None}
+use Rattle.std.specs.Prelude.{◌↔◌, ℕ, Bool, if◌then◌else◌, List, [], ◌∷◌, map, Option, Some, None}
 use Rattle.std.specs.List.{list_any}
 use Rattle.indexmap.specs.IndexSet.{insert_key}
 use Rattle.ev_base.specs.declared.names.Name.{Name}
 use Rattle.def_event.specs.declared.shown.Shown.{Shown, Name as Named}
 use Rattle.def_event.specs.declared.event.Addressed.{Addressed}
 use Rattle.def_event.specs.declared.event.Called.{Called}
-use Rattle.def_event.specs.declared.event.MadeObject.{MadeObject}
 use Rattle.def_event.specs.declared.event.Event.{Event}
 use Rattle.def_event.specs.declared.event.Event.TheVariants.{Open, Take, Call, Made as ObjectMade}
 use Rattle.def_trace.specs.Uses as uses
 use Rattle.def_trace.specs.Uses.{things_of, lists_of, given, gains, Captured, IsAmong, IsTold, Line}
-use Rattle.ev_uses.specs.declared.label.Label.{Label}
 use Rattle.ev_uses.specs.declared.facts.Activation.{Activation}
 use Rattle.ev_uses.specs.declared.facts.Fact.{Fact}
 use Rattle.ev_uses.specs.declared.facts.Fact.TheVariants as fact

@@ -1,8 +1,7 @@
-use Rattle.std.proofs.Common.{List, [], ◌∷◌, sym, ap, subst, ◌∙◌}
+use Rattle.std.proofs.Common.{[], ◌∷◌, sym, ap, subst, ◌∙◌}
 use Rattle.def_event.specs.declared.event.Event.{Event}
 use Rattle.def_trace.specs.Uses.{AName, Settled, leads}
 use Rattle.ev_uses.specs.declared.label.Label.{Label}
-use Rattle.ev_uses.specs.declared.links.Link.{Link}
 use Rattle.ev_uses.specs.declared.links.Way.TheVariants.{Settled as Settling}
 use Rattle.ev_uses.specs.Leads.{AddsLeads}
 use Rattle.ev_uses.proofs.Leading.{led_added}

@@ -1,5 +1,5 @@
 use Rattle.std.proofs.Common.{subst}
-use Rattle.def_trace.specs.Uses.{names, names_of}
+use Rattle.def_trace.specs.Uses.{names_of}
 use Rattle.ev_uses.specs.Using.{DecidesAll}
 use Rattle.ev_uses.proofs.Deciding.{decides_both, decides_left}
 use Rattle.ev_uses.proofs.using.are_both_known.Goals as goal
