@@ -1,0 +1,13 @@
+-- What is printed of names, lists and slots is read again as a value.
+use Rattle.std.specs.Prelude.{◌≡◌, ℕ, ◌<◌, ◌^◌, List, length, Ok}
+use Rattle.ev_base.specs.declared.names.Name.{Name}
+use Rattle.def_event.specs.declared.shown.Shown.{List as ListOf, Slot, Name as Named}
+use Rattle.def_event.specs.Lines as lines
+use Rattle.ev_trace_words.specs.Laws.{AreNames, FitsName}
+use Rattle.ev_trace_words.specs.Values.{value}
+
+-- a name, and a list and a slot by their numbers
+pub record ThingsAreReadAgain : Type 0 where
+  pub named : (names : List (List ℕ)) (x : Name) → AreNames names → FitsName (length names) x → value names (lines.name names x) ≡ Ok (Named x)
+  pub list : (names : List (List ℕ)) (v n : ℕ) → AreNames names → v < length names → n < 2 ^ 64 → value names (lines.numbered names v 37 n) ≡ Ok (ListOf v n)
+  pub slot : (names : List (List ℕ)) (v n : ℕ) → AreNames names → v < length names → n < 2 ^ 64 → value names (lines.numbered names v 38 n) ≡ Ok (Slot v n)
