@@ -1,1 +1,2 @@
 pub mod ValuesAgain
+pub mod IntegersAgain

@@ -26,7 +26,7 @@ use Rattle.law_trace.specs.Laws.{ThingsAreReadAgain}
 use Rattle.ev_trace_words.proofs.Printed.{IsOther, name_again, numbered_again, numbered_lacks, numbered_none, lacks, lacks_append, lower_lacks, vat_letters}
 use Rattle.ev_trace_words.proofs.Spelled.{split_is}
 
-both : (a b : Bool) → (a && b) ≡ true → (a ≡ true) × (b ≡ true)
+pub both : (a b : Bool) → (a && b) ≡ true → (a ≡ true) × (b ≡ true)
 both true b e = (refl, e)
 both false b e = absurd cc
 
@@ -41,7 +41,7 @@ lower_name : (word rest : List ℕ) → begins_lower word ≡ true → begins_na
 lower_name [] rest e = absurd cc
 lower_name (b ∷ word) rest e = rw e refl
 
-letter_first : (word : List ℕ) → is_vat_name word ≡ true → begins_lower word ≡ true
+pub letter_first : (word : List ℕ) → is_vat_name word ≡ true → begins_lower word ≡ true
 letter_first word e =
     let a = both (((nat_le (length word) 16 && begins_lower word) && list_all is_lower_or_digit word) && not (is_keyword word)) (not (is_some (safe_value word))) e in
     let b = both ((nat_le (length word) 16 && begins_lower word) && list_all is_lower_or_digit word) (not (is_keyword word)) a.0 in
@@ -62,7 +62,7 @@ begins_so names (Root v) are fits = refl
 
 -- ---- so it is no integer and no primitive
 
-abbrev starts : ℕ → List ℕ → Bool
+abbrev pub starts : ℕ → List ℕ → Bool
 starts mark [] = false
 starts mark (b ∷ word) = eqb b mark
 

@@ -1,8 +1,13 @@
 //! Values that are printed are read again.
 
-ghost use Rattle.law_trace.specs.Laws.{ThingsAreReadAgain};
+ghost use Rattle.law_trace.specs.Laws.{IntegersAreReadAgain, ThingsAreReadAgain};
 
 /// A name that is printed is read as that name, and a list or a slot that is printed by its number as that list or slot.
 pub fn things_are_read_again()
     ensures { ThingsAreReadAgain }
+{}
+
+/// An integer between -2^64 and 2^64 that is printed is read as itself.
+pub fn integers_are_read_again()
+    ensures { IntegersAreReadAgain }
 {}
