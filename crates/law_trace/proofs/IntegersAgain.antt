@@ -27,17 +27,17 @@ apart_by : (front x : List ℕ) (t : Bool) → bytes_eq front x ≡ t → is_vat
 apart_by front x false s e f = s
 apart_by front x true s e f = let one : begins_lower front ≡ true = ap begins_lower ((bytes_eq-Decides front x).0 s) ∙ letter_first x e in absurd cc
 
-no_vat : (names : List (List ℕ)) (front : List ℕ) → list_all is_vat_name names ≡ true → begins_lower front ≡ false → place_of names front ≡ None
+pub no_vat : (names : List (List ℕ)) (front : List ℕ) → list_all is_vat_name names ≡ true → begins_lower front ≡ false → place_of names front ≡ None
 no_vat [] front e f = refl
 no_vat (x ∷ names) front e f =
     let t = both (is_vat_name x) (list_all is_vat_name names) e in
     ap (λ k. cond k (Some 0) (option_map suc (place_of names front))) (apart_by front x (bytes_eq front x) refl t.0 f) ∙ ap (option_map suc) (no_vat names front t.1 f)
 
-low_front : (word front behind : List ℕ) (mark : ℕ) → word ≡ front ++ mark ∷ behind → begins_lower word ≡ false → begins_lower front ≡ false
+pub low_front : (word front behind : List ℕ) (mark : ℕ) → word ≡ front ++ mark ∷ behind → begins_lower word ≡ false → begins_lower front ≡ false
 low_front word [] behind mark e f = refl
 low_front word (b ∷ front) behind mark e f = sym (ap begins_lower e) ∙ f
 
-numbered_by : (names : List (List ℕ)) (mark : ℕ) (word : List ℕ) (o : Option (List ℕ × List ℕ)) → split_at mark word ≡ o → list_all is_vat_name names ≡ true → begins_lower word ≡ false → parts.numbered names mark word ≡ None
+pub numbered_by : (names : List (List ℕ)) (mark : ℕ) (word : List ℕ) (o : Option (List ℕ × List ℕ)) → split_at mark word ≡ o → list_all is_vat_name names ≡ true → begins_lower word ≡ false → parts.numbered names mark word ≡ None
 numbered_by names mark word None s e f = rw s refl
 numbered_by names mark word (Some p) s e f = rw s (rw (no_vat names p.0 e (low_front word p.0 p.1 mark (split_is mark word p s) f)) refl)
 
@@ -45,7 +45,7 @@ not_word : (word other : List ℕ) (mark : ℕ) (t : Bool) → bytes_eq word oth
 not_word word other mark false s o w = s
 not_word word other mark true s o w = let one : starts mark word ≡ true = ap (starts mark) ((bytes_eq-Decides word other).0 s) ∙ o in absurd cc
 
-no_constant : (word : List ℕ) → starts 110 word ≡ false → starts 116 word ≡ false → starts 102 word ≡ false → constant word ≡ None
+pub no_constant : (word : List ℕ) → starts 110 word ≡ false → starts 116 word ≡ false → starts 102 word ≡ false → constant word ≡ None
 no_constant word n t f =
     rw (not_word word (codes "null") 110 (bytes_eq word (codes "null")) refl refl n)
     (rw (not_word word (codes "true") 116 (bytes_eq word (codes "true")) refl refl t) (rw (not_word word (codes "false") 102 (bytes_eq word (codes "false")) refl refl f) refl))

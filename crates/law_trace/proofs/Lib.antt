@@ -1,2 +1,3 @@
 pub mod ValuesAgain
 pub mod IntegersAgain
+pub mod TextsAgain

@@ -89,7 +89,7 @@ begins mark word rest e =
     let c = cond_some (eqb (length p.0) 0) p.1 rest z in
     split_is mark word p s ∙ ap (λ f. f ++ mark ∷ p.1) (empty p.0 (eqb-true (length p.0) 0 c.0)) ∙ ap (λ r. mark ∷ r) c.1)
 
-no_front : (mark : ℕ) (word : List ℕ) (o : Option (List ℕ)) → behind_mark mark word ≡ o → starts mark word ≡ false → behind_mark mark word ≡ None
+pub no_front : (mark : ℕ) (word : List ℕ) (o : Option (List ℕ)) → behind_mark mark word ≡ o → starts mark word ≡ false → behind_mark mark word ≡ None
 no_front mark word None s f = s
 no_front mark word (Some rest) s f = let one : starts mark word ≡ true = ap (starts mark) (begins mark word rest s) ∙ same_mark mark in absurd cc
 

@@ -1,8 +1,10 @@
--- What is printed of names, lists, slots and integers is read again as a value.
-use Rattle.std.specs.Prelude.{◌≡◌, ℕ, ℤ, pos, negsuc, suc, ◌<◌, ◌^◌, List, length, Ok}
+-- What is printed of names, lists, slots, integers and short texts is read again as a value.
+use Rattle.std.specs.Prelude.{◌≡◌, ℕ, ℤ, pos, negsuc, suc, ◌<◌, ◌≤◌, ◌^◌, List, length, Ok}
 use Rattle.std.specs.Fmt.{signed_decimal}
+use Rattle.std.specs.Str.{chars}
+use Rattle.def_text.specs.Quoting.{shortened}
 use Rattle.ev_base.specs.declared.names.Name.{Name}
-use Rattle.def_event.specs.declared.shown.Shown.{Int, List as ListOf, Slot, Name as Named}
+use Rattle.def_event.specs.declared.shown.Shown.{Int, Text, List as ListOf, Slot, Name as Named}
 use Rattle.def_event.specs.Lines as lines
 use Rattle.ev_trace_words.specs.Laws.{AreNames, FitsName}
 use Rattle.ev_trace_words.specs.Values.{value}
@@ -21,3 +23,7 @@ IsSmall (negsuc n) = suc n < 2 ^ 64
 -- an integer that is printed is read as itself
 abbrev pub IntegersAreReadAgain : Type 0
 IntegersAreReadAgain = (names : List (List ℕ)) (z : ℤ) → AreNames names → IsSmall z → value names (signed_decimal z) ≡ Ok (Int z)
+
+-- a text of at most 32 characters that is printed is read as itself
+abbrev pub ShortTextsAreReadAgain : Type 0
+ShortTextsAreReadAgain = (names : List (List ℕ)) (t : List ℕ) → AreNames names → length (chars t) ≤ 32 → value names (shortened t) ≡ Ok (Text t)
