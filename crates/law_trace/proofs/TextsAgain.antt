@@ -1,16 +1,15 @@
 -- What is printed of short texts is read again as a value.
-use Rattle.std.proofs.Common.{◌&&◌, ◌||◌, ◌≡◌, ◌<◌, ◌≤◌, ◌+◌, ◌-◌, ◌++◌, ℕ, zero, suc, Bool, true, false, not, cond, eqb, ltb, List, [], ◌∷◌, Option, Some, None, Result, Ok, Err, length, length-append, get_or, refl, sym, ◌∙◌, ap, arith}
-use Rattle.std.specs.Prelude.{codes, slice_index, option_and_then}
+use Rattle.std.proofs.Common.{◌≡◌, ◌≤◌, ◌+◌, ◌-◌, ◌++◌, ℕ, suc, Bool, true, false, cond, eqb, List, [], ◌∷◌, Option, Some, None, Ok, length, length-append, refl, sym, ◌∙◌, ap, arith}
+use Rattle.std.specs.Prelude.{codes, slice_index}
 use Rattle.std.specs.List.{list_all, flat_map}
 use Rattle.std.specs.Str.{bytes_eq, chars}
 use Rattle.std.proofs.lemmas.Bool.{le-leb, le-ltb}
 use Rattle.std.proofs.lemmas.Bool.Decides.{nat_tests}
 use Rattle.std.proofs.lemmas.Slice.Eq.{bytes_eq-Decides}
 use Rattle.def_text.specs.Quoting.{quoted, escaped, shortened}
-use Rattle.ev_text.specs.Unquoting.{unquoted}
 use Rattle.ev_text.proofs.RoundTrip.{reads_quoted}
-use Rattle.def_event.specs.declared.shown.Shown.{Shown, Text}
-use Rattle.ev_script.specs.Vats.{begins_lower, is_vat_name, place_of}
+use Rattle.def_event.specs.declared.shown.Shown.{Text}
+use Rattle.ev_script.specs.Vats.{begins_lower, is_vat_name}
 use Rattle.ev_trace_words.specs.Parts.{behind_label, behind_mark, constant, primitive, split_at}
 use Rattle.ev_trace_words.specs.Parts as parts
 use Rattle.ev_trace_words.specs.Texts.{cut, shown_text, text, whole}

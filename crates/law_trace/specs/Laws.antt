@@ -1,10 +1,10 @@
 -- What is printed of names, lists, slots, integers and short texts is read again as a value.
-use Rattle.std.specs.Prelude.{◌≡◌, ℕ, ℤ, pos, negsuc, suc, ◌<◌, ◌≤◌, ◌^◌, List, length, Ok}
+use Rattle.std.specs.Prelude.{◌≡◌, ℕ, ℤ, pos, negsuc, suc, true, false, ◌<◌, ◌≤◌, ◌^◌, List, length, Ok}
 use Rattle.std.specs.Fmt.{signed_decimal}
 use Rattle.std.specs.Str.{chars}
 use Rattle.def_text.specs.Quoting.{shortened}
 use Rattle.ev_base.specs.declared.names.Name.{Name}
-use Rattle.def_event.specs.declared.shown.Shown.{Int, Text, List as ListOf, Slot, Name as Named}
+use Rattle.def_event.specs.declared.shown.Shown.{Null, Bool, Int, Text, List as ListOf, Slot, Name as Named}
 use Rattle.def_event.specs.Lines as lines
 use Rattle.ev_trace_words.specs.Laws.{AreNames, FitsName}
 use Rattle.ev_trace_words.specs.Values.{value}
@@ -27,3 +27,9 @@ IntegersAreReadAgain = (names : List (List ℕ)) (z : ℤ) → AreNames names �
 -- a text of at most 32 characters that is printed is read as itself
 abbrev pub ShortTextsAreReadAgain : Type 0
 ShortTextsAreReadAgain = (names : List (List ℕ)) (t : List ℕ) → AreNames names → length (chars t) ≤ 32 → value names (shortened t) ≡ Ok (Text t)
+
+-- null and the booleans
+pub record ConstantsAreReadAgain : Type 0 where
+  pub nothing : (names : List (List ℕ)) → value names (lines.value names Null) ≡ Ok Null
+  pub yes_value : (names : List (List ℕ)) → value names (lines.value names (Bool true)) ≡ Ok (Bool true)
+  pub no_value : (names : List (List ℕ)) → value names (lines.value names (Bool false)) ≡ Ok (Bool false)
