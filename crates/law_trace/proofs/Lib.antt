@@ -1,0 +1,3 @@
+pub mod ValuesAgain
+pub mod IntegersAgain
+pub mod TextsAgain

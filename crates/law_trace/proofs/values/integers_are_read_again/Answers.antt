@@ -1,0 +1,5 @@
+use Rattle.law_trace.proofs.IntegersAgain.{integers_again}
+use Rattle.law_trace.proofs.values.integers_are_read_again.Goals as goal
+
+pub returns : goal.returns
+returns c = integers_again

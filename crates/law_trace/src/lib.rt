@@ -1,0 +1,4 @@
+//! What is printed of a run is read again.
+#![tactic(auto)]
+
+pub mod values;

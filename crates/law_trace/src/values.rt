@@ -1,0 +1,23 @@
+//! Values that are printed are read again.
+
+ghost use Rattle.law_trace.specs.Laws.{ConstantsAreReadAgain, IntegersAreReadAgain, ShortTextsAreReadAgain, ThingsAreReadAgain};
+
+/// A name that is printed is read as that name, and a list or a slot that is printed by its number as that list or slot.
+pub fn things_are_read_again()
+    ensures { ThingsAreReadAgain }
+{}
+
+/// An integer between -2^64 and 2^64 that is printed is read as itself.
+pub fn integers_are_read_again()
+    ensures { IntegersAreReadAgain }
+{}
+
+/// A text of at most 32 characters that is printed is read as itself.
+pub fn short_texts_are_read_again()
+    ensures { ShortTextsAreReadAgain }
+{}
+
+/// Null and the booleans that are printed are read as themselves.
+pub fn constants_are_read_again()
+    ensures { ConstantsAreReadAgain }
+{}
