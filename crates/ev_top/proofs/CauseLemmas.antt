@@ -20,7 +20,7 @@ use Rattle.ev_mint_text.specs.Telling as mint
 use Rattle.ev_top.specs.Commands.{reads}
 use Rattle.ev_top.specs.Debt.{Debt, most_bytes}
 use Rattle.ev_top.specs.Lines.{IsDueOfMint, IsDueOfSturdy, status_of}
-use Rattle.ev_top.specs.Script.{script_from}
+use Rattle.ev_script.specs.Script.{read as script_from}
 use Rattle.ev_top.specs.Summary.{summary_of}
 use Rattle.ev_top.specs.Programs.{AreRead, IsFirstRefused, names_for, IsRead, safe_names, refusal, stage_of, trees_of, IsDueOfFault}
 use Rattle.ev_top.specs.Expansion.{text_from, nameless, IsDueOfText, IsDueOfForm}

@@ -21,7 +21,7 @@ use Rattle.ev_top.specs.Commands.{reads}
 use Rattle.ev_top.specs.Lines.{IsDueOfMint, IsDueOfSturdy, status_of}
 use Rattle.ev_top.specs.Words.{line}
 use Rattle.ev_top.specs.Debt.{Debt, IsFor, most_bytes, too_long}
-use Rattle.ev_top.specs.Script.{script_from}
+use Rattle.ev_script.specs.Script.{read as script_from}
 use Rattle.ev_top.specs.Summary.{summary_of}
 use Rattle.ev_top.specs.Programs.{IsDueOfFault}
 use Rattle.ev_top.specs.Expansion.{text_from, nameless, IsDueOfText, IsDueOfForm}

@@ -15,7 +15,7 @@ use Rattle.ev_top.specs.Causes.{Breaks, ComesWhere, HasScript, IsLong}
 use Rattle.ev_top.specs.Commands.{command_alone, command_of, command_of_number, command_of_run, command_of_sum, command_with, most_generated}
 use Rattle.ev_top.specs.Due.{IsReading}
 use Rattle.ev_top.specs.Headline.{IsOfSum, StepsAreKnown, SumsUp}
-use Rattle.ev_top.specs.Script.{script_from}
+use Rattle.ev_script.specs.Script.{read as script_from}
 use Rattle.ev_top.specs.declared.command.Command.{Command}
 use Rattle.ev_top.specs.declared.command.Command.TheVariants.{Run, Expand, Generate, Sum, Sturdy, Mint}
 use Rattle.ev_top.specs.declared.status.Status.{Status}

@@ -9,7 +9,7 @@ use Rattle.ev_top.specs.Causes.{HasScript}
 use Rattle.ev_top.specs.Headline.{IsToRun}
 use Rattle.ev_top.specs.Machine.{greatest_depth, tree_at}
 use Rattle.ev_top.specs.Programs.{trees_of}
-use Rattle.ev_top.specs.Script.{script_from}
+use Rattle.ev_script.specs.Script.{read as script_from}
 use Rattle.ev_top.specs.declared.command.Command.{Command}
 use Rattle.ev_top.specs.declared.command.Command.TheVariants.{Run, Expand, Generate, Sum, Sturdy, Mint}
 

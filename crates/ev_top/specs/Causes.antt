@@ -17,7 +17,7 @@ use Rattle.ev_top.specs.Debt.{most_bytes}
 use Rattle.ev_top.specs.Expansion.{text_from}
 use Rattle.ev_top.specs.Machine.{script_of, vat_of_step}
 use Rattle.ev_top.specs.Programs.{AreRead, IsFirstRefused, IsRead, safe_names, trees_of}
-use Rattle.ev_top.specs.Script.{script_from}
+use Rattle.ev_script.specs.Script.{read as script_from}
 use Rattle.ev_top.specs.declared.command.Command.{Command}
 use Rattle.ev_top.specs.declared.command.Command.TheVariants.{Run, Expand, Generate, Sum, Sturdy, Mint}
 use Rattle.ev_top.specs.declared.status.Status.{Status}

@@ -21,7 +21,7 @@ use Rattle.ev_top.specs.Commands.{reads}
 use Rattle.ev_top.specs.Lines.{IsDueOfGenerated, IsDueOfMint, IsDueOfSturdy}
 use Rattle.ev_top.specs.Machine.{script_of, text_of, vat_of_step}
 use Rattle.ev_top.specs.Programs.{AreRead, ReadAs, IsDueOfFault, names_for, trees_of}
-use Rattle.ev_top.specs.Script.{script_from}
+use Rattle.ev_script.specs.Script.{read as script_from}
 use Rattle.ev_top.specs.Summary.{summary_of}
 use Rattle.ev_top.specs.declared.command.Command.{Command}
 use Rattle.ev_top.specs.declared.command.Command.TheVariants.{Run, Expand, Generate, Sum, Sturdy, Mint}

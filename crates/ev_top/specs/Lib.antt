@@ -1,5 +1,4 @@
 pub mod Words
-pub mod Script
 pub mod Machine
 pub mod Codes
 pub mod Debt

@@ -9,7 +9,6 @@ mod lines;
 mod program;
 mod reply;
 mod run;
-mod script;
 mod sources;
 mod status;
 mod summary;

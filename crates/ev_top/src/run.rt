@@ -6,15 +6,14 @@ ghost use Rattle.ev_script.specs.Rules.{IsAdmitted};
 ghost use Rattle.ev_top.specs.Due.{IsDueOfScript, IsDueOfVats, MayRun, Settles, debt_of};
 ghost use Rattle.ev_top.specs.Ends.{status_by};
 ghost use Rattle.ev_top.specs.Machine.{text_of, vat_of_entry, vat_of_step};
-ghost use Rattle.ev_top.specs.Script.{script_from};
+ghost use Rattle.ev_script.specs.Script.{read as script_from};
 
 use crate::reply::{Owed, Prepared, reply_rule};
-use crate::script::script_from;
 use crate::sources::{Unread, read_sources};
 use crate::status::{Refusal, Stage, Status};
 use ev_base::{Limits, Memory, VatId};
 use ev_io::Sink;
-use ev_script::{Entry, Script, ScriptFault};
+use ev_script::{Entry, Script, ScriptFault, read_script};
 use ev_world::{RunEnd, Unfinished, write_run};
 use std::alloc::Global;
 
@@ -108,7 +107,7 @@ pub fn owed_bytes(alloc: Global, bytes: &[u8], wire: bool) -> Result<Owed, Memor
     ensures due { IfOk result (λ owed. IsDueOfScript (text_of wire) (script_from bytes.now) (debt_of owed).status (debt_of owed).text) }
     ensures ready { IfOk result MayRun }
 {
-    match script_from(alloc, bytes) {
+    match read_script(alloc, bytes) {
         Ok(script) => owed_script(alloc, script, wire),
         Err(ScriptFault::Rule(rule)) => Ok(Owed::Reply(reply_rule(alloc, rule)?)),
         Err(ScriptFault::Memory) => Err(Memory),

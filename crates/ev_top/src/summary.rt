@@ -6,17 +6,16 @@ ghost use Rattle.ev_script.specs.Rules.{IsAdmitted};
 ghost use Rattle.ev_top.specs.Due.{IsDueOfScript, IsDueOfTrees, IsDueOfVats};
 ghost use Rattle.ev_top.specs.Ends.{summed_by};
 ghost use Rattle.ev_top.specs.Programs.{AreRead, trees_of};
-ghost use Rattle.ev_top.specs.Script.{script_from};
+ghost use Rattle.ev_script.specs.Script.{read as script_from};
 ghost use Rattle.ev_top.specs.Summary.{summary_of};
 
 use crate::reply::{Reply, reply_rule};
 use crate::run::{LIMITS, status_by};
-use crate::script::script_from;
 use crate::sources::{Unread, read_sources};
 use ev_base::Memory;
 use ev_generate::generate;
 use ev_scope::Scoped;
-use ev_script::{Script, ScriptFault};
+use ev_script::{Script, ScriptFault, read_script};
 use ev_summary::summarize;
 use ev_world::{Ran, RunEnd, run_events};
 use std::alloc::Global;
@@ -74,7 +73,7 @@ fn sum_script(alloc: Global, script: &Script) -> Result<Reply, Memory>
 fn sum_bytes(alloc: Global, bytes: &[u8]) -> Result<Reply, Memory>
     ensures { IfOk result (λ reply. IsDueOfScript summary_of (script_from bytes.now) reply.status (string_bytes reply.text)) }
 {
-    match script_from(alloc, bytes) {
+    match read_script(alloc, bytes) {
         Ok(script) => sum_script(alloc, &script),
         Err(ScriptFault::Rule(rule)) => reply_rule(alloc, rule),
         Err(ScriptFault::Memory) => Err(Memory),
