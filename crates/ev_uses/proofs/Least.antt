@@ -53,7 +53,8 @@ OfMessages es past l = TakesSent es past l.event × CarriesSent past l.event
 
 pub uses_judged : (es : List Event) (unknown changed unsent : Option ℕ) → IsFirstFailing IsOfKnown es unknown → IsFirstFailing (λ past l. TakesSent es past l.event) es changed
     → IsFirstFailing (λ past l. CarriesSent past l.event) es unsent → JudgesUses es (earlier unknown (earlier changed unsent))
+unfolding IsOfKnown
 uses_judged es unknown changed unsent u c s =
     same_first (λ past l. IsOfKnown past l × OfMessages es past l) (LineHolds es) es
-    (λ past l. (λ h. (h.0.uses, h.0.gives_back, h.1.0, h.1.1), λ h. (record { uses = h.0; gives_back = h.1 }, (h.2, h.3)))) (earlier unknown (earlier changed unsent))
+    (λ past l. (λ h. (h.0.0, h.0.1, h.1.0, h.1.1), λ h. ((h.0, h.1), (h.2, h.3)))) (earlier unknown (earlier changed unsent))
     (least IsOfKnown (OfMessages es) es unknown (earlier changed unsent) u (least (λ past l. TakesSent es past l.event) (λ past l. CarriesSent past l.event) es changed unsent c s))

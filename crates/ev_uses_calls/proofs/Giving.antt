@@ -114,7 +114,12 @@ nothing_back past at e no_back = (λ t. λ a x n f g. absurd (no_back a x f), λ
 -- ---- both points of a line
 
 pub both_points : (past : List Line) (l : Line) (b : Bool) → UsesKnown past l → (b ≡ true) ↔ BackKnown past l → (b ≡ true) ↔ IsOfKnown past l
-both_points past l b first h = (λ e. record { uses = first; gives_back = h.0 e }, λ p. h.1 p.gives_back)
+unfolding IsOfKnown
+both_points past l b first h = (λ e. (first, h.0 e), λ p. h.1 p.1)
+
+pub first_point : (past : List Line) (l : Line) → IsOfKnown past l → UsesKnown past l
+unfolding IsOfKnown
+first_point past l p = p.0
 
 -- ---- all that is kept
 

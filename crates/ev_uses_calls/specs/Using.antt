@@ -20,6 +20,5 @@ pub record DecidesAll (k : Known) (a : Activation) (made : Option Label) (ns : L
   pub each : (past : List Line) (o : Option Name) → KnownStand k past → made ≡ label_of o → (b ≡ true) ↔ AllKnown past a.at a.number o ns
 
 -- what the line uses, and what it gives back, is known
-pub record IsOfKnown (past : List Line) (l : Line) : Type 0 where
-  pub uses : UsesKnown past l
-  pub gives_back : BackKnown past l
+unfoldable pub IsOfKnown : List Line → Line → Type 0
+IsOfKnown past l = UsesKnown past l × BackKnown past l
