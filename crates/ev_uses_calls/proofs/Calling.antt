@@ -1,5 +1,5 @@
 -- The table of calls has the open calls of each activation.
-use Rattle.std.proofs.Common.{◌≡◌, ℕ, ◌==◌, Bool, true, false, cond, drop, List, [], ◌∷◌, Option, Some, None, refl, sym, ap, subst, ◌∙◌, inl, inr, eq-eqb}
+use Rattle.std.proofs.Common.{◌≡◌, ℕ, ◌==◌, Bool, true, false, cond, drop, List, [], ◌∷◌, Option, Some, refl, sym, ap, subst, ◌∙◌, eq-eqb}
 use Rattle.std.specs.Prelude.{◌↔◌, if◌then◌else◌, unwrap_or}
 use Rattle.std.specs.Map.{lookup}
 use Rattle.std.proofs.lemmas.Bool.{eqb-true}
@@ -13,7 +13,7 @@ use Rattle.ev_known.specs.contracts.facts.ActivationPartialEq.TheImpl.{eq-value}
 use Rattle.ev_known.specs.Telling.{activation}
 use Rattle.ev_known.proofs.Keys.{exact_activation}
 use Rattle.ev_uses_calls.specs.declared.stack.OpenedCall.{OpenedCall}
-use Rattle.ev_uses_calls.specs.Calls.{AreKeptOf, CallsAfter, CallsStand, Closes, HasStack, IsKeptOf, Opens, Stacks, stack}
+use Rattle.ev_uses_calls.specs.Calls.{AreKeptOf, CallsAfter, CallsStand, Closes, HasStack, Opens, Stacks, stack}
 
 pub none_open : CallsStand [] []
 unfolding stack

@@ -12,7 +12,7 @@ use Rattle.def_trace.specs.Uses.{AsksAudition, BackKnown, GivesBack, IsFollowed,
 use Rattle.ev_uses_calls.specs.declared.stack.OpenedCall.{OpenedCall}
 use Rattle.ev_known.specs.Knowing.{Known, KnownStand, LeadsToAudition}
 use Rattle.ev_uses_calls.specs.Using.{IsOfKnown}
-use Rattle.ev_uses_calls.specs.Kept.{KeptStand, KeptTables}
+use Rattle.ev_uses_calls.specs.Kept.{KeptStand}
 use Rattle.ev_uses_calls.specs.Calls.{AreKeptOf, CallsStand, GivesBackValue, Stacks}
 
 pub none_inside : (past : List Line) (at a : ℕ) (n : Name) (cs : List OpenCall) (xs : List OpenedCall) (b : Bool) → AreKeptOf at cs xs → slice_get xs 0 ≡ None

@@ -1,7 +1,8 @@
 //! The first line that uses, or gives back, what is not known.
 
-ghost use Rattle.std.specs.Prelude.{IfOk};
+ghost use Rattle.std.specs.Prelude.{[], IfOk};
 ghost use Rattle.def_trace.specs.Uses.{IsFirstFailing};
+ghost use Rattle.ev_uses_calls.specs.Kept.{KeptStand};
 ghost use Rattle.ev_uses_calls.specs.Using.{IsOfKnown};
 
 use crate::kept::Kept;
@@ -10,13 +11,10 @@ use ev_base::Memory;
 use ev_known::place_after;
 use std::alloc::Global;
 
-/// The first line of a history, counted from 1, that uses a name that its activation does not know by the lines before it and
-/// that the line does not make, or gives back a name that is not known to the activation that the call began, else to the
-/// caller, and that no audition gives as a guard.
-pub fn first_unknown(alloc: Global, events: &[Event]) -> Result<Option<u64>, Memory>
-    ensures { IfOk result (λ answer. IsFirstFailing IsOfKnown events.now answer) }
+/// The first line that fails, where nothing was kept of lines before these.
+fn first_failing(alloc: Global, kept: &mut Kept, events: &[Event]) -> Result<Option<u64>, Memory>
+    ensures { KeptStand kept.old [] → IfOk result (λ answer. IsFirstFailing IsOfKnown events.now answer) }
 {
-    let mut kept = Kept::new(alloc);
     let mut at = 0;
     for (index, event) in events.iter().enumerate() {
         at = place_after(at, event);
@@ -26,4 +24,15 @@ pub fn first_unknown(alloc: Global, events: &[Event]) -> Result<Option<u64>, Mem
         kept.tell_line(alloc, at, event)?;
     }
     Ok(None)
+}
+
+/// The first line of a history, counted from 1, that uses a name that its activation does not know by the lines before it and
+/// that the line does not make, or gives back a name that is not known to the activation that the call began, else to the
+/// caller, and that no audition gives as a guard.
+pub fn first_unknown(alloc: Global, events: &[Event]) -> Result<Option<u64>, Memory>
+    ensures { IfOk result (λ answer. IsFirstFailing IsOfKnown events.now answer) }
+{
+    let mut kept = Kept::new(alloc);
+    let answer = first_failing(alloc, &mut kept, events)?;
+    Ok(answer)
 }

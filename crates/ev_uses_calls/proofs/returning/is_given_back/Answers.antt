@@ -1,4 +1,3 @@
-use Rattle.std.proofs.Common.{◌≡◌, ap, ◌∙◌}
 use Rattle.ev_uses_calls.proofs.Giving.{name_back, named, no_name_back, not_named}
 use Rattle.ev_uses_calls.proofs.returning.is_given_back.Goals as goal
 

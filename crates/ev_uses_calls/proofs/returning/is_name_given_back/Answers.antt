@@ -1,6 +1,5 @@
-use Rattle.std.proofs.Common.{◌≡◌, ℕ, Bool, true, Option, refl, sym, ap, subst, ◌∙◌}
+use Rattle.std.proofs.Common.{◌≡◌, ℕ, true, refl, sym, subst, ◌∙◌}
 use Rattle.std.specs.Prelude.{◌↔◌}
-use Rattle.def_trace.specs.Uses as uses
 use Rattle.def_trace.specs.Uses.{KnowsName, open_calls}
 use Rattle.ev_uses_calls.specs.Calls.{stack}
 use Rattle.ev_uses_calls.proofs.Giving.{asked_inside, begun_inside, none_inside}

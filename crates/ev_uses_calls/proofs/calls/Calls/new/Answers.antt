@@ -1,4 +1,4 @@
-use Rattle.std.proofs.Common.{List, [], sym, subst}
+use Rattle.std.proofs.Common.{[], sym, subst}
 use Rattle.ev_uses_calls.specs.Calls.{CallsStand, Stacks}
 use Rattle.ev_uses_calls.proofs.Calling.{none_open}
 use Rattle.ev_uses_calls.proofs.calls.Calls.new.Goals as goal
