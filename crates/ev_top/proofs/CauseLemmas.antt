@@ -24,7 +24,8 @@ use Rattle.ev_script.specs.Script.{read as script_from}
 use Rattle.ev_top.specs.Summary.{summary_of}
 use Rattle.ev_top.specs.Programs.{AreRead, IsFirstRefused, names_for, IsRead, safe_names, refusal, stage_of, trees_of, IsDueOfFault}
 use Rattle.ev_top.specs.Expansion.{text_from, nameless, IsDueOfText, IsDueOfForm}
-use Rattle.ev_top.specs.Machine.{script_of, text_of, vat_of_step}
+use Rattle.ev_world.specs.Running.{script_of}
+use Rattle.ev_top.specs.Machine.{greatest_depth, text_of, vat_of_step}
 use Rattle.ev_top.specs.Due.{IsDue, IsDueOfInput, IsDueOfBytes, IsDueOfAnswer, IsDueOfScript, IsDueOfTrees, IsDueOfVats, Pays, PaysWith, due_of_run, astray, Telling}
 use Rattle.ev_top.specs.Causes.{IsInterrupted, Follows, ComesWhere, IsLong, Breaks, HasScript, HasPrograms, HasText, HasFault, HasNoTree, HasRefused, IsProgramRefused, GoesAstray, RepeatsWord, Stops, StopsIn, run_of}
 use Rattle.ev_top.specs.declared.command.Command.{Command}
@@ -44,7 +45,7 @@ IsRefused vat part kind place status = status ≡ ProgramRefused (refusal vat pa
 
 -- what is due for the run of these programs
 abbrev ran : Telling → Script → List Scoped → Debt
-ran tell script programs = due_of_run script (tell (script_of script (trees_of programs))) (run_of script programs)
+ran tell script programs = due_of_run script (tell (script_of script programs greatest_depth)) (run_of script programs)
 
 data Why (command : Option Command) (input : List ℕ) (status : Status) : Type 0 where
   Misused : status ≡ Usage → Why command input status
@@ -566,7 +567,7 @@ stop_due script text Astray step w = refl
 stop_there : (script : Script) (stop : Stop) (step : ℕ) (command : Option Command) (input : List ℕ) (status : Status) (text : List ℕ) → IsDue command input status text
     → StopsIn script stop step command input → status ≡ stopped_as script stop step
 stop_there script stop step command input status text due (programs, has, world, stops) =
-    let written = told_of command (script_of script (trees_of programs)) in
+    let written = told_of command (script_of script programs greatest_depth) in
     (read_due command input script programs status text has due).0 ∙ ap (λ (r : machine.Run). (due_of_run script written r).status) stops
     ∙ stop_due script written stop step world
 

@@ -26,7 +26,8 @@ use Rattle.ev_top.specs.Summary.{summary_of}
 use Rattle.ev_top.specs.Programs.{IsDueOfFault}
 use Rattle.ev_top.specs.Expansion.{text_from, nameless, IsDueOfText, IsDueOfForm}
 use Rattle.ev_top.specs.Due.{IsDue, IsDueOfBytes, IsDueOfInput, IsDueOfScript, IsDueOfTrees, IsDueOfVats, IsOfWhole, IsOfRead, Finishes, Pays, PaysWith, Reads, Settles, Telling, TookFor, due_of_run}
-use Rattle.ev_top.specs.Machine.{script_of, text_of}
+use Rattle.law_schedule.specs.Scripts.{machine_script, tree_at}
+use Rattle.ev_top.specs.Machine.{greatest_depth, text_of}
 use Rattle.ev_top.specs.declared.command.Command.{Command}
 use Rattle.ev_top.specs.declared.command.Command.TheVariants.{Run, Expand, Generate, Sum, Sturdy, Mint}
 use Rattle.ev_top.specs.declared.status.Status.{Status}
@@ -55,7 +56,7 @@ of_end script text (Stopped Astray step w) = tt
 
 of_trees : (tell : Telling) (script : Script) (trees : List (List Node)) (status : Status) (text : List ℕ) → IsDueOfTrees tell script trees status text → IsOfWhole status
 of_trees tell script trees status text due =
-    let theirs = script_of script trees in subst IsOfWhole (sym due.0) (of_end script (tell theirs) (run theirs))
+    let theirs = machine_script greatest_depth (tree_at trees) script in subst IsOfWhole (sym due.0) (of_end script (tell theirs) (run theirs))
 
 of_vats : (tell : Telling) (script : Script) (trees : List (List Node)) (vats : List VatScript) (status : Status) (text : List ℕ)
     → IsDueOfVats tell script trees vats status text → IsOfWhole status

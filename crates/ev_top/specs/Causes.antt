@@ -15,8 +15,9 @@ use Rattle.ev_mint_text.specs.Telling as mint
 use Rattle.ev_top.specs.Commands.{reads}
 use Rattle.ev_top.specs.Debt.{most_bytes}
 use Rattle.ev_top.specs.Expansion.{text_from}
-use Rattle.ev_top.specs.Machine.{script_of, vat_of_step}
-use Rattle.ev_top.specs.Programs.{AreRead, IsFirstRefused, IsRead, safe_names, trees_of}
+use Rattle.ev_world.specs.Running.{script_of}
+use Rattle.ev_top.specs.Machine.{greatest_depth, vat_of_step}
+use Rattle.ev_top.specs.Programs.{AreRead, IsFirstRefused, IsRead, safe_names}
 use Rattle.ev_script.specs.Script.{read as script_from}
 use Rattle.ev_top.specs.declared.command.Command.{Command}
 use Rattle.ev_top.specs.declared.command.Command.TheVariants.{Run, Expand, Generate, Sum, Sturdy, Mint}
@@ -106,7 +107,7 @@ IsProgramRefused _ = ⊥
 
 -- the machine's run of a script whose programs are these
 abbrev pub run_of : Script → List Scoped → Machine
-run_of script programs = run (script_of script (trees_of programs))
+run_of script programs = run (script_of script programs greatest_depth)
 
 -- the command runs that script, whose programs are read, and its run stops in this step
 abbrev pub StopsIn : Script → Stop → ℕ → Option Command → List ℕ → Type 0
