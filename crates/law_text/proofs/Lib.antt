@@ -8,3 +8,5 @@ pub mod Told
 pub mod Named
 pub mod Valued
 pub mod Kinded
+pub mod Hexed
+pub mod Parted
