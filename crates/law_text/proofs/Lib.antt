@@ -10,3 +10,4 @@ pub mod Valued
 pub mod Kinded
 pub mod Hexed
 pub mod Parted
+pub mod Rebuilt

@@ -120,7 +120,7 @@ abbrev shape_by : List ℕ → List ℕ → Shape
 shape_by k w = cond (bytes_eq k (codes "#carry")) (in_front (1 ∷ 0 ∷ 3 ∷ 3 ∷ []) (found note_rows w)) (cond (bytes_eq k (codes "left link")) (in_front (0 ∷ 0 ∷ 3 ∷ 3 ∷ []) (found note_rows w)) (found rows k))
 
 module _ (vats : List (List ℕ)) where
-  abbrev part_word : Part → List ℕ
+  abbrev pub part_word : Part → List ℕ
   part_word (Word w) = w
   part_word (Entry k) = decimal k
   part_word (Activation a) = activation a
@@ -133,17 +133,17 @@ module _ (vats : List (List ℕ)) where
   part_word (ASlot v n) = numbered vats v 38 n
   part_word (Bytes bytes) = hex bytes
 
-  abbrev rest_words : Rest → List (List ℕ)
+  abbrev pub rest_words : Rest → List (List ℕ)
   rest_words Nothing = []
   rest_words (Values xs) = value_words vats xs
   rest_words (Begins xs begun) = value_words vats xs ++ begun_words begun
   rest_words (Answered xs answer) = value_words vats xs ++ codes "->" ∷ name vats answer ∷ []
   rest_words (Holds xs ys) = part vats (codes "caps") xs ++ part vats (codes "stamps") ys
 
-  abbrev told_words : Told → List (List ℕ)
+  abbrev pub told_words : Told → List (List ℕ)
   told_words t = map part_word t.parts ++ rest_words t.rest
 
-  by_parts : (e : Event) → words vats e ≡ told_words (told e)
+  pub by_parts : (e : Event) → words vats e ≡ told_words (told e)
   by_parts (Open v) = refl
   by_parts (Turn k v) = refl
   by_parts (Idle k) = refl
