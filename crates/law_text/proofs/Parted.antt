@@ -497,6 +497,7 @@ module _ (vats : List (List ℕ)) (good : AreVats vats) where
     where
       first_line : (v w : List (List ℕ)) (vs ws : List (List (List ℕ))) → ◌≡◌ {A = List (List (List ℕ))} (v ∷ vs) (w ∷ ws) → v ≡ w
       first_line v w vs ws e = cc
+
       later_lines : (v w : List (List ℕ)) (vs ws : List (List (List ℕ))) → ◌≡◌ {A = List (List (List ℕ))} (v ∷ vs) (w ∷ ws) → vs ≡ ws
       later_lines v w vs ws e = cc
 
