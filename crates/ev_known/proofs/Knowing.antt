@@ -1,5 +1,5 @@
 -- The tables tell what activations know.
-use Rattle.std.proofs.Common.{◌≡◌, Bool, true, false, List, [], ◌∷◌, Option, Some, None, refl, sym, ap, subst, ◌∙◌, inl, inr, eq-eqb}
+use Rattle.std.proofs.Common.{◌≡◌, ℕ, Bool, true, false, List, [], ◌∷◌, Option, Some, None, refl, sym, ap, subst, ◌∙◌, inl, inr, eq-eqb}
 use Rattle.std.specs.Prelude.{◌⊎◌, ◌↔◌, ◌&&◌, if◌then◌else◌}
 use Rattle.std.proofs.lemmas.Bool.{eqb-true}
 use Rattle.ev_base.specs.declared.names.Name.{Name}
@@ -15,10 +15,10 @@ use Rattle.ev_known.specs.declared.links.Scope.TheVariants.{Place}
 use Rattle.ev_known.specs.Label.{label}
 use Rattle.ev_known.specs.Leads.{LinksStand, backward, way_of}
 use Rattle.ev_known.specs.Links.{AreReached, IsReached, start, onward, is_open, with_label}
-use Rattle.ev_known.specs.Following.{Tables, TablesStand}
+use Rattle.ev_known.specs.Following.{FollowedAs, Tables, TablesStand}
 use Rattle.ev_known.specs.Runs.{RunsAs, RunsStand, runner}
 use Rattle.ev_known.specs.Telling.{StandsFor, activation, is_told, key}
-use Rattle.ev_known.specs.Knowing.{Known, KnownStand, any_has, has_captured, has_in, is_root_label}
+use Rattle.ev_known.specs.Knowing.{Known, KnownStand, LeadsToAudition, any_has, has_captured, has_in, is_root_label}
 use Rattle.ev_known.proofs.Keys.{label_same}
 use Rattle.ev_known.proofs.Told.{among_is_told}
 use Rattle.ev_known.proofs.Running.{told_is}
@@ -182,3 +182,19 @@ module _ (k : Known) (past : List Line) (h : KnownStand k past) (a : uses.Activa
             let found = knows_there (label t ∷ []) t known (start (inl refl)) in
             any_back found.0 labels ((all found.0).1 found.1) found.2,
       )
+
+-- ---- auditions
+
+module _ (k : Known) (past : List Line) (at : ℕ) (n : Name) (h : KnownStand k past) where
+  pub none_followed : FollowedAs past at n None → LeadsToAudition past at n → ⊥
+  none_followed none leads = none leads.0 leads.1
+
+  pub audition_there : (l : Label) → FollowedAs past at n (Some l) → is_told k.facts (fact.Audition l) ≡ true → LeadsToAudition past at n
+  unfolding key
+  audition_there l f e = (f.0, f.2, told_is k.facts past (uses.Audition f.0) h.facts (ap (λ (x : Label). is_told k.facts (fact.Audition x)) f.1 ∙ e))
+
+  pub audition_back : (l : Label) → FollowedAs past at n (Some l) → LeadsToAudition past at n → is_told k.facts (fact.Audition l) ≡ true
+  unfolding key
+  audition_back l f leads =
+      let same : label (AName leads.0) ≡ l = ap (λ (m : Name). label (AName m)) (f.3 leads.0 leads.1) ∙ f.1 in
+      ap (λ (x : Label). is_told k.facts (fact.Audition x)) (sym same) ∙ fact_told k.facts past (uses.Audition leads.0) h.facts leads.2

@@ -1,6 +1,7 @@
 -- What activations know, in the terms of tables.
-use Rattle.std.specs.Prelude.{Bool, true, false, ◌&&◌, if◌then◌else◌, List, [], ◌∷◌, Option, Some, None}
-use Rattle.def_trace.specs.Uses.{Line}
+use Rattle.std.specs.Prelude.{ℕ, Bool, true, false, ◌&&◌, if◌then◌else◌, List, [], ◌∷◌, Option, Some, None}
+use Rattle.ev_base.specs.declared.names.Name.{Name}
+use Rattle.def_trace.specs.Uses.{Audition, IsFollowed, IsTold, Line}
 use Rattle.ev_known.specs.declared.facts.Activation.{Activation}
 use Rattle.ev_known.specs.declared.facts.Fact.{Fact}
 use Rattle.ev_known.specs.declared.facts.Fact.TheVariants as fact
@@ -46,3 +47,7 @@ has_in k a l =
 abbrev pub any_has : Known → Activation → List Label → Bool
 any_has k a [] = false
 any_has k a (l ∷ ls) = if has_in k a l then true else any_has k a ls
+
+-- the name is followed at the place to an audition
+abbrev pub LeadsToAudition : List Line → ℕ → Name → Type 0
+LeadsToAudition past at n = (o : Name) × IsFollowed past at n o × IsTold past (Audition o)

@@ -2,7 +2,7 @@
 
 ghost use Rattle.std.specs.Prelude.{◌≡◌, ◌↔◌, ◌∷◌, [], ◌&&◌, List, IfOk, IsTrue, OnOk};
 ghost use Rattle.def_trace.specs.Uses.{AName, Line, Knows};
-ghost use Rattle.ev_known.specs.Knowing.{KnownStand, any_has, has_captured, has_in, is_root_label};
+ghost use Rattle.ev_known.specs.Knowing.{KnownStand, LeadsToAudition, any_has, has_captured, has_in, is_root_label};
 ghost use Rattle.ev_known.specs.Telling.{is_told};
 ghost use Rattle.ev_known.specs.declared.facts.Fact.TheVariants.{Opened as OpenedFact};
 
@@ -127,5 +127,15 @@ impl Knowledge {
         labels.add(label)?;
         self.links.reach(&Scope::Place(activation.at), &mut labels)?;
         Ok(self.has_any(activation, labels.as_slice()))
+    }
+
+    /// Whether a name leads to an audition at a place by the lines so far. Time grows with the names on the way.
+    pub fn leads_to_audition(&self, alloc: Global, at: u64, name: &Name) -> Result<bool, Memory>
+        ensures { (past : List Line) → KnownStand self.now past → IfOk result (λ leads. IsTrue leads ↔ LeadsToAudition past at name.now) }
+    {
+        let Some(object) = self.following.follow(alloc, at, name)? else {
+            return Ok(false);
+        };
+        Ok(self.facts.has(Fact::Audition(object)))
     }
 }

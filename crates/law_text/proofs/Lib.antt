@@ -8,3 +8,6 @@ pub mod Told
 pub mod Named
 pub mod Valued
 pub mod Kinded
+pub mod Hexed
+pub mod Parted
+pub mod Rebuilt

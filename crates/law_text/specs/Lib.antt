@@ -3,3 +3,4 @@ pub mod Words
 pub mod Names
 pub mod Values
 pub mod Kinds
+pub mod Parts

@@ -24,8 +24,9 @@ use std::alloc::Global;
 use std::process::ExitCode;
 use std::{fs, io};
 
-const FILES: [&str; 10] = [
+const FILES: [&str; 11] = [
     "commands.rows",
+    "check.rows",
     "forms.rows",
     "programs.rows",
     "scripts.rows",
