@@ -1,8 +1,7 @@
 -- Tables find what lines have for each message.
-use Rattle.std.proofs.Common.{◌≡◌, ℕ, zero, suc, ◌+◌, ◌≤◌, arith, Bool, true, false, cond, List, [], ◌∷◌, ◌++◌, map, length, take, slice_get, Option, Some, None, refl, sym, ap, subst, ◌∙◌, inl, inr, rules, eq-eqb}
+use Rattle.std.proofs.Common.{◌≡◌, ℕ, zero, suc, ◌+◌, arith, Bool, true, false, cond, List, [], ◌∷◌, ◌++◌, map, take, slice_get, Option, Some, None, refl, sym, ap, subst, ◌∙◌, inl, inr, rules, eq-eqb}
 use Rattle.std.specs.Prelude.{◌↔◌, ◌==◌, ◌&&◌, IsTrue, is_some, if◌then◌else◌, unwrap_or}
 use Rattle.std.proofs.lemmas.Bool.{eqb-true}
-use Rattle.std.proofs.lemmas.List.{take_all}
 use Rattle.ev_base.specs.declared.names.Msg.{Msg}
 use Rattle.def_event.specs.declared.note.ShownNote.{ShownNote}
 use Rattle.def_event.specs.declared.note.ShownNote.TheVariants.{Deliver, DeliverOnly}
@@ -206,9 +205,6 @@ source_step es i e old new get put note h =
             ∙ sym (first_take (sent_with m) es i e get);
       };
     })
-
-pub source_done : (es : List Event) (i : ℕ) (tables : SourceTables) → length es ≤ i → SourcesStand es tables (take i es) → SourcesStand es tables es
-source_done es i tables le h = subst (SourcesStand es tables) (take_all i es le) h
 
 -- ---- what a message was sent with
 

@@ -54,7 +54,6 @@ fn add_first<'a>(
 }
 
 /// Adds the names and lists in values. Lists in lists are kept on a stack of their own.
-#[tactic(auto, using(crate::proofs::Adding::leaves_init))]
 pub fn add_values(alloc: Global, labels: &mut Labels, values: &[Shown]) -> Result<(), Memory>
     ensures { OnOk result (AddsThings (all_parts values.now) labels.old labels.new) }
 {
