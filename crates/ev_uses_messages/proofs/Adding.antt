@@ -1,5 +1,5 @@
 -- Things are added as labels, and what is left of lists in lists is added in the end.
-use Rattle.std.proofs.Common.{◌≡◌, ℕ, ◌+◌, ◌<◌, List, [], ◌∷◌, ◌++◌, map, Option, Some, None, refl, sym, ap, subst, ◌∙◌, inl, inr, arith}
+use Rattle.std.proofs.Common.{◌≡◌, ℕ, ◌+◌, ◌<◌, List, [], ◌∷◌, ◌++◌, length, map, Option, Some, None, refl, sym, ap, subst, ◌∙◌, inl, inr, arith}
 use Rattle.std.specs.Prelude.{◌⊎◌, ◌↔◌}
 use Rattle.std.proofs.lemmas.List.{map-append}
 use mathlib.Core.Former.{Count}
@@ -192,13 +192,17 @@ leaves_step values rest old labels new lists popped after h pop k = record {
       );
 }
 
-pub leaves_done : (values : List Shown) (old labels : List Label) (lists : Lists) → lists ≡ [] → Leaves values old [] labels lists → AddsThings (all_parts values) old labels
+none_left : (lists : Lists) → length lists ≡ 0 → lists ≡ []
+none_left [] e = refl
+none_left (rest ∷ lists) e = absurd (omega arith)
+
+pub leaves_done : (values : List Shown) (old labels : List Label) (lists : Lists) → length lists ≡ 0 → Leaves values old [] labels lists → AddsThings (all_parts values) old labels
 leaves_done values old labels lists none h = record {
   each = λ l. (
     λ a. elim ((h.each l).0 (inl a)) [ inl b ↦ inl b | inr b ↦ elim b [ inl n ↦ absurd n | inr c ↦ inr c ] ],
     λ a. elim ((h.each l).1 (elim a [ inl b ↦ inl b | inr b ↦ inr (inr b) ])) [
       | inl b ↦ b
-      | inr b ↦ absurd (subst (IsLeft l) none b)
+      | inr b ↦ absurd (subst (IsLeft l) (none_left lists none) b)
     ],
   );
 }
