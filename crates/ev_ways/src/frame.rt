@@ -15,7 +15,13 @@ pub struct Frame {
     pub asks: bool,
 }
 
-impl Frame {
-    /// The frame is lost.
-    pub fn lose(self) {}
+/// What a history tells of a frame.
+#[derive(Drop)]
+pub struct Label {
+    /// The note that it says, as it prints.
+    pub note: ShownNote,
+    /// The message that it brings, if one.
+    pub message: Option<Msg>,
+    /// Whether that asks for an answer.
+    pub asks: bool,
 }

@@ -19,7 +19,7 @@ use ev_scope::{Scoped, check};
 use ev_script::{Script, read_script};
 use ev_top::top;
 use ev_vat::{Vat, VatStop};
-use ev_world::{RunEnd, run_script};
+use ev_world::{RunEnd, write_run};
 use std::alloc::Global;
 use std::process::ExitCode;
 use std::{fs, io};
@@ -189,8 +189,11 @@ fn run_is_as_told(
 {
     let mut programs = Vec::new(alloc);
     programs.push(program)?;
-    let told = run_script(alloc, script, programs, limits, false)?;
-    Ok(status_of(told.end) == row.status && told.text.as_str() == row.output)
+    let mut sink = MemorySink::new(alloc, 1000, 100_000, Seq::new(alloc))?;
+    let Ok(end) = write_run(alloc, script, programs, limits, false, &mut sink) else {
+        return Err(Memory);
+    };
+    Ok(status_of(end) == row.status && sink.bytes.as_slice() == row.output.as_bytes())
 }
 
 /// Whether the opening turn of a tree goes astray.
