@@ -11,3 +11,4 @@ pub mod Kinded
 pub mod Hexed
 pub mod Parted
 pub mod Rebuilt
+pub mod Stopped

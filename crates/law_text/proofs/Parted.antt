@@ -483,7 +483,7 @@ module _ (vats : List (List ℕ)) (good : AreVats vats) where
       let both = parts_apart (told e).parts (told f).parts (rest_words vats (told e).rest) (rest_words vats (told f).rest) (ap (λ (s : Shape). s.parts) shapes) h.1 g.1 (sym (by_parts vats e) ∙ i ∙ by_parts vats f) in
       (both.0, rest_told (told e).rest (told f).rest (ap (λ (s : Shape). s.rest) shapes) h.2 g.2 both.1)
 
-  events_told : (xs ys : List Event) → AllOf (IsEventOf vats) xs → AllOf (IsEventOf vats) ys → map (words vats) xs ≡ map (words vats) ys → OneForOne EventsAlike xs ys
+  pub events_told : (xs ys : List Event) → AllOf (IsEventOf vats) xs → AllOf (IsEventOf vats) ys → map (words vats) xs ≡ map (words vats) ys → OneForOne EventsAlike xs ys
   events_told [] [] h g e = tt
   events_told [] (y ∷ ys) h g e = absurd (no_lines (words vats y) (map (words vats) ys) e)
     where
@@ -501,7 +501,7 @@ module _ (vats : List (List ℕ)) (good : AreVats vats) where
       later_lines : (v w : List (List ℕ)) (vs ws : List (List (List ℕ))) → ◌≡◌ {A = List (List (List ℕ))} (v ∷ vs) (w ∷ ws) → vs ≡ ws
       later_lines v w vs ws e = cc
 
-  each_fits : (xs : List Event) → AllOf (IsEventOf vats) xs → AllOf WordsFit xs
+  pub each_fits : (xs : List Event) → AllOf (IsEventOf vats) xs → AllOf WordsFit xs
   each_fits [] h = tt
   each_fits (x ∷ xs) h = (h.0.0, each_fits xs h.1)
 
