@@ -97,10 +97,7 @@ pub fn reads(command: Command) -> bool
 {
     match command {
         Command::Generate(_) | Command::Sum(_) => false,
-        Command::Run { .. }
-        | Command::Expand
-        | Command::Sturdy
-        | Command::Mint
-        | Command::Check => true,
+        Command::Run { .. } | Command::Expand | Command::Sturdy | Command::Mint | Command::Check =>
+            true,
     }
 }
