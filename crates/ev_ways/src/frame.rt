@@ -1,5 +1,7 @@
 //! A frame under way from one vat to another.
 
+ghost use Rattle.std.specs.Prelude.{◌≡◌};
+
 use def_event::ShownNote;
 use ev_base::{Msg, Seq};
 
@@ -24,4 +26,14 @@ pub struct Label {
     pub message: Option<Msg>,
     /// Whether that asks for an answer.
     pub asks: bool,
+}
+
+impl Label {
+    /// The message that the frame brings, if one.
+    pub fn into_message(self) -> Option<Msg>
+        ensures { result ≡ self.message }
+    {
+        let Label { message, .. } = self;
+        message
+    }
 }

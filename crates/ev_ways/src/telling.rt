@@ -28,7 +28,7 @@ pub fn tell_lost(history: &mut History, labels: VecDeque<Label>) -> Result<(), M
 {
     let mut labels = labels;
     while let Some(label) = labels.pop_front() {
-        tell_one(history, label.message)?;
+        tell_one(history, label.into_message())?;
     }
     Ok(())
 }

@@ -81,7 +81,7 @@ impl Way {
     }
 
     /// Takes the first frame under way, where there is one and the way is not cut. It takes no memory.
-    #[tactic(auto, unfolding(crate::specs::Rows::next, crate::specs::Rows::behind))]
+    #[tactic(auto, unfolding(crate::specs::Rows::next, crate::specs::Rows::behind, crate::specs::Rows::first, crate::specs::Rows::rest))]
     pub fn carry(&mut self) -> Option<Frame>
         ensures value { result ≡ next self.old }
         ensures after { self.new ≡ behind self.old }
