@@ -1,10 +1,9 @@
 -- Events with the same words tell the same, but for texts that are shown alike.
-use Rattle.std.proofs.Common.{◌≡◌, ℕ, cond, eqb, ◌<◌, ◌^◌, Bool, true, false, Option, Some, None, List, [], ◌∷◌, ◌++◌, map, refl, sym, ◌∙◌, ap, subst}
+use Rattle.std.proofs.Common.{◌≡◌, ℕ, cond, Option, Some, None, List, [], ◌∷◌, ◌++◌, map, refl, sym, ◌∙◌, ap, subst}
 use Rattle.std.specs.Prelude.{decimal, codes, bytes_eq, filter}
 use Rattle.std.proofs.lemmas.Fmt.{decimal_injective}
 use Rattle.def_text.specs.Keywords.{printed_verb}
 use Rattle.def_event.specs.declared.shown.Shown.{Shown}
-use Rattle.def_event.specs.declared.note.ShownNote.{ShownNote}
 use Rattle.def_event.specs.declared.note.ShownNote.TheVariants.{Deliver, DeliverOnly, Settled, Elsewhere, Open as Opens, Ask, Shorten}
 use Rattle.def_event.specs.declared.event.Event.{Event}
 use Rattle.def_event.specs.declared.event.Event.TheVariants.{Open, Turn, Idle, Carry, Cut, Notice, Frame, Take, Call, Back, Thrown, Gone, Got, Slot as SlotMade, Read, Wrote, List as ListMade, Arrived, Ejector, Audition, Promise, Made, Send, SendOnly, When, Done, Threw, Settle, Wait, View, LostCut, LostBroken, LeftQueue, LeftHeld, LeftWait, LeftLink, End}
@@ -13,13 +12,14 @@ use Rattle.law_text.specs.Feeds.{AllOf}
 use Rattle.law_text.specs.Words.{WordsFit}
 use Rattle.law_text.specs.Kinds.{kind, kind_in}
 use Rattle.law_text.specs.Values.{AreVats, IsValueOf, AreAlike, none, more}
-use Rattle.law_text.specs.Parts.{Part, Word, Entry, Activation, Vat, Message, Name, Value, Verb, AList, ASlot, Bytes, Rest, Nothing, Values, Begins, Answered, Holds, Told, told, IsPartOf, MayBegin, IsRestOf, IsEventOf, PartAlike, same, valued, printed, RestAlike, nothing, values, begins, answered, holds, OneForOne, EventsAlike, TextsTellHistories}
+use Rattle.law_text.specs.Parts.{Part, Word, Entry, Activation, Vat, Message, Name, Value, Verb, AList, ASlot, Bytes, Rest, Nothing, Values, Begins, Answered, Holds, Told, told, IsPartOf, MayBegin, IsRestOf, IsEventOf, PartAlike, same, valued, RestAlike, nothing, values, begins, answered, holds, OneForOne, EventsAlike, TextsTellHistories}
 use Rattle.law_text.proofs.Front.{head_is, tail_is, two_marks}
 use Rattle.law_text.proofs.Hexed.{hex_told}
 use Rattle.law_text.proofs.Kinded.{kinds_told}
 use Rattle.law_text.proofs.Named.{message_told, name_told}
 use Rattle.law_text.proofs.Told.{some_fit, texts_tell_words}
 use Rattle.law_text.proofs.Valued.{are_names, ordinary_vats, thing_told, value_told, no_value, arrow_is_no_value, head_word, tail_words, no_words}
+use Rattle.law_text.proofs.Verbs.{verb_told}
 
 -- ---- which parts a line has, by its kind and, where it tells of a note, by the first word of that
 
@@ -334,7 +334,7 @@ module _ (vats : List (List ℕ)) (good : AreVats vats) where
   part_told (Verb v) (Message n) s h g e = absurd (two_marks 7 4 refl s)
   part_told (Verb v) (Name b) s h g e = absurd (two_marks 7 5 refl s)
   part_told (Verb v) (Value y) s h g e = absurd (two_marks 7 6 refl s)
-  part_told (Verb v) (Verb w) s h g e = printed e
+  part_told (Verb v) (Verb w) s h g e = subst (λ z. PartAlike (Verb v) (Verb z)) (verb_told v w h g e) same
   part_told (Verb v) (AList w n) s h g e = absurd (two_marks 7 8 refl s)
   part_told (Verb v) (ASlot w n) s h g e = absurd (two_marks 7 9 refl s)
   part_told (Verb v) (Bytes ys) s h g e = absurd (two_marks 7 10 refl s)
@@ -497,6 +497,7 @@ module _ (vats : List (List ℕ)) (good : AreVats vats) where
     where
       first_line : (v w : List (List ℕ)) (vs ws : List (List (List ℕ))) → ◌≡◌ {A = List (List (List ℕ))} (v ∷ vs) (w ∷ ws) → v ≡ w
       first_line v w vs ws e = cc
+
       later_lines : (v w : List (List ℕ)) (vs ws : List (List (List ℕ))) → ◌≡◌ {A = List (List (List ℕ))} (v ∷ vs) (w ∷ ws) → vs ≡ ws
       later_lines v w vs ws e = cc
 
