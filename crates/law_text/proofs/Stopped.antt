@@ -6,7 +6,7 @@ use Rattle.def_machine.specs.State.{Stop, Fuel, Deep, Repeated, Astray}
 use Rattle.def_event.specs.declared.event.Event.{Event}
 use Rattle.def_event.specs.declared.event.Event.TheVariants.{Open, Turn, Idle, Carry, Cut, Notice, Frame, Take, Call, Back, Thrown, Gone, Got, Slot as SlotMade, Read, Wrote, List as ListMade, Arrived, Ejector, Audition, Promise, Made, Send, SendOnly, When, Done, Threw, Settle, Wait, View, LostCut, LostBroken, LeftQueue, LeftHeld, LeftWait, LeftLink, End}
 use Rattle.def_event.specs.Lines.{spaced, words, render, is_no_frame}
-use Rattle.def_run.specs.World.{Script, Run, Goes, Stopped}
+use Rattle.def_run.specs.World.{Run, Goes, Stopped}
 use Rattle.def_run.specs.Text.{vat_names, stop_line, stop_text, text, wire_text}
 use Rattle.law_text.specs.Feeds.{AllOf}
 use Rattle.law_text.specs.Words.{IsOrdinary, IsWord, WordsFit}
@@ -163,7 +163,7 @@ module _ (vats : List (List ℕ)) (good : AreVats vats) where
       let ordinary = ordinary_vats vats good in
       let us : List Line = map (words vats) xs ++ last r in let vs : List Line = map (words vats) ys ++ last q in
       let lines : us ≡ vs = sym (itself us) ∙ texts_apart spaced (λ (x : Line). x) (AllSome IsWord) (λ x y p t a b j. words_apart x y p t a b j) us vs
-          (all_fit vats ordinary xs r (each_fits vats good xs h)) (all_fit vats ordinary ys q (each_fits vats good ys g)) (sym (rendered vats xs r) ∙ i ∙ rendered vats ys q) ∙ itself vs in
+      (all_fit vats ordinary xs r (each_fits vats good xs h)) (all_fit vats ordinary ys q (each_fits vats good ys g)) (sym (rendered vats xs r) ∙ i ∙ rendered vats ys q) ∙ itself vs in
       let both = lines_apart vats xs ys r q lines in
       (events_told vats good xs ys h g both.0, last_is r ∙ ap (λ ls. flat_map ended ls) both.1 ∙ sym (last_is q))
 

@@ -1,5 +1,5 @@
 -- The texts of runs.
-use Rattle.std.specs.Prelude.{◌≡◌, ℕ, List, filter}
+use Rattle.std.specs.Prelude.{◌≡◌, List, filter}
 use Rattle.def_event.specs.declared.event.Event.{Event}
 use Rattle.def_event.specs.Lines.{is_no_frame}
 use Rattle.def_run.specs.World.{Script, Run}
