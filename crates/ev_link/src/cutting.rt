@@ -51,11 +51,16 @@ pub(crate) fn cut_frames(
 }
 
 /// Takes so many bytes away in front.
+#[tactic(auto, using(std::proofs::lemmas::List::drop_all))]
 pub(crate) fn take_away(bytes: &mut Vec<u8>, count: usize)
     requires { count ≤ length bytes.old.items }
     ensures { bytes.new.items ≡ drop count bytes.old.items }
 {
     let left = bytes.len() - count;
+    if left == 0 {
+        bytes.clear();
+        return;
+    }
     bytes.rotate_left(count);
     bytes.truncate(left);
 }

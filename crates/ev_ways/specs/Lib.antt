@@ -1,4 +1,0 @@
-pub mod Rows
-pub mod Standing
-pub mod Telling
-pub mod Statements

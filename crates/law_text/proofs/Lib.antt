@@ -9,5 +9,7 @@ pub mod Named
 pub mod Valued
 pub mod Kinded
 pub mod Hexed
+pub mod Verbs
 pub mod Parted
 pub mod Rebuilt
+pub mod Stopped

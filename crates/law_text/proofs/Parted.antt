@@ -1,10 +1,9 @@
 -- Events with the same words tell the same, but for texts that are shown alike.
-use Rattle.std.proofs.Common.{◌≡◌, ℕ, cond, eqb, ◌<◌, ◌^◌, Bool, true, false, Option, Some, None, List, [], ◌∷◌, ◌++◌, map, refl, sym, ◌∙◌, ap, subst}
+use Rattle.std.proofs.Common.{◌≡◌, ℕ, cond, Option, Some, None, List, [], ◌∷◌, ◌++◌, map, refl, sym, ◌∙◌, ap, subst}
 use Rattle.std.specs.Prelude.{decimal, codes, bytes_eq, filter}
 use Rattle.std.proofs.lemmas.Fmt.{decimal_injective}
 use Rattle.def_text.specs.Keywords.{printed_verb}
 use Rattle.def_event.specs.declared.shown.Shown.{Shown}
-use Rattle.def_event.specs.declared.note.ShownNote.{ShownNote}
 use Rattle.def_event.specs.declared.note.ShownNote.TheVariants.{Deliver, DeliverOnly, Settled, Elsewhere, Open as Opens, Ask, Shorten}
 use Rattle.def_event.specs.declared.event.Event.{Event}
 use Rattle.def_event.specs.declared.event.Event.TheVariants.{Open, Turn, Idle, Carry, Cut, Notice, Frame, Take, Call, Back, Thrown, Gone, Got, Slot as SlotMade, Read, Wrote, List as ListMade, Arrived, Ejector, Audition, Promise, Made, Send, SendOnly, When, Done, Threw, Settle, Wait, View, LostCut, LostBroken, LeftQueue, LeftHeld, LeftWait, LeftLink, End}
@@ -13,13 +12,14 @@ use Rattle.law_text.specs.Feeds.{AllOf}
 use Rattle.law_text.specs.Words.{WordsFit}
 use Rattle.law_text.specs.Kinds.{kind, kind_in}
 use Rattle.law_text.specs.Values.{AreVats, IsValueOf, AreAlike, none, more}
-use Rattle.law_text.specs.Parts.{Part, Word, Entry, Activation, Vat, Message, Name, Value, Verb, AList, ASlot, Bytes, Rest, Nothing, Values, Begins, Answered, Holds, Told, told, IsPartOf, MayBegin, IsRestOf, IsEventOf, PartAlike, same, valued, printed, RestAlike, nothing, values, begins, answered, holds, OneForOne, EventsAlike, TextsTellHistories}
+use Rattle.law_text.specs.Parts.{Part, Word, Entry, Activation, Vat, Message, Name, Value, Verb, AList, ASlot, Bytes, Rest, Nothing, Values, Begins, Answered, Holds, Told, told, IsPartOf, MayBegin, IsRestOf, IsEventOf, PartAlike, same, valued, RestAlike, nothing, values, begins, answered, holds, OneForOne, EventsAlike, TextsTellHistories}
 use Rattle.law_text.proofs.Front.{head_is, tail_is, two_marks}
 use Rattle.law_text.proofs.Hexed.{hex_told}
 use Rattle.law_text.proofs.Kinded.{kinds_told}
 use Rattle.law_text.proofs.Named.{message_told, name_told}
 use Rattle.law_text.proofs.Told.{some_fit, texts_tell_words}
 use Rattle.law_text.proofs.Valued.{are_names, ordinary_vats, thing_told, value_told, no_value, arrow_is_no_value, head_word, tail_words, no_words}
+use Rattle.law_text.proofs.Verbs.{verb_told}
 
 -- ---- which parts a line has, by its kind and, where it tells of a note, by the first word of that
 
@@ -143,110 +143,63 @@ module _ (vats : List (List ℕ)) where
   abbrev pub told_words : Told → List (List ℕ)
   told_words t = map part_word t.parts ++ rest_words t.rest
 
-  pub by_parts : (e : Event) → words vats e ≡ told_words (told e)
-  by_parts (Open v) = refl
-  by_parts (Turn k v) = refl
-  by_parts (Idle k) = refl
-  by_parts (Carry k v w (Deliver m target verb args)) = refl
-  by_parts (Carry k v w (DeliverOnly m target verb args)) = refl
-  by_parts (Carry k v w (Settled n x)) = refl
-  by_parts (Carry k v w (Elsewhere n u)) = refl
-  by_parts (Carry k v w (Opens gift n)) = refl
-  by_parts (Carry k v w (Ask gift provider)) = refl
-  by_parts (Carry k v w (Shorten n gift)) = refl
-  by_parts (Cut k v w) = refl
-  by_parts (Notice k v w) = refl
-  by_parts (Frame bytes) = refl
-  by_parts (Take t) = refl
-  by_parts (Call c) = refl
-  by_parts (Back a x) = refl
-  by_parts (Thrown a x) = refl
-  by_parts (Gone a) = refl
-  by_parts (Got a x) = refl
-  by_parts (SlotMade a s x) = refl
-  by_parts (Read a s x) = refl
-  by_parts (Wrote a s x) = refl
-  by_parts (ListMade a l members) = refl
-  by_parts (Arrived l members) = refl
-  by_parts (Ejector a o) = refl
-  by_parts (Audition a o) = refl
-  by_parts (Promise a p o) = refl
-  by_parts (Made o) = refl
-  by_parts (Send m) = refl
-  by_parts (SendOnly m) = refl
-  by_parts (When w) = refl
-  by_parts (Done a x) = refl
-  by_parts (Threw a x) = refl
-  by_parts (Settle p x) = refl
-  by_parts (Wait p q) = refl
-  by_parts (View p q) = refl
-  by_parts (LostCut m) = refl
-  by_parts (LostBroken m) = refl
-  by_parts (LeftQueue v m) = refl
-  by_parts (LeftHeld v p m) = refl
-  by_parts (LeftWait v x m) = refl
-  by_parts (LeftLink v w (Deliver m target verb args)) = refl
-  by_parts (LeftLink v w (DeliverOnly m target verb args)) = refl
-  by_parts (LeftLink v w (Settled n x)) = refl
-  by_parts (LeftLink v w (Elsewhere n u)) = refl
-  by_parts (LeftLink v w (Opens gift n)) = refl
-  by_parts (LeftLink v w (Ask gift provider)) = refl
-  by_parts (LeftLink v w (Shorten n gift)) = refl
-  by_parts End = refl
+  -- the words of each line are those of its parts, and its kind tells of which sorts they are
+  forms : (e : Event) → (words vats e ≡ told_words (told e)) × (shape_by (kind e) (fifth (words vats e)) ≡ shape_of (told e))
+  forms (Open v) = (refl, refl)
+  forms (Turn k v) = (refl, refl)
+  forms (Idle k) = (refl, refl)
+  forms (Carry k v w (Deliver m target verb args)) = (refl, refl)
+  forms (Carry k v w (DeliverOnly m target verb args)) = (refl, refl)
+  forms (Carry k v w (Settled n x)) = (refl, refl)
+  forms (Carry k v w (Elsewhere n u)) = (refl, refl)
+  forms (Carry k v w (Opens gift n)) = (refl, refl)
+  forms (Carry k v w (Ask gift provider)) = (refl, refl)
+  forms (Carry k v w (Shorten n gift)) = (refl, refl)
+  forms (Cut k v w) = (refl, refl)
+  forms (Notice k v w) = (refl, refl)
+  forms (Frame bytes) = (refl, refl)
+  forms (Take t) = (refl, refl)
+  forms (Call c) = (refl, refl)
+  forms (Back a x) = (refl, refl)
+  forms (Thrown a x) = (refl, refl)
+  forms (Gone a) = (refl, refl)
+  forms (Got a x) = (refl, refl)
+  forms (SlotMade a s x) = (refl, refl)
+  forms (Read a s x) = (refl, refl)
+  forms (Wrote a s x) = (refl, refl)
+  forms (ListMade a l members) = (refl, refl)
+  forms (Arrived l members) = (refl, refl)
+  forms (Ejector a o) = (refl, refl)
+  forms (Audition a o) = (refl, refl)
+  forms (Promise a p o) = (refl, refl)
+  forms (Made o) = (refl, refl)
+  forms (Send m) = (refl, refl)
+  forms (SendOnly m) = (refl, refl)
+  forms (When w) = (refl, refl)
+  forms (Done a x) = (refl, refl)
+  forms (Threw a x) = (refl, refl)
+  forms (Settle p x) = (refl, refl)
+  forms (Wait p q) = (refl, refl)
+  forms (View p q) = (refl, refl)
+  forms (LostCut m) = (refl, refl)
+  forms (LostBroken m) = (refl, refl)
+  forms (LeftQueue v m) = (refl, refl)
+  forms (LeftHeld v p m) = (refl, refl)
+  forms (LeftWait v x m) = (refl, refl)
+  forms (LeftLink v w (Deliver m target verb args)) = (refl, refl)
+  forms (LeftLink v w (DeliverOnly m target verb args)) = (refl, refl)
+  forms (LeftLink v w (Settled n x)) = (refl, refl)
+  forms (LeftLink v w (Elsewhere n u)) = (refl, refl)
+  forms (LeftLink v w (Opens gift n)) = (refl, refl)
+  forms (LeftLink v w (Ask gift provider)) = (refl, refl)
+  forms (LeftLink v w (Shorten n gift)) = (refl, refl)
+  forms End = (refl, refl)
 
-  by_kind : (e : Event) → shape_by (kind e) (fifth (words vats e)) ≡ shape_of (told e)
-  by_kind (Open v) = refl
-  by_kind (Turn k v) = refl
-  by_kind (Idle k) = refl
-  by_kind (Carry k v w (Deliver m target verb args)) = refl
-  by_kind (Carry k v w (DeliverOnly m target verb args)) = refl
-  by_kind (Carry k v w (Settled n x)) = refl
-  by_kind (Carry k v w (Elsewhere n u)) = refl
-  by_kind (Carry k v w (Opens gift n)) = refl
-  by_kind (Carry k v w (Ask gift provider)) = refl
-  by_kind (Carry k v w (Shorten n gift)) = refl
-  by_kind (Cut k v w) = refl
-  by_kind (Notice k v w) = refl
-  by_kind (Frame bytes) = refl
-  by_kind (Take t) = refl
-  by_kind (Call c) = refl
-  by_kind (Back a x) = refl
-  by_kind (Thrown a x) = refl
-  by_kind (Gone a) = refl
-  by_kind (Got a x) = refl
-  by_kind (SlotMade a s x) = refl
-  by_kind (Read a s x) = refl
-  by_kind (Wrote a s x) = refl
-  by_kind (ListMade a l members) = refl
-  by_kind (Arrived l members) = refl
-  by_kind (Ejector a o) = refl
-  by_kind (Audition a o) = refl
-  by_kind (Promise a p o) = refl
-  by_kind (Made o) = refl
-  by_kind (Send m) = refl
-  by_kind (SendOnly m) = refl
-  by_kind (When w) = refl
-  by_kind (Done a x) = refl
-  by_kind (Threw a x) = refl
-  by_kind (Settle p x) = refl
-  by_kind (Wait p q) = refl
-  by_kind (View p q) = refl
-  by_kind (LostCut m) = refl
-  by_kind (LostBroken m) = refl
-  by_kind (LeftQueue v m) = refl
-  by_kind (LeftHeld v p m) = refl
-  by_kind (LeftWait v x m) = refl
-  by_kind (LeftLink v w (Deliver m target verb args)) = refl
-  by_kind (LeftLink v w (DeliverOnly m target verb args)) = refl
-  by_kind (LeftLink v w (Settled n x)) = refl
-  by_kind (LeftLink v w (Elsewhere n u)) = refl
-  by_kind (LeftLink v w (Opens gift n)) = refl
-  by_kind (LeftLink v w (Ask gift provider)) = refl
-  by_kind (LeftLink v w (Shorten n gift)) = refl
-  by_kind End = refl
+  pub by_parts : (e : Event) → words vats e ≡ told_words (told e)
+  by_parts e = (forms e).0
 
   shape_is : (e : Event) → shape_by (kind_in (words vats e)) (fifth (words vats e)) ≡ shape_of (told e)
-  shape_is e = ap (λ k. shape_by k (fifth (words vats e))) (kinds_told vats e) ∙ by_kind e
+  shape_is e = ap (λ k. shape_by k (fifth (words vats e))) (kinds_told vats e) ∙ (forms e).1
 
 module _ (vats : List (List ℕ)) (good : AreVats vats) where
   part_told : (p q : Part) → sort p ≡ sort q → IsPartOf vats p → IsPartOf vats q → part_word vats p ≡ part_word vats q → PartAlike p q
@@ -334,7 +287,7 @@ module _ (vats : List (List ℕ)) (good : AreVats vats) where
   part_told (Verb v) (Message n) s h g e = absurd (two_marks 7 4 refl s)
   part_told (Verb v) (Name b) s h g e = absurd (two_marks 7 5 refl s)
   part_told (Verb v) (Value y) s h g e = absurd (two_marks 7 6 refl s)
-  part_told (Verb v) (Verb w) s h g e = printed e
+  part_told (Verb v) (Verb w) s h g e = subst (λ z. PartAlike (Verb v) (Verb z)) (verb_told v w h g e) same
   part_told (Verb v) (AList w n) s h g e = absurd (two_marks 7 8 refl s)
   part_told (Verb v) (ASlot w n) s h g e = absurd (two_marks 7 9 refl s)
   part_told (Verb v) (Bytes ys) s h g e = absurd (two_marks 7 10 refl s)
@@ -483,7 +436,7 @@ module _ (vats : List (List ℕ)) (good : AreVats vats) where
       let both = parts_apart (told e).parts (told f).parts (rest_words vats (told e).rest) (rest_words vats (told f).rest) (ap (λ (s : Shape). s.parts) shapes) h.1 g.1 (sym (by_parts vats e) ∙ i ∙ by_parts vats f) in
       (both.0, rest_told (told e).rest (told f).rest (ap (λ (s : Shape). s.rest) shapes) h.2 g.2 both.1)
 
-  events_told : (xs ys : List Event) → AllOf (IsEventOf vats) xs → AllOf (IsEventOf vats) ys → map (words vats) xs ≡ map (words vats) ys → OneForOne EventsAlike xs ys
+  pub events_told : (xs ys : List Event) → AllOf (IsEventOf vats) xs → AllOf (IsEventOf vats) ys → map (words vats) xs ≡ map (words vats) ys → OneForOne EventsAlike xs ys
   events_told [] [] h g e = tt
   events_told [] (y ∷ ys) h g e = absurd (no_lines (words vats y) (map (words vats) ys) e)
     where
@@ -501,7 +454,7 @@ module _ (vats : List (List ℕ)) (good : AreVats vats) where
       later_lines : (v w : List (List ℕ)) (vs ws : List (List (List ℕ))) → ◌≡◌ {A = List (List (List ℕ))} (v ∷ vs) (w ∷ ws) → vs ≡ ws
       later_lines v w vs ws e = cc
 
-  each_fits : (xs : List Event) → AllOf (IsEventOf vats) xs → AllOf WordsFit xs
+  pub each_fits : (xs : List Event) → AllOf (IsEventOf vats) xs → AllOf WordsFit xs
   each_fits [] h = tt
   each_fits (x ∷ xs) h = (h.0.0, each_fits xs h.1)
 

@@ -1,5 +1,5 @@
 -- An event is made again from what its line tells.
-use Rattle.std.proofs.Common.{◌≡◌, ℕ, zero, suc, cond, Option, Some, None, List, [], ◌∷◌, sym, ◌∙◌, ap, refl}
+use Rattle.std.proofs.Common.{◌≡◌, ℕ, zero, suc, cond, Option, None, List, [], ◌∷◌, sym, ◌∙◌, ap, refl}
 use Rattle.std.specs.Prelude.{codes, bytes_eq}
 use Rattle.ev_base.specs.declared.names.Name.{Name as AName}
 use Rattle.ev_base.specs.declared.names.Name.TheVariants.{Root}
@@ -9,7 +9,6 @@ use Rattle.def_event.specs.declared.note.ShownNote.{ShownNote}
 use Rattle.def_event.specs.declared.note.ShownNote.TheVariants.{Deliver, DeliverOnly, Settled, Elsewhere, Open as Opens, Ask, Shorten}
 use Rattle.def_event.specs.declared.event.Event.{Event}
 use Rattle.def_event.specs.declared.event.Event.TheVariants.{Open, Turn, Idle, Carry, Cut, Notice, Frame, Take, Call, Back, Thrown, Gone, Got, Slot as SlotMade, Read, Wrote, List as ListMade, Arrived, Ejector, Audition, Promise, Made, Send, SendOnly, When, Done, Threw, Settle, Wait, View, LostCut, LostBroken, LeftQueue, LeftHeld, LeftWait, LeftLink, End}
-use Rattle.def_event.specs.Lines.{words}
 use Rattle.law_text.specs.Kinds.{kind, kind_in}
 use Rattle.law_text.specs.Parts.{Part, Word, Entry, Activation, Vat, Message, Name, Value, Verb, AList, ASlot, Bytes, Rest, Nothing, Values, Begins, Answered, Holds, Told, told, EventsAreTold}
 use Rattle.law_text.proofs.Kinded.{kinds_told}

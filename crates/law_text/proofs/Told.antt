@@ -118,7 +118,7 @@ word_leaves vats good = record {
   list = list_word;
 }
 
-some_words : (vats : List (List ℕ)) → AllOf IsOrdinary vats → (e : Event) → WordsFit e → AllSome IsWord (words vats e)
+pub some_words : (vats : List (List ℕ)) → AllOf IsOrdinary vats → (e : Event) → WordsFit e → AllSome IsWord (words vats e)
 some_words vats good e h = words_are vats IsWord (word_leaves vats good) e h
 
 pub event_words : (vats : List (List ℕ)) → AllOf IsOrdinary vats → (e : Event) → WordsFit e → AllOf IsWord (words vats e)

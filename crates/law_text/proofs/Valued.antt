@@ -14,7 +14,7 @@ use Rattle.def_event.specs.declared.shown.Shown.{Shown, Null, Bool, Int, Char, T
 use Rattle.def_event.specs.Lines.{primitive_name, vat, numbered, message, value, member_values, spaced}
 use Rattle.law_text.specs.Names.{unmarked, AreNames}
 use Rattle.law_text.specs.Feeds.{AllOf}
-use Rattle.law_text.specs.Words.{IsWord, IsOrdinary, ordinary}
+use Rattle.law_text.specs.Words.{IsOrdinary, ordinary}
 use Rattle.law_text.specs.Values.{names_vat, AreVats, IsValueOf, AreMembersOf, row_members, Alike, AreAlike, same, texts, problems, characters, primitives, lists, none, more}
 use Rattle.law_text.proofs.Front.{true_false, both_true, head_is, tail_is, cons_is, two_marks, rest_of, apart}
 use Rattle.law_text.proofs.Named.{name_told}

@@ -4,3 +4,4 @@ pub mod Names
 pub mod Values
 pub mod Kinds
 pub mod Parts
+pub mod Runs

@@ -1,8 +1,8 @@
 -- What the line of an event tells, part by part, and events of which that is alike.
 use Rattle.std.specs.Prelude.{◌≡◌, ℕ, ◌<◌, ◌^◌, List, [], ◌∷◌, ◌++◌, Option, Some, None, length, codes, filter}
+use Rattle.std.specs.Str.{IsUtf8}
 use Rattle.ev_base.specs.declared.names.Name.{Name as AName}
 use Rattle.ev_base.specs.declared.names.Msg.{Msg}
-use Rattle.def_text.specs.Keywords.{printed_verb}
 use Rattle.def_event.specs.declared.shown.Shown.{Shown}
 use Rattle.def_event.specs.declared.note.ShownNote.{ShownNote}
 use Rattle.def_event.specs.declared.note.ShownNote.TheVariants.{Deliver, DeliverOnly, Settled, Elsewhere, Open as Opens, Ask, Shorten}
@@ -104,7 +104,7 @@ EventsAreTold = (e f : Event) → told e ≡ told f → e ≡ f
 -- ---- what is asked of an event
 
 module _ (vats : List (List ℕ)) where
-  -- its vats are among these, its numbers of 64 bits
+  -- its vats are among these, its numbers of 64 bits, and its verb is a text
   abbrev pub IsPartOf : Part → Type 0
   IsPartOf (Word w) = Unit {0}
   IsPartOf (Entry k) = k < 2 ^ 64
@@ -113,7 +113,7 @@ module _ (vats : List (List ℕ)) where
   IsPartOf (Message m) = IsMessageOf vats m
   IsPartOf (Name n) = IsNameOf vats n
   IsPartOf (Value x) = IsValueOf vats x
-  IsPartOf (Verb verb) = Unit {0}
+  IsPartOf (Verb verb) = IsUtf8 verb
   IsPartOf (AList v n) = (v < length vats) × (n < 2 ^ 64)
   IsPartOf (ASlot v n) = (v < length vats) × (n < 2 ^ 64)
   IsPartOf (Bytes bytes) = AllOf (λ b. b < 256) bytes
@@ -129,17 +129,16 @@ module _ (vats : List (List ℕ)) where
   IsRestOf (Answered args answer) = AllOf (IsValueOf vats) args × IsNameOf vats answer
   IsRestOf (Holds caps stamps) = AllOf (IsValueOf vats) caps × AllOf (IsValueOf vats) stamps
 
-  -- besides, its verbs are texts and its object's name is a word
+  -- besides, the name of an object that is made is a word
   abbrev pub IsEventOf : Event → Type 0
   IsEventOf e = WordsFit e × AllOf IsPartOf (told e).parts × IsRestOf (told e).rest
 
 -- ---- events that are alike
 
--- They tell the same, but for values that are alike and for verbs that are printed alike.
+-- They tell the same, but for values that are alike.
 pub data PartAlike : Part → Part → Type 0 where
   same : {p : Part} → PartAlike p p
   valued : {x y : Shown} → Alike x y → PartAlike (Value x) (Value y)
-  printed : {v w : List ℕ} → printed_verb v ≡ printed_verb w → PartAlike (Verb v) (Verb w)
 
 pub data RestAlike : Rest → Rest → Type 0 where
   nothing : RestAlike Nothing Nothing

@@ -1,3 +1,4 @@
 pub mod ValuesAgain
 pub mod IntegersAgain
 pub mod TextsAgain
+pub mod OthersAgain
