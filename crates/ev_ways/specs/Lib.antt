@@ -1,0 +1,5 @@
+pub mod Labels
+pub mod Rows
+pub mod Standing
+pub mod Telling
+pub mod Statements
