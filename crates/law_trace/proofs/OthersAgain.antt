@@ -1,5 +1,5 @@
 -- What is printed of broken references and of primitives is read again as a value.
-use Rattle.std.proofs.Common.{◌≡◌, ◌<◌, ◌≤◌, ◌+◌, ◌++◌, ◌&&◌, ◌||◌, ℕ, zero, suc, Bool, true, false, cond, eqb, ltb, List, [], ◌∷◌, Option, Some, None, inl, inr, length, refl, sym, ◌∙◌, ap, subst, arith}
+use Rattle.std.proofs.Common.{◌≡◌, ◌<◌, ◌≤◌, ◌+◌, ◌++◌, ◌&&◌, ◌||◌, ℕ, zero, suc, Bool, true, false, not, eqb, ltb, List, [], ◌∷◌, Option, Some, None, inl, inr, length, refl, sym, ◌∙◌, ap, subst, arith}
 use Rattle.std.specs.Prelude.{codes, Ok}
 use Rattle.std.specs.List.{list_all}
 use Rattle.std.specs.Str.{chars}
@@ -8,7 +8,6 @@ use Rattle.std.proofs.lemmas.Option.{cond_some}
 use Rattle.def_text.specs.Quoting.{quoted, shortened}
 use Rattle.def_event.specs.declared.shown.Shown.{Broken, Prim}
 use Rattle.def_event.specs.Lines as lines
-use Rattle.ev_command_lines.specs.Lines.{integer}
 use Rattle.ev_script.specs.Vats.{is_lower_or_digit, is_vat_name, place_of}
 use Rattle.ev_trace_words.specs.Parts.{behind_label, behind_mark, constant, guarded, primitive, split_at}
 use Rattle.ev_trace_words.specs.Parts as parts
@@ -29,7 +28,7 @@ head_is b c bs cs e = cc
 tail_is : (b c : ℕ) (bs cs : List ℕ) → ◌≡◌ {A = List ℕ} (b ∷ bs) (c ∷ cs) → bs ≡ cs
 tail_is b c bs cs e = cc
 
-not_it : (b mark : ℕ) → (cond (eqb b mark) false true) ≡ true → mark ≡ b → ⊥
+not_it : (b mark : ℕ) → not (eqb b mark) ≡ true → mark ≡ b → ⊥
 not_it b mark h e = grind (arith, nat_tests)
 
 no_colon : (b : ℕ) → is_lower_or_digit b ≡ true → b ≡ 58 → ⊥
@@ -67,11 +66,11 @@ module _ (names : List (List ℕ)) (lawful : list_all is_vat_name names ≡ true
   no_name : parts.name names word ≡ None
   no_name = name_by (no_number 46 (split_at 46 word) refl refl) (no_number 126 (split_at 126 word) refl refl) (no_number 94 (split_at 94 word) refl refl) (no_answer (split_at 63 word) refl) (no_root names word refl)
 
-  plain_by : constant word ≡ None → integer word ≡ None → primitive word ≡ None → parts.name names word ≡ None → parts.plain names word ≡ None
-  plain_by c i p n = rw c (rw i (rw p (rw n refl)))
+  plain_by : constant word ≡ None → primitive word ≡ None → parts.name names word ≡ None → parts.plain names word ≡ None
+  plain_by c p n = rw c (rw p (rw n refl))
 
   no_plain : parts.plain names word ≡ None
-  no_plain = plain_by (no_constant word refl refl refl) refl (no_primitive word refl) no_name
+  no_plain = plain_by (no_constant word refl refl refl) (no_primitive word refl) no_name
 
   labelled : behind_label (codes "broken") word ≡ Some rest
   labelled = rw (split_again 58 (codes "broken") rest refl) refl
