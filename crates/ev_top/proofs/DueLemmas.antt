@@ -17,8 +17,10 @@ use Rattle.ev_script.specs.declared.script.VatScript.{VatScript}
 use Rattle.ev_generate.specs.Generated.{generated}
 use Rattle.ev_sturdy_text.specs.Telling as sturdy
 use Rattle.ev_mint_text.specs.Telling as mint
+use Rattle.def_trace.specs.declared.trace.Trace.{Trace}
+use Rattle.ev_trace.specs.Reading.{read as trace_from}
 use Rattle.ev_top.specs.Commands.{reads}
-use Rattle.ev_top.specs.Lines.{IsDueOfMint, IsDueOfSturdy, status_of}
+use Rattle.ev_top.specs.Lines.{IsDueOfMint, IsDueOfSturdy, IsDueOfTrace, status_of}
 use Rattle.ev_top.specs.Words.{line}
 use Rattle.ev_top.specs.Debt.{Debt, IsFor, most_bytes, too_long}
 use Rattle.ev_script.specs.Script.{read as script_from}
@@ -29,7 +31,7 @@ use Rattle.ev_top.specs.Due.{IsDue, IsDueOfBytes, IsDueOfInput, IsDueOfScript, I
 use Rattle.law_schedule.specs.Scripts.{machine_script, tree_at}
 use Rattle.ev_top.specs.Machine.{greatest_depth, text_of}
 use Rattle.ev_top.specs.declared.command.Command.{Command}
-use Rattle.ev_top.specs.declared.command.Command.TheVariants.{Run, Expand, Generate, Sum, Sturdy, Mint}
+use Rattle.ev_top.specs.declared.command.Command.TheVariants.{Run, Expand, Generate, Sum, Sturdy, Mint, Check}
 use Rattle.ev_top.specs.declared.status.Status.{Status}
 use Rattle.ev_top.specs.declared.status.Status.TheVariants.{Done, Usage, ReadFault, WriteFault, TooLong, ScriptRefused, ProgramRefused, FuelSpent, TooDeep, WordRepeated, Memory}
 
@@ -80,6 +82,10 @@ of_mint : (found : Result (List ℕ) ℕ) (status : Status) (text : List ℕ) �
 of_mint (Ok told) status text due = subst IsOfWhole (sym due.0) tt
 of_mint (Err rule) status text due = subst IsOfWhole (sym due.0) tt
 
+of_trace : (found : Result Trace ℕ) (status : Status) (text : List ℕ) → IsDueOfTrace found status text → IsOfWhole status
+of_trace (Ok trace) status text due = subst IsOfWhole (sym due.0) tt
+of_trace (Err rule) status text due = subst IsOfWhole (sym due.0) tt
+
 pub whole : (command : Command) (input : List ℕ) (status : Status) (text : List ℕ) → IsDueOfBytes command input status text → IsOfWhole status
 whole (Run wire) input status text due = of_script (text_of wire) (script_from input) status text due
 whole Expand input status text due = of_text (text_from input) status text due
@@ -87,6 +93,7 @@ whole (Generate n) input status text due = subst IsOfWhole (sym due.0) tt
 whole (Sum n) input status text due = of_script summary_of (script_from (generated n)) status text due
 whole Sturdy input status text due = of_sturdy (sturdy.due input) status text due
 whole Mint input status text due = of_mint (mint.due input) status text due
+whole Check input status text due = of_trace (trace_from input) status text due
 
 -- ---- what is due, by how many bytes there are
 

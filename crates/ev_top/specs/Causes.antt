@@ -12,6 +12,7 @@ use Rattle.ev_script.specs.declared.script.VatScript.{VatScript}
 use Rattle.ev_generate.specs.Generated.{generated}
 use Rattle.ev_sturdy_text.specs.Telling as sturdy
 use Rattle.ev_mint_text.specs.Telling as mint
+use Rattle.ev_trace.specs.Reading.{read as trace_from}
 use Rattle.ev_top.specs.Commands.{reads}
 use Rattle.ev_top.specs.Debt.{most_bytes}
 use Rattle.ev_top.specs.Expansion.{text_from}
@@ -20,7 +21,7 @@ use Rattle.ev_top.specs.Machine.{greatest_depth, vat_of_step}
 use Rattle.ev_top.specs.Programs.{AreRead, IsFirstRefused, IsRead, safe_names}
 use Rattle.ev_script.specs.Script.{read as script_from}
 use Rattle.ev_top.specs.declared.command.Command.{Command}
-use Rattle.ev_top.specs.declared.command.Command.TheVariants.{Run, Expand, Generate, Sum, Sturdy, Mint}
+use Rattle.ev_top.specs.declared.command.Command.TheVariants.{Run, Expand, Generate, Sum, Sturdy, Mint, Check}
 use Rattle.ev_top.specs.declared.status.Status.{Status}
 use Rattle.ev_top.specs.declared.status.Status.TheVariants.{ReadFault, WriteFault, ProgramRefused, Memory}
 
@@ -53,6 +54,7 @@ Breaks rule (Some (Generate n)) input = ⊥
 Breaks rule (Some (Sum n)) input = script_from (generated n) ≡ Err rule
 Breaks rule (Some Sturdy) input = (length input ≤ most_bytes) × (sturdy.due input ≡ Err rule)
 Breaks rule (Some Mint) input = (length input ≤ most_bytes) × (mint.due input ≡ Err rule)
+Breaks rule (Some Check) input = (length input ≤ most_bytes) × (trace_from input ≡ Err rule)
 
 -- in the answers to the whole input, the second of these draws gives what the first gave
 abbrev pub DrawsAgain : ℕ → ℕ → Option Command → List ℕ → Type 0

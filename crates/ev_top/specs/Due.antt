@@ -18,7 +18,8 @@ use Rattle.ev_top.specs.Expansion.{IsDueOfText, text_from}
 use Rattle.ev_sturdy_text.specs.Telling as sturdy
 use Rattle.ev_mint_text.specs.Telling as mint
 use Rattle.ev_top.specs.Commands.{reads}
-use Rattle.ev_top.specs.Lines.{IsDueOfGenerated, IsDueOfMint, IsDueOfSturdy}
+use Rattle.ev_trace.specs.Reading.{read as trace_from}
+use Rattle.ev_top.specs.Lines.{IsDueOfGenerated, IsDueOfMint, IsDueOfSturdy, IsDueOfTrace}
 use Rattle.law_schedule.specs.Scripts.{machine_script, tree_at}
 use Rattle.ev_world.specs.Running.{script_of}
 use Rattle.ev_top.specs.Machine.{greatest_depth, text_of, vat_of_step}
@@ -26,7 +27,7 @@ use Rattle.ev_top.specs.Programs.{AreRead, ReadAs, IsDueOfFault, names_for}
 use Rattle.ev_script.specs.Script.{read as script_from}
 use Rattle.ev_top.specs.Summary.{summary_of}
 use Rattle.ev_top.specs.declared.command.Command.{Command}
-use Rattle.ev_top.specs.declared.command.Command.TheVariants.{Run, Expand, Generate, Sum, Sturdy, Mint}
+use Rattle.ev_top.specs.declared.command.Command.TheVariants.{Run, Expand, Generate, Sum, Sturdy, Mint, Check}
 use Rattle.ev_top.specs.declared.reply.Owed.{Owed}
 use Rattle.ev_top.specs.declared.reply.Owed.TheVariants as owing
 use Rattle.ev_top.specs.declared.program.Early.{Early}
@@ -91,6 +92,7 @@ IsDueOfBytes (Generate n) input status text = IsDueOfGenerated n status text
 IsDueOfBytes (Sum n) input status text = IsDueOfScript summary_of (script_from (generated n)) status text
 IsDueOfBytes Sturdy input status text = IsDueOfSturdy (sturdy.due input) status text
 IsDueOfBytes Mint input status text = IsDueOfMint (mint.due input) status text
+IsDueOfBytes Check input status text = IsDueOfTrace (trace_from input) status text
 
 -- what is due for the bytes of a source, by whether they are more than are read
 abbrev pub IsDueOfInput : Bool → Command → List ℕ → Status → List ℕ → Type 0

@@ -2,7 +2,7 @@
 
 use def_event::{Addressed, Boxed, Event, MadeObject, Sent, Shown, ShownNote};
 use ev_base::{Memory, Msg, Name, Seq, Str, VatId};
-use ev_uses::first_unknown;
+use ev_uses_calls::first_unknown;
 use std::alloc::Global;
 
 fn values(alloc: Global, value: Shown) -> Result<Seq<Shown>, Memory> {

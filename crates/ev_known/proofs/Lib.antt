@@ -1,0 +1,10 @@
+pub mod Among
+pub mod Keys
+pub mod Spreading
+pub mod Told
+pub mod Walking
+pub mod Followed
+pub mod Leading
+pub mod Running
+pub mod Knowing
+pub mod Judging

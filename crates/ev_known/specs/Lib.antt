@@ -1,0 +1,7 @@
+pub mod Label
+pub mod Links
+pub mod Telling
+pub mod Following
+pub mod Leads
+pub mod Runs
+pub mod Knowing

@@ -1,0 +1,122 @@
+//! What lines say of what leads to what, as links of what is led to.
+
+ghost use Rattle.std.specs.Prelude.{◌≡◌, ◌∷◌, [], List, OnOk, map};
+ghost use Rattle.def_trace.specs.Uses.{AName, Line, leads, things, things_of};
+ghost use Rattle.ev_known.specs.Label.{label};
+ghost use Rattle.ev_known.specs.declared.links.Way.TheVariants.{Listed as Listing, Settled as Settling};
+ghost use Rattle.ev_known.specs.Leads.{AddsEach, AddsLeads, LinksStand};
+
+use crate::label::{Label, list_label, name_label};
+use crate::links::{Link, Links, Way};
+use def_event::{Event, Shown};
+use ev_base::{Memory, Name};
+use std::alloc::Global;
+
+/// Something leads to a thing.
+#[tactic(auto, using(crate::proofs::Leading::one_added))]
+fn lead_to(links: &mut Links, alloc: Global, link: &Link, to: Label) -> Result<(), Memory>
+    ensures { OnOk result (AddsEach link.now (to ∷ []) links.old links.new) }
+{
+    links.add(alloc, to, *link)?;
+    Ok(())
+}
+
+/// Something leads to a name.
+fn lead_to_name(links: &mut Links, alloc: Global, link: &Link, name: &Name) -> Result<(), Memory>
+    ensures { OnOk result (AddsEach link.now (map label (AName name.now ∷ [])) links.old links.new) }
+{
+    lead_to(links, alloc, link, name_label(name))?;
+    Ok(())
+}
+
+/// Something leads to what a value is.
+#[tactic(auto, using(crate::proofs::Leading::none_added), unfolding(def_trace::specs::Uses::things_of))]
+fn lead_to_value(links: &mut Links, alloc: Global, link: &Link, value: &Shown) -> Result<(), Memory>
+    ensures { OnOk result (AddsEach link.now (map label (things_of value.now)) links.old links.new) }
+{
+    match value {
+        Shown::Name(name) => {
+            lead_to(links, alloc, link, name_label(name))?;
+            Ok(())
+        }
+        Shown::List(vat, number) => {
+            lead_to(links, alloc, link, list_label(vat, *number))?;
+            Ok(())
+        }
+        _ => Ok(()),
+    }
+}
+
+/// Something leads to what values are.
+fn lead_to_all(
+    links: &mut Links,
+    alloc: Global,
+    link: &Link,
+    values: &[Shown],
+) -> Result<(), Memory>
+    ensures { OnOk result (AddsEach link.now (map label (things values.now)) links.old links.new) }
+{
+    for value in values {
+        lead_to_value(links, alloc, link, value)?;
+    }
+    Ok(())
+}
+
+/// The link from what settled, or has a view, at a place.
+fn settled_link(at: u64, from: Label) -> Link
+    ensures { result ≡ record { way = Settling at; other = from } }
+{
+    Link {
+        way: Way::Settled(at),
+        other: from,
+    }
+}
+
+/// The link from a list.
+fn list_link(from: Label) -> Link
+    ensures { result ≡ record { way = Listing; other = from } }
+{
+    Link {
+        way: Way::Listed,
+        other: from,
+    }
+}
+
+/// What an event says of what leads to what.
+#[tactic(auto, using(crate::proofs::Leading::led_added, crate::proofs::Leading::no_leads), unfolding(def_trace::specs::Uses::leads))]
+fn tell_event(links: &mut Links, alloc: Global, at: u64, event: &Event) -> Result<(), Memory>
+    ensures { OnOk result (AddsLeads (leads at event.now) links.old links.new) }
+{
+    match event {
+        Event::Settle(name, value) => {
+            let link = settled_link(at, name_label(name));
+            lead_to_value(links, alloc, &link, value)?;
+            Ok(())
+        }
+        Event::View(name, view) => {
+            let link = settled_link(at, name_label(name));
+            lead_to_name(links, alloc, &link, view)?;
+            Ok(())
+        }
+        Event::List(_, list, members) => {
+            let link = list_link(list_label(&list.0, list.1));
+            lead_to_all(links, alloc, &link, members.as_slice())?;
+            Ok(())
+        }
+        Event::Arrived(list, members) => {
+            let link = list_link(list_label(&list.0, list.1));
+            lead_to_all(links, alloc, &link, members.as_slice())?;
+            Ok(())
+        }
+        _ => Ok(()),
+    }
+}
+
+/// Adds what a line at a place says of what leads to what. Links that stand for the lines before it stand for these and the line.
+#[tactic(auto, using(crate::proofs::Leading::line_leads))]
+pub fn tell_leads(links: &mut Links, alloc: Global, at: u64, event: &Event) -> Result<(), Memory>
+    ensures { (past : List Line) → LinksStand links.old past → OnOk result (LinksStand links.new (record { at = at; event = event.now } ∷ past)) }
+{
+    tell_event(links, alloc, at, event)?;
+    Ok(())
+}

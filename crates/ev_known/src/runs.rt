@@ -1,0 +1,195 @@
+//! Which object's code activations run.
+
+ghost use Rattle.std.specs.Prelude.{◌≡◌, [], ◌∷◌, List, OnOk};
+ghost use Rattle.def_trace.specs.Uses.{Line, name_of, running_call, runs};
+ghost use Rattle.ev_known.specs.Following.{TablesStand};
+ghost use Rattle.ev_known.specs.Runs.{RunAfter, RunTarget, RunTold, RunsPut, RunsStand, runner};
+ghost use Rattle.ev_known.specs.Telling.{StandsFor};
+
+use crate::facts::{Activation, Fact, Facts};
+use crate::following::Following;
+use crate::label::Label;
+use def_event::{Called, Event, Shown};
+use ev_base::{Memory, Name};
+use indexmap::IndexMap;
+use std::alloc::Global;
+use std::marker::Model;
+
+/// The object whose code each activation runs.
+#[derive(Drop)]
+pub struct Runs {
+    objects: IndexMap<Activation, Label>,
+}
+
+impl Model for Runs {
+    ghost use Rattle.std.specs.Prelude.{List};
+    ghost use Rattle.ev_known.specs.declared.facts.Activation.{Activation};
+    ghost use Rattle.ev_known.specs.declared.label.Label.{Label};
+
+    ghost Value = { List (Activation × Label) };
+
+    ghost view = { λ r. r.objects.entries };
+}
+
+/// The object of an activation.
+#[tactic(auto, unfolding(crate::specs::Runs::runner))]
+fn find_in(objects: &IndexMap<Activation, Label>, activation: Activation) -> Option<Label>
+    ensures { result ≡ runner objects.now.entries activation }
+{
+    objects.get(&activation).copied()
+}
+
+/// Puts the object of an activation.
+#[tactic(auto, unfolding(crate::specs::Runs::runner))]
+fn put_in(
+    objects: &mut IndexMap<Activation, Label>,
+    activation: Activation,
+    object: Label,
+) -> Result<(), Memory>
+    ensures { OnOk result (RunsPut activation object objects.old.entries objects.new.entries) }
+{
+    objects.insert(activation, object)?;
+    Ok(())
+}
+
+impl Runs {
+    /// No activation. It takes no memory.
+    pub fn new(alloc: Global) -> Runs
+        ensures empty { result ≡ [] }
+        ensures stands { RunsStand result [] }
+    {
+        Runs {
+            objects: IndexMap::new(alloc),
+        }
+    }
+
+    /// The object whose code an activation runs.
+    pub fn find(&self, activation: Activation) -> Option<Label>
+        ensures { result ≡ runner self.now activation }
+    {
+        find_in(&self.objects, activation)
+    }
+
+    /// An activation runs the code of an object.
+    fn put(&mut self, activation: Activation, object: Label) -> Result<(), Memory>
+        ensures { OnOk result (RunsPut activation object self.old self.new) }
+    {
+        put_in(&mut self.objects, activation, object)?;
+        Ok(())
+    }
+
+    /// An activation begins with a target, unless it has begun.
+    fn run(
+        &mut self,
+        alloc: Global,
+        facts: &Facts,
+        following: &Following,
+        activation: Activation,
+        target: &Name,
+    ) -> Result<(), Memory>
+        ensures { (past : List Line) → StandsFor facts.now past → TablesStand following.now past → OnOk result (RunAfter past activation.at activation.number target.now self.old self.new) }
+    {
+        if facts.has(Fact::Begun(activation)) {
+            return Ok(());
+        }
+        let Some(object) = following.follow(alloc, activation.at, target)? else {
+            return Ok(());
+        };
+        self.put(activation, object)?;
+        Ok(())
+    }
+
+    /// An activation begins with a target that may be no name.
+    #[tactic(auto, unfolding(def_trace::specs::Uses::name_of))]
+    fn run_value(
+        &mut self,
+        alloc: Global,
+        facts: &Facts,
+        following: &Following,
+        activation: Activation,
+        target: &Shown,
+    ) -> Result<(), Memory>
+        ensures { (past : List Line) → StandsFor facts.now past → TablesStand following.now past → OnOk result (RunTarget past activation.at activation.number (name_of target.now) self.old self.new) }
+    {
+        match target {
+            Shown::Name(name) => {
+                self.run(alloc, facts, following, activation, name)?;
+                Ok(())
+            }
+            _ => Ok(()),
+        }
+    }
+
+    /// A call may begin an activation.
+    fn run_call(
+        &mut self,
+        alloc: Global,
+        facts: &Facts,
+        following: &Following,
+        at: u64,
+        called: &Called,
+    ) -> Result<(), Memory>
+        ensures { (past : List Line) → StandsFor facts.now past → TablesStand following.now past → OnOk result (RunTold past at (running_call called.now called.now.begun) self.old self.new) }
+    {
+        let Some(number) = called.begun else {
+            return Ok(());
+        };
+        self.run_value(
+            alloc,
+            facts,
+            following,
+            Activation { at, number },
+            &called.target,
+        )?;
+        Ok(())
+    }
+
+    /// What an event at a place tells.
+    #[tactic(auto, unfolding(def_trace::specs::Uses::runs))]
+    fn tell_event(
+        &mut self,
+        alloc: Global,
+        facts: &Facts,
+        following: &Following,
+        at: u64,
+        event: &Event,
+    ) -> Result<(), Memory>
+        ensures { (past : List Line) → StandsFor facts.now past → TablesStand following.now past → OnOk result (RunTold past at (runs event.now) self.old self.new) }
+    {
+        match event {
+            Event::Take(taken) => {
+                let taken = taken.get();
+                let number = taken.activation;
+                self.run_value(
+                    alloc,
+                    facts,
+                    following,
+                    Activation { at, number },
+                    &taken.target,
+                )?;
+                Ok(())
+            }
+            Event::Call(called) => {
+                self.run_call(alloc, facts, following, at, called.get())?;
+                Ok(())
+            }
+            _ => Ok(()),
+        }
+    }
+
+    /// Notes what a line at a place begins, by the facts and tables that stand for the lines before it.
+    #[tactic(auto, using(crate::proofs::Running::line_runs))]
+    pub fn tell_line(
+        &mut self,
+        alloc: Global,
+        facts: &Facts,
+        following: &Following,
+        at: u64,
+        event: &Event,
+    ) -> Result<(), Memory>
+        ensures { (past : List Line) → StandsFor facts.now past → TablesStand following.now past → RunsStand self.old past → OnOk result (RunsStand self.new (record { at = at; event = event.now } ∷ past)) }
+    {
+        self.tell_event(alloc, facts, following, at, event)?;
+        Ok(())
+    }
+}

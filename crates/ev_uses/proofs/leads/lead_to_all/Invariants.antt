@@ -1,9 +1,0 @@
--- The values so far.
-use Rattle.std.proofs.Common.{map, take}
-use Rattle.def_trace.specs.Uses.{things}
-use Rattle.ev_uses.specs.Label.{label}
-use Rattle.ev_uses.specs.Leads.{AddsEach}
-use Rattle.ev_uses.proofs.leads.lead_to_all.Given as goal
-
-abbrev pub invariant-loop-value : goal.invariant-loop-value
-invariant-loop-value l = AddsEach l.link (map label (things (take l.value-index l.values))) l.fn.links l.links

@@ -1,0 +1,15 @@
+use Rattle.std.proofs.Common.{subst}
+use Rattle.def_trace.specs.Uses.{names, names_of}
+use Rattle.ev_uses_calls.specs.Using.{DecidesAll}
+use Rattle.ev_uses_calls.proofs.Deciding.{decides_both, decides_left}
+use Rattle.ev_uses_calls.proofs.using.are_all_known.Goals as goal
+
+pub returns-then-not-branch : goal.returns-then-not-branch
+returns-then-not-branch c =
+    decides_left c.args.knowledge.now c.args.activation c.args.made (names_of c.args.value.now) (names c.args.values.now)
+    (subst (DecidesAll c.args.knowledge.now c.args.activation c.args.made (names_of c.args.value.now)) c.if-not-branch.true c.in_ok-is_known.ensures)
+
+pub returns : goal.returns
+returns c =
+    decides_both c.args.knowledge.now c.args.activation c.args.made (names_of c.args.value.now) (names c.args.values.now) c.in_ok-known.known
+    (subst (DecidesAll c.args.knowledge.now c.args.activation c.args.made (names_of c.args.value.now)) c.if-not-branch.false c.in_ok-is_known.ensures) c.in_ok-known.ensures

@@ -1,0 +1,274 @@
+//! Whether the names that a line uses are known to its activation, or made by the line.
+
+ghost use Rattle.std.specs.Prelude.{◌≡◌, ◌↔◌, ◌++◌, ◌∷◌, [], List, Some, IfOk, IsTrue};
+ghost use Rattle.def_trace.specs.Uses.{Line, UsesKnown, is_guarding, made_by, name_of, names, names_of, names_used, receivers, user};
+ghost use Rattle.ev_known.specs.Knowing.{KnownStand};
+ghost use Rattle.ev_uses_calls.specs.Using.{DecidesAll, label_of};
+
+use def_event::{Called, Event, MadeObject, Shown};
+use ev_base::{Memory, Name};
+use ev_known::{Activation, Knowledge, Label, name_label};
+use std::alloc::Global;
+
+/// Whether a label is that of what a line makes.
+fn is_made(made: Option<Label>, label: Label) -> bool
+    ensures { IsTrue result ↔ (made ≡ Some label) }
+{
+    match made {
+        Some(made) => made == label,
+        None => false,
+    }
+}
+
+/// Whether a name is known or made.
+fn is_name_known(
+    knowledge: &Knowledge,
+    alloc: Global,
+    activation: Activation,
+    made: Option<Label>,
+    name: &Name,
+) -> Result<bool, Memory>
+    ensures { IfOk result (λ known. DecidesAll knowledge.now activation made (name.now ∷ []) known) }
+{
+    if is_made(made, name_label(name)) {
+        return Ok(true);
+    }
+    let known = knowledge.knows(alloc, activation, name)?;
+    Ok(known)
+}
+
+/// Whether what a value names is known or made.
+#[tactic(auto, using(crate::proofs::Deciding::decides_none), unfolding(def_trace::specs::Uses::names_of))]
+fn is_known(
+    knowledge: &Knowledge,
+    alloc: Global,
+    activation: Activation,
+    made: Option<Label>,
+    value: &Shown,
+) -> Result<bool, Memory>
+    ensures { IfOk result (λ known. DecidesAll knowledge.now activation made (names_of value.now) known) }
+{
+    match value {
+        Shown::Name(name) => {
+            let known = is_name_known(knowledge, alloc, activation, made, name)?;
+            Ok(known)
+        }
+        _ => Ok(true),
+    }
+}
+
+/// Whether what values name is known or made.
+fn are_known(
+    knowledge: &Knowledge,
+    alloc: Global,
+    activation: Activation,
+    made: Option<Label>,
+    values: &[Shown],
+) -> Result<bool, Memory>
+    ensures { IfOk result (λ known. DecidesAll knowledge.now activation made (names values.now) known) }
+{
+    for value in values {
+        if !is_known(knowledge, alloc, activation, made, value)? {
+            return Ok(false);
+        }
+    }
+    Ok(true)
+}
+
+/// Whether what a value and others name is known or made.
+fn are_all_known(
+    knowledge: &Knowledge,
+    alloc: Global,
+    activation: Activation,
+    made: Option<Label>,
+    value: &Shown,
+    values: &[Shown],
+) -> Result<bool, Memory>
+    ensures { IfOk result (λ known. DecidesAll knowledge.now activation made (names_of value.now ++ names values.now) known) }
+{
+    if !is_known(knowledge, alloc, activation, made, value)? {
+        return Ok(false);
+    }
+    let known = are_known(knowledge, alloc, activation, made, values)?;
+    Ok(known)
+}
+
+/// Whether what an object captured, and its auditors, are known or made.
+fn are_parts_known(
+    knowledge: &Knowledge,
+    alloc: Global,
+    activation: Activation,
+    made: Option<Label>,
+    object: &MadeObject,
+) -> Result<bool, Memory>
+    ensures { IfOk result (λ known. DecidesAll knowledge.now activation made (names object.now.caps ++ names object.now.stamps) known) }
+{
+    if !are_known(knowledge, alloc, activation, made, object.caps.as_slice())? {
+        return Ok(false);
+    }
+    let known = are_known(knowledge, alloc, activation, made, object.stamps.as_slice())?;
+    Ok(known)
+}
+
+/// Whether what two values name is known or made.
+fn are_both_known(
+    knowledge: &Knowledge,
+    alloc: Global,
+    activation: Activation,
+    made: Option<Label>,
+    first: &Shown,
+    second: &Shown,
+) -> Result<bool, Memory>
+    ensures { IfOk result (λ known. DecidesAll knowledge.now activation made (names_of first.now ++ names_of second.now) known) }
+{
+    if !is_known(knowledge, alloc, activation, made, first)? {
+        return Ok(false);
+    }
+    let known = is_known(knowledge, alloc, activation, made, second)?;
+    Ok(known)
+}
+
+/// Whether the receiver of a call does not count.
+fn is_guarding(called: &Called) -> bool
+    ensures { result ≡ is_guarding called.now }
+{
+    let verb = called.verb.as_str();
+    let count = called.args.len();
+    (verb == "coerce" && count == 2) || (verb == "audit" && count == 1)
+}
+
+/// Whether what a call uses is known.
+fn is_call_known(
+    knowledge: &Knowledge,
+    alloc: Global,
+    activation: Activation,
+    made: Option<Label>,
+    called: &Called,
+) -> Result<bool, Memory>
+    ensures { IfOk result (λ known. DecidesAll knowledge.now activation made (receivers called.now ++ names called.now.args) known) }
+{
+    if is_guarding(called) {
+        let known = are_known(knowledge, alloc, activation, made, called.args.as_slice())?;
+        return Ok(known);
+    }
+    let known = are_all_known(
+        knowledge,
+        alloc,
+        activation,
+        made,
+        &called.target,
+        called.args.as_slice(),
+    )?;
+    Ok(known)
+}
+
+/// The name that a value is.
+#[tactic(auto, unfolding(def_trace::specs::Uses::name_of))]
+fn value_label(value: &Shown) -> Option<Label>
+    ensures { result ≡ label_of (name_of value.now) }
+{
+    match value {
+        Shown::Name(name) => Some(name_label(name)),
+        _ => None,
+    }
+}
+
+/// What a line makes.
+#[tactic(auto, unfolding(def_trace::specs::Uses::made_by))]
+fn made_label(event: &Event) -> Option<Label>
+    ensures { result ≡ label_of (made_by event.now) }
+{
+    match event {
+        Event::Made(made) => value_label(&made.get().object),
+        Event::Send(sent) => Some(name_label(&sent.get().answer)),
+        Event::When(when) => Some(name_label(&when.get().answer)),
+        _ => None,
+    }
+}
+
+/// The activation that uses something in a line, and 0 where the line uses nothing.
+#[tactic(auto, unfolding(def_trace::specs::Uses::user))]
+fn user(event: &Event) -> u64
+    ensures { result ≡ user event.now }
+{
+    match event {
+        Event::Call(called) => called.get().activation,
+        Event::List(number, _, _) => *number,
+        Event::Made(made) => made.get().activation,
+        Event::Send(sent) => sent.get().activation,
+        Event::SendOnly(sent) => sent.get().activation,
+        Event::When(when) => when.get().activation,
+        Event::Wrote(number, _, _) => *number,
+        Event::Done(number, _) => *number,
+        _ => 0,
+    }
+}
+
+/// Whether what a line uses is known to an activation, or made.
+#[tactic(auto, using(crate::proofs::Deciding::decides_none), unfolding(def_trace::specs::Uses::names_used))]
+fn is_event_known(
+    knowledge: &Knowledge,
+    alloc: Global,
+    by: Activation,
+    made: Option<Label>,
+    event: &Event,
+) -> Result<bool, Memory>
+    ensures { IfOk result (λ known. DecidesAll knowledge.now by made (names_used event.now) known) }
+{
+    match event {
+        Event::Call(called) => {
+            let known = is_call_known(knowledge, alloc, by, made, called.get())?;
+            Ok(known)
+        }
+        Event::List(_, _, members) => {
+            let known = are_known(knowledge, alloc, by, made, members.as_slice())?;
+            Ok(known)
+        }
+        Event::Made(object) => {
+            let known = are_parts_known(knowledge, alloc, by, made, object.get())?;
+            Ok(known)
+        }
+        Event::Send(sent) => {
+            let sent = sent.get();
+            let args = sent.args.as_slice();
+            let known = are_all_known(knowledge, alloc, by, made, &sent.target, args)?;
+            Ok(known)
+        }
+        Event::SendOnly(sent) => {
+            let sent = sent.get();
+            let args = sent.args.as_slice();
+            let known = are_all_known(knowledge, alloc, by, made, &sent.target, args)?;
+            Ok(known)
+        }
+        Event::When(when) => {
+            let when = when.get();
+            let known = are_both_known(knowledge, alloc, by, made, &when.value, &when.reaction)?;
+            Ok(known)
+        }
+        Event::Wrote(_, _, value) => {
+            let known = is_known(knowledge, alloc, by, made, value)?;
+            Ok(known)
+        }
+        Event::Done(_, value) => {
+            let known = is_known(knowledge, alloc, by, made, value)?;
+            Ok(known)
+        }
+        _ => Ok(true),
+    }
+}
+
+/// Whether a line at a place uses only what its activation knows by the lines before it, or what the line makes.
+#[tactic(auto, using(crate::proofs::Deciding::line_decided))]
+pub fn uses_known(
+    knowledge: &Knowledge,
+    alloc: Global,
+    at: u64,
+    event: &Event,
+) -> Result<bool, Memory>
+    ensures { (past : List Line) → KnownStand knowledge.now past → IfOk result (λ known. IsTrue known ↔ UsesKnown past (record { at = at; event = event.now })) }
+{
+    let number = user(event);
+    let by = Activation { at, number };
+    let known = is_event_known(knowledge, alloc, by, made_label(event), event)?;
+    Ok(known)
+}
