@@ -2,7 +2,6 @@
 use Rattle.std.proofs.Common.{◌≡◌, ◌≢◌, ◌<◌, ◌≤◌, ◌&&◌, ◌||◌, ℕ, zero, suc, ltb, not, Bool, true, false, List, [], ◌∷◌, Ok, All, AllPairs, length, map, refl, sym, ◌∙◌, ap, subst, arith}
 use Rattle.std.specs.Prelude.{nat_le, get_or, is_some}
 use Rattle.std.specs.List.{list_all}
-use Rattle.std.specs.Char.{is_ascii_alphanumeric}
 use Rattle.std.proofs.lemmas.Bool.{and_parts}
 use Rattle.std.proofs.lemmas.Bool.Decides.{nat_tests}
 use Rattle.std.proofs.lemmas.List.Elements.{All-head, All-tail}
@@ -13,13 +12,10 @@ use Rattle.def_event.specs.Lines.{vat}
 use Rattle.def_run.specs.World.{Program}
 use Rattle.def_run.specs.Text.{vat_names}
 use Rattle.ev_script.specs.Head.{is_between}
-use Rattle.ev_script.specs.Script.{read}
-use Rattle.ev_script.specs.Rules.{IsAdmitted}
 use Rattle.ev_script.specs.Vats.{begins_lower, is_lower_or_digit, is_vat_name}
-use Rattle.ev_script.specs.declared.script.Script.{Script}
 use Rattle.ev_script.specs.declared.script.VatScript.{VatScript}
 use Rattle.ev_script.proofs.Admitted.{read_admitted}
-use Rattle.law_schedule.specs.Scripts.{machine_vats, machine_script}
+use Rattle.law_schedule.specs.Scripts.{machine_vats}
 use Rattle.law_text.specs.Values.{names_vat, AreVats}
 use Rattle.law_script.specs.Accepted.{AcceptedVatsAreNamed}
 

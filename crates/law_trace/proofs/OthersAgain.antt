@@ -1,11 +1,10 @@
 -- What is printed of broken references and of primitives is read again as a value.
-use Rattle.std.proofs.Common.{◌≡◌, ◌<◌, ◌≤◌, ◌+◌, ◌++◌, ◌&&◌, ◌||◌, ℕ, zero, suc, Bool, true, false, not, eqb, ltb, List, [], ◌∷◌, Option, Some, None, inl, inr, length, refl, sym, ◌∙◌, ap, subst, arith}
+use Rattle.std.proofs.Common.{◌≡◌, ◌<◌, ◌+◌, ◌++◌, ◌&&◌, ◌||◌, ℕ, zero, suc, true, not, eqb, ltb, List, [], ◌∷◌, Option, Some, None, inl, inr, refl, sym, ◌∙◌, ap, subst, arith}
 use Rattle.std.specs.Prelude.{codes, Ok}
 use Rattle.std.specs.List.{list_all}
-use Rattle.std.specs.Str.{chars}
 use Rattle.std.proofs.lemmas.Bool.Decides.{nat_tests}
 use Rattle.std.proofs.lemmas.Option.{cond_some}
-use Rattle.def_text.specs.Quoting.{quoted, shortened}
+use Rattle.def_text.specs.Quoting.{quoted}
 use Rattle.def_event.specs.declared.shown.Shown.{Broken, Prim}
 use Rattle.def_event.specs.Lines as lines
 use Rattle.ev_script.specs.Vats.{is_lower_or_digit, is_vat_name, place_of}
@@ -15,7 +14,7 @@ use Rattle.ev_trace_words.specs.Texts.{shown_text}
 use Rattle.ev_trace_words.specs.Values.{value}
 use Rattle.ev_trace_words.proofs.Printed.{lacks, split_again, vat_letters}
 use Rattle.ev_trace_words.proofs.Spelled.{place_is, split_is}
-use Rattle.law_trace.specs.Laws.{IsPrimitive, PrimitivesAreReadAgain, ShortProblemsAreReadAgain}
+use Rattle.law_trace.specs.Laws.{PrimitivesAreReadAgain, ShortProblemsAreReadAgain}
 use Rattle.law_trace.proofs.ValuesAgain.{both, no_front}
 use Rattle.law_trace.proofs.IntegersAgain.{no_constant}
 use Rattle.law_trace.proofs.TextsAgain.{as_printed, no_primitive, no_root, shown_again}

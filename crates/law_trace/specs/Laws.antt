@@ -1,5 +1,5 @@
 -- What is printed of names, lists, slots, integers and short texts is read again as a value.
-use Rattle.std.specs.Prelude.{◌≡◌, ℕ, ℤ, pos, negsuc, suc, true, false, ◌+◌, ◌<◌, ◌≤◌, ◌^◌, ◌⊎◌, List, length, Some, Ok}
+use Rattle.std.specs.Prelude.{◌≡◌, ℕ, ℤ, pos, negsuc, suc, true, false, ◌<◌, ◌≤◌, ◌^◌, ◌⊎◌, List, length, Some, Ok}
 use Rattle.std.specs.Fmt.{signed_decimal}
 use Rattle.std.specs.Char.{IsScalar}
 use Rattle.std.specs.Str.{chars}
