@@ -1,16 +1,15 @@
 -- Tables find what lines have for each message.
-use Rattle.std.proofs.Common.{◌≡◌, ℕ, zero, suc, ◌+◌, arith, Bool, true, false, cond, List, [], ◌∷◌, ◌++◌, map, take, slice_get, Option, Some, None, refl, sym, ap, subst, ◌∙◌, inl, inr, rules, eq-eqb}
+use Rattle.std.proofs.Common.{◌≡◌, ℕ, zero, suc, ◌+◌, arith, Bool, true, false, cond, List, [], ◌∷◌, map, take, slice_get, Option, Some, None, refl, sym, ap, subst, ◌∙◌, rules, eq-eqb}
 use Rattle.std.specs.Prelude.{◌↔◌, ◌==◌, ◌&&◌, IsTrue, is_some, if◌then◌else◌, unwrap_or}
 use Rattle.std.proofs.lemmas.Bool.{eqb-true}
 use Rattle.ev_base.specs.declared.names.Msg.{Msg}
-use Rattle.def_event.specs.declared.note.ShownNote.{ShownNote}
 use Rattle.def_event.specs.declared.note.ShownNote.TheVariants.{Deliver, DeliverOnly}
 use Rattle.def_event.specs.declared.event.Event.{Event}
 use Rattle.def_event.specs.declared.event.Event.TheVariants.{Carry, Send, SendOnly, When}
-use Rattle.def_trace.specs.Uses.{Line, Thing, arguments_in, carried_with, delivered, delivered_with, first_of, had, last_of, line_before, of_delivered, of_message, or_else, same_message, sent_with}
+use Rattle.def_trace.specs.Uses.{Line, Thing, arguments_in, carried_with, delivered_with, first_of, had, last_of, line_before, of_delivered, of_message, or_else, same_message, sent_with}
 use Rattle.ev_uses_messages.specs.declared.places.MessageKey.{MessageKey}
 use Rattle.ev_uses_messages.specs.contracts.places.MessageKeyPartialEq.TheImpl.{eq-value}
-use Rattle.ev_uses_messages.specs.Places.{Notes, NotesFor, Puts, PutsFor, Table, message_key, place_in}
+use Rattle.ev_uses_messages.specs.Places.{Notes, NotesFor, PutsFor, Table, message_key, place_in}
 use Rattle.ev_uses_messages.specs.Lines.{carries, given_by, holds, message_of, sends, things_with}
 use Rattle.ev_uses_messages.specs.Finding.{Finds, FindsBefore, Having, SourcesStand, SourceTables, found_at, things_at, things_by}
 

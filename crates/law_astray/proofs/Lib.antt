@@ -5,3 +5,6 @@ pub mod Clear
 pub mod Awaited
 pub mod Hearing
 pub mod Arrivals
+pub mod Awaits
+pub mod AwaitsEval
+pub mod Ejections

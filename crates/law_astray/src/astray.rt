@@ -1,6 +1,7 @@
 //! Steps that do not go astray.
 
 ghost use Rattle.law_astray.specs.Astray.{SettlingsEnd};
+ghost use Rattle.law_astray.specs.Ejections.{EjectionsAreAwaited};
 ghost use Rattle.law_astray.specs.Runs.{ArrivalsAreNotAstray};
 
 /// A settling does not go astray, in every state in which each name that waits and each answer of a message that is
@@ -14,4 +15,10 @@ pub fn settlings_end()
 /// the script may be told twice that it knows a vat, or that it knows itself.
 pub fn arrivals_are_not_astray()
     ensures { ArrivalsAreNotAstray }
+{}
+
+/// No turn is left by an ejector: from a state in which none is live, what leaves by one in the evaluation of a
+/// program or in a turn's message leaves to an escape, a match or a matcher that stands in it. None is live after.
+pub fn ejections_are_awaited()
+    ensures { EjectionsAreAwaited }
 {}

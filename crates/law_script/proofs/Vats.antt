@@ -1,11 +1,13 @@
 -- The vats of each script that is read have names that a text tells.
-use Rattle.std.proofs.Common.{◌≡◌, ◌≢◌, ◌<◌, ◌≤◌, ◌&&◌, ◌||◌, ℕ, zero, suc, ltb, Bool, true, false, List, [], ◌∷◌, Ok, All, AllPairs, length, map, refl, sym, ◌∙◌, ap, subst, arith}
-use Rattle.std.specs.Prelude.{nat_le, get_or}
+use Rattle.std.proofs.Common.{◌≡◌, ◌≢◌, ◌<◌, ◌≤◌, ◌&&◌, ◌||◌, ℕ, zero, suc, ltb, not, Bool, true, false, List, [], ◌∷◌, Ok, All, AllPairs, length, map, refl, sym, ◌∙◌, ap, subst, arith}
+use Rattle.std.specs.Prelude.{nat_le, get_or, is_some}
 use Rattle.std.specs.List.{list_all}
 use Rattle.std.specs.Char.{is_ascii_alphanumeric}
 use Rattle.std.proofs.lemmas.Bool.{and_parts}
 use Rattle.std.proofs.lemmas.Bool.Decides.{nat_tests}
 use Rattle.std.proofs.lemmas.List.Elements.{All-head, All-tail}
+use Rattle.ev_base.specs.SafeScope.{safe_value}
+use Rattle.def_text.specs.Keywords.{is_keyword}
 use Rattle.def_kernel.specs.declared.node.Node.{Node}
 use Rattle.def_event.specs.Lines.{vat}
 use Rattle.def_run.specs.World.{Program}
@@ -13,7 +15,7 @@ use Rattle.def_run.specs.Text.{vat_names}
 use Rattle.ev_script.specs.Head.{is_between}
 use Rattle.ev_script.specs.Script.{read}
 use Rattle.ev_script.specs.Rules.{IsAdmitted}
-use Rattle.ev_script.specs.Vats.{is_lower_or_digit, is_vat_name}
+use Rattle.ev_script.specs.Vats.{begins_lower, is_lower_or_digit, is_vat_name}
 use Rattle.ev_script.specs.declared.script.Script.{Script}
 use Rattle.ev_script.specs.declared.script.VatScript.{VatScript}
 use Rattle.ev_script.proofs.Admitted.{read_admitted}
@@ -48,7 +50,7 @@ all_names [] h = refl
 all_names (c ∷ cs) h = let both = and_parts (is_lower_or_digit c) (list_all is_lower_or_digit cs) h in both_true (names_vat c) (list_all names_vat cs) (letter_names c both.0) (all_names cs both.1)
 
 name_spelled : (w : List ℕ) → is_vat_name w ≡ true → list_all names_vat w ≡ true
-name_spelled w h = all_names w (third_of_five _ _ (list_all is_lower_or_digit w) _ _ h)
+name_spelled w h = all_names w (third_of_five (nat_le (length w) 16) (begins_lower w) (list_all is_lower_or_digit w) (not (is_keyword w)) (not (is_some (safe_value w))) h)
 
 abbrev names : List VatScript → List (List ℕ)
 names vats = map (λ (v : VatScript). v.name) vats

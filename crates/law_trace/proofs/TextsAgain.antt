@@ -32,7 +32,7 @@ name_by : (names : List (List ℕ)) (word : List ℕ) → parts.numbered names 4
     → parts.name names word ≡ None
 name_by names word a b c d e = rw a (rw b (rw c (rw d (rw e refl))))
 
-no_name : (names : List (List ℕ)) (word : List ℕ) → list_all is_vat_name names ≡ true → begins_lower word ≡ false → starts 64 word ≡ false → parts.name names word ≡ None
+pub no_name : (names : List (List ℕ)) (word : List ℕ) → list_all is_vat_name names ≡ true → begins_lower word ≡ false → starts 64 word ≡ false → parts.name names word ≡ None
 no_name names word e f r =
     name_by names word (numbered_by names 46 word (split_at 46 word) refl e f) (numbered_by names 126 word (split_at 126 word) refl e f) (numbered_by names 94 word (split_at 94 word) refl e f)
     (answer_by names word (split_at 63 word) refl e f) (no_root names word r)

@@ -1,10 +1,11 @@
 -- What is printed of names, lists, slots, integers and short texts is read again as a value.
 use Rattle.std.specs.Prelude.{◌≡◌, ℕ, ℤ, pos, negsuc, suc, true, false, ◌+◌, ◌<◌, ◌≤◌, ◌^◌, ◌⊎◌, List, length, Some, Ok}
 use Rattle.std.specs.Fmt.{signed_decimal}
+use Rattle.std.specs.Char.{IsScalar}
 use Rattle.std.specs.Str.{chars}
 use Rattle.def_text.specs.Quoting.{shortened}
 use Rattle.ev_base.specs.declared.names.Name.{Name}
-use Rattle.def_event.specs.declared.shown.Shown.{Null, Bool, Int, Text, Broken, Prim, List as ListOf, Slot, Name as Named}
+use Rattle.def_event.specs.declared.shown.Shown.{Null, Bool, Int, Char, Text, Broken, Prim, List as ListOf, Slot, Name as Named}
 use Rattle.def_event.specs.Lines as lines
 use Rattle.ev_trace_words.specs.Laws.{AreNames, FitsName}
 use Rattle.ev_trace_words.specs.Parts.{guarded}
@@ -32,6 +33,10 @@ ShortTextsAreReadAgain = (names : List (List ℕ)) (t : List ℕ) → AreNames n
 -- and so is a broken reference, where its problem is such a text
 abbrev pub ShortProblemsAreReadAgain : Type 0
 ShortProblemsAreReadAgain = (names : List (List ℕ)) (t : List ℕ) → AreNames names → length (chars t) ≤ 32 → value names (lines.value names (Broken t)) ≡ Ok (Broken t)
+
+-- a character
+abbrev pub CharactersAreReadAgain : Type 0
+CharactersAreReadAgain = (names : List (List ℕ)) (c : ℕ) → AreNames names → IsScalar c → value names (lines.value names (Char c)) ≡ Ok (Char c)
 
 -- the number of a primitive of the safe scope, or of `nullOk` with a guard, which is 32 more than that of the guard
 abbrev pub IsPrimitive : ℕ → Type 0
