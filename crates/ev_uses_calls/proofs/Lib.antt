@@ -1,1 +1,3 @@
 pub mod Deciding
+pub mod Calling
+pub mod Giving

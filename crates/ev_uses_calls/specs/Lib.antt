@@ -1,1 +1,3 @@
 pub mod Using
+pub mod Calls
+pub mod Kept

@@ -1,7 +1,7 @@
 -- What it is to decide whether names are known to an activation, or made.
 use Rattle.std.specs.Prelude.{◌≡◌, ◌⊎◌, ◌↔◌, ℕ, Bool, true, List, Option, Some, None}
 use Rattle.ev_base.specs.declared.names.Name.{Name}
-use Rattle.def_trace.specs.Uses.{AName, IsAmong, KnowsName, Line}
+use Rattle.def_trace.specs.Uses.{AName, BackKnown, IsAmong, KnowsName, Line, UsesKnown}
 use Rattle.ev_known.specs.declared.facts.Activation.{Activation}
 use Rattle.ev_known.specs.declared.label.Label.{Label}
 use Rattle.ev_known.specs.Knowing.{Known, KnownStand}
@@ -18,3 +18,8 @@ AllKnown past at number made ns = (n : Name) → IsAmong n ns → (made ≡ Some
 -- the answer tells so, of any lines for which the tables stand
 pub record DecidesAll (k : Known) (a : Activation) (made : Option Label) (ns : List Name) (b : Bool) : Type 0 where
   pub each : (past : List Line) (o : Option Name) → KnownStand k past → made ≡ label_of o → (b ≡ true) ↔ AllKnown past a.at a.number o ns
+
+-- what the line uses, and what it gives back, is known
+pub record IsOfKnown (past : List Line) (l : Line) : Type 0 where
+  pub uses : UsesKnown past l
+  pub gives_back : BackKnown past l

@@ -1,6 +1,10 @@
-//! Whether the lines of a history use only what is known to who uses it.
+//! Whether the lines of a history use, and give back, only what is known to who uses or gives it.
 #![tactic(auto)]
 
+pub mod calls;
+pub mod kept;
+pub mod returning;
+pub mod stack;
 pub mod unknown;
 pub mod using;
 

@@ -1,4 +1,4 @@
-//! Tests of the judging of uses on a small history of three vats.
+//! Tests of the judging of uses on small histories.
 #![tactic(auto)]
 
 #[cfg(test)]

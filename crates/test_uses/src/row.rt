@@ -1,134 +1,198 @@
-//! One vat hands a second a reference to a third, and the second sends on it, or on an object that it does not know.
+//! A vat calls an audition, which gives something back, and sends a message, which is carried and taken.
 
-use def_event::{Addressed, Boxed, Event, MadeObject, Sent, Shown, ShownNote};
+use def_event::{Addressed, Boxed, Called, Event, Sent, Shown, ShownNote};
+use def_trace::Trace;
 use ev_base::{Memory, Msg, Name, Seq, Str, VatId};
-use ev_uses_calls::first_unknown;
+use ev_uses::judge_uses;
 use std::alloc::Global;
 
-fn values(alloc: Global, value: Shown) -> Result<Seq<Shown>, Memory> {
-    let mut values = Seq::new(alloc);
-    values.push(value)?;
-    Ok(values)
+/// What stands in the history.
+#[derive(Clone, Copy)]
+struct Row {
+    /// Whether the call asks for a guard.
+    asks: bool,
+    /// The activation that the call begins.
+    begun: Option<u64>,
+    /// What the call gives back.
+    back: Name,
+    /// The argument as it is sent, carried and taken.
+    sent: Name,
+    carried: Name,
+    taken: Name,
 }
 
-fn message(sender: u8, number: u64) -> Msg {
-    Msg {
-        sender: VatId(sender),
-        number,
+/// What the opening activation knows.
+fn known() -> Name {
+    Name::Root(VatId(2))
+}
+
+/// What nobody knows.
+fn unknown() -> Name {
+    Name::Object(VatId(5), 0)
+}
+
+/// A history whose lines all hold.
+fn founded() -> Row {
+    Row {
+        asks: false,
+        begun: None,
+        back: known(),
+        sent: known(),
+        carried: known(),
+        taken: known(),
     }
 }
 
-fn sent(
-    alloc: Global,
-    activation: u64,
-    message: Msg,
-    target: Name,
-    arg: Shown,
-    answer: Name,
-) -> Result<Event, Memory> {
-    let sent = Sent {
-        activation,
-        message,
-        target: Shown::Name(target),
-        verb: Str::copy_of(alloc, "put")?,
-        args: values(alloc, arg)?,
-        answer,
-    };
-    Ok(Event::Send(Boxed::new(alloc, sent)?))
+fn value(alloc: Global, name: Name) -> Result<Seq<Shown>, Memory> {
+    let mut values = Seq::new(alloc);
+    values.push(Shown::Name(name))?;
+    Ok(values)
 }
 
-fn made(alloc: Global, vat: u8) -> Result<Event, Memory> {
-    let made = MadeObject {
+fn message() -> Msg {
+    Msg {
+        sender: VatId(0),
+        number: 0,
+    }
+}
+
+fn push_call(alloc: Global, events: &mut Seq<Event>, row: &Row) -> Result<(), Memory> {
+    let verb = if row.asks { "getGuard" } else { "run" };
+    let called = Called {
         activation: 0,
-        object: Shown::Name(Name::Object(VatId(vat), 0)),
-        name: Str::copy_of(alloc, "t")?,
-        caps: Seq::new(alloc),
-        stamps: Seq::new(alloc),
+        target: Shown::Name(Name::Object(VatId(0), 0)),
+        verb: Str::copy_of(alloc, verb)?,
+        args: Seq::new(alloc),
+        begun: row.begun,
     };
-    Ok(Event::Made(Boxed::new(alloc, made)?))
-}
-
-fn push_first(alloc: Global, events: &mut Seq<Event>) -> Result<(), Memory> {
     events.push(Event::Open(VatId(0)))?;
-    events.push(Event::List(0, (VatId(0), 0), values(alloc, Shown::Int(0))?))?;
-    let first = Name::Answer(VatId(2), message(0, 0));
-    events.push(sent(
-        alloc,
-        0,
-        message(0, 0),
-        Name::Root(VatId(2)),
-        Shown::Int(0),
-        first,
-    )?)?;
-    let third = Shown::Name(Name::Root(VatId(2)));
-    events.push(Event::List(0, (VatId(0), 1), values(alloc, third)?))?;
-    let second = Name::Answer(VatId(1), message(0, 1));
-    events.push(sent(
-        alloc,
-        0,
-        message(0, 1),
-        Name::Root(VatId(1)),
-        Shown::Name(Name::Root(VatId(2))),
-        second,
-    )?)?;
-    events.push(Event::Done(0, Shown::Name(Name::Answer(VatId(1), message(0, 1)))))?;
-    events.push(Event::Wait(Name::Root(VatId(0)), Name::Answer(VatId(1), message(0, 1))))?;
-    Ok(())
+    events.push(Event::Audition(0, Shown::Name(Name::Object(VatId(0), 0))))?;
+    events.push(Event::Call(Boxed::new(alloc, called)?))?;
+    events.push(Event::Back(0, Shown::Name(row.back)))
 }
 
-fn push_opening(alloc: Global, events: &mut Seq<Event>, vat: u8) -> Result<(), Memory> {
-    events.push(Event::Open(VatId(vat)))?;
-    events.push(made(alloc, vat)?)?;
-    events.push(Event::Done(0, Shown::Name(Name::Object(VatId(vat), 0))))?;
-    events.push(Event::Settle(
-        Name::Root(VatId(vat)),
-        Shown::Name(Name::Object(VatId(vat), 0)),
-    ))?;
-    Ok(())
+fn push_sent(alloc: Global, events: &mut Seq<Event>, row: &Row) -> Result<(), Memory> {
+    let sent = Sent {
+        activation: 0,
+        message: message(),
+        target: Shown::Name(Name::Root(VatId(1))),
+        verb: Str::copy_of(alloc, "put")?,
+        args: value(alloc, row.sent)?,
+        answer: Name::Answer(VatId(1), message()),
+    };
+    events.push(Event::Send(Boxed::new(alloc, sent)?))
 }
 
-fn push_taken(alloc: Global, events: &mut Seq<Event>) -> Result<(), Memory> {
+fn push_taken(alloc: Global, events: &mut Seq<Event>, row: &Row) -> Result<(), Memory> {
     let note = ShownNote::Deliver {
-        message: message(0, 1),
+        message: message(),
         target: Name::Root(VatId(1)),
         verb: Str::copy_of(alloc, "put")?,
-        args: values(alloc, Shown::Name(Name::Gift(VatId(2), 0)))?,
+        args: value(alloc, row.carried)?,
     };
     events.push(Event::Carry(1, VatId(0), VatId(1), Boxed::new(alloc, note)?))?;
     events.push(Event::Turn(2, VatId(1)))?;
     let taken = Addressed {
         activation: 1,
-        message: message(0, 1),
+        message: message(),
         target: Shown::Name(Name::Object(VatId(1), 0)),
         verb: Str::copy_of(alloc, "put")?,
-        args: values(alloc, Shown::Name(Name::Gift(VatId(2), 0)))?,
+        args: value(alloc, row.taken)?,
     };
-    events.push(Event::Take(Boxed::new(alloc, taken)?))?;
-    events.push(Event::List(1, (VatId(1), 0), values(alloc, Shown::Int(2))?))?;
-    Ok(())
+    events.push(Event::Take(Boxed::new(alloc, taken)?))
 }
 
-/// The first line that uses something unknown, where the second vat sends on that name.
-fn judged(alloc: Global, target: Name) -> Result<Option<u64>, Memory> {
-    let mut events = Seq::new(alloc);
-    push_first(alloc, &mut events)?;
-    push_opening(alloc, &mut events, 1)?;
-    push_opening(alloc, &mut events, 2)?;
-    push_taken(alloc, &mut events)?;
-    let answer = Name::Answer(VatId(2), message(1, 0));
-    events.push(sent(alloc, 1, message(1, 0), target, Shown::Int(2), answer)?)?;
-    events.push(Event::Done(1, Shown::Name(Name::Answer(VatId(2), message(1, 0)))))?;
-    first_unknown(alloc, events.as_slice())
-}
-
-#[test]
-fn a_gift_is_known(rt: HostRuntime) -> Result<(), Memory> {
-    assert!(rt; judged(rt.alloc(), Name::Gift(VatId(2), 0))? == None);
-    Ok(())
+/// The first line that fails.
+fn judged(alloc: Global, row: &Row) -> Result<Option<u64>, Memory> {
+    let mut history = Seq::new(alloc);
+    push_call(alloc, &mut history, row)?;
+    push_sent(alloc, &mut history, row)?;
+    push_taken(alloc, &mut history, row)?;
+    let trace = Trace {
+        history,
+        names: Seq::new(alloc),
+        stop: None,
+    };
+    judge_uses(alloc, &trace)
 }
 
 #[test]
-fn an_object_of_another_vat_is_not_known(rt: HostRuntime) -> Result<(), Memory> {
-    assert!(rt; judged(rt.alloc(), Name::Object(VatId(0), 0))? == Some(20));
+fn all_is_known(rt: HostRuntime) -> Result<(), Memory> {
+    assert!(rt; judged(rt.alloc(), &founded())? == None);
+    Ok(())
+}
+
+#[test]
+fn a_gift_is_carried(rt: HostRuntime) -> Result<(), Memory> {
+    let gift = Name::Gift(VatId(2), 0);
+    let row = Row {
+        carried: gift,
+        taken: gift,
+        ..founded()
+    };
+    assert!(rt; judged(rt.alloc(), &row)? == None);
+    Ok(())
+}
+
+#[test]
+fn an_audition_gives_a_guard(rt: HostRuntime) -> Result<(), Memory> {
+    let row = Row {
+        asks: true,
+        begun: Some(1),
+        back: unknown(),
+        ..founded()
+    };
+    assert!(rt; judged(rt.alloc(), &row)? == None);
+    Ok(())
+}
+
+#[test]
+fn another_answer_of_an_audition_is_unknown(rt: HostRuntime) -> Result<(), Memory> {
+    let row = Row {
+        back: unknown(),
+        ..founded()
+    };
+    assert!(rt; judged(rt.alloc(), &row)? == Some(4));
+    Ok(())
+}
+
+#[test]
+fn what_is_called_does_not_know_what_its_caller_knows(rt: HostRuntime) -> Result<(), Memory> {
+    let row = Row {
+        begun: Some(1),
+        ..founded()
+    };
+    assert!(rt; judged(rt.alloc(), &row)? == Some(4));
+    Ok(())
+}
+
+#[test]
+fn what_is_sent_is_unknown(rt: HostRuntime) -> Result<(), Memory> {
+    let row = Row {
+        sent: unknown(),
+        ..founded()
+    };
+    assert!(rt; judged(rt.alloc(), &row)? == Some(5));
+    Ok(())
+}
+
+#[test]
+fn what_is_carried_was_not_sent(rt: HostRuntime) -> Result<(), Memory> {
+    let row = Row {
+        carried: unknown(),
+        taken: unknown(),
+        ..founded()
+    };
+    assert!(rt; judged(rt.alloc(), &row)? == Some(6));
+    Ok(())
+}
+
+#[test]
+fn what_is_taken_was_not_carried(rt: HostRuntime) -> Result<(), Memory> {
+    let row = Row {
+        taken: unknown(),
+        ..founded()
+    };
+    assert!(rt; judged(rt.alloc(), &row)? == Some(8));
     Ok(())
 }

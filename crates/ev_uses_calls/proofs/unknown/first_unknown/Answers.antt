@@ -1,28 +1,28 @@
 use Rattle.std.proofs.Common.{◌≤◌, length, refl, arith}
 use Rattle.std.proofs.lemmas.Option.{slice_get_read}
-use Rattle.def_trace.specs.Uses.{UsesKnown}
-use Rattle.ev_known.specs.Knowing.{KnownStand}
 use Rattle.ev_known.proofs.Judging.{judging_done, judging_fails, judging_init, judging_step}
+use Rattle.ev_uses_calls.specs.Kept.{KeptStand}
+use Rattle.ev_uses_calls.specs.Using.{IsOfKnown}
 use Rattle.ev_uses_calls.proofs.unknown.first_unknown.Goals as goal
 
 pub loop-index-init : goal.loop-index-init
-loop-index-init c = judging_init UsesKnown (KnownStand c.new-knowledge.result) c.args.events.now c.new-knowledge.ensures
+loop-index-init c = judging_init IsOfKnown (KeptStand c.new-kept.result) c.args.events.now c.new-kept.ensures
 
 pub returns-then-not-branch : goal.returns-then-not-branch
 returns-then-not-branch c =
     let i = c.loop-index.index in
     let get = slice_get_read c.args.events.now (length c.args.events.now) i c.index-events-index.result refl c.loop-index-test.true c.index-events-index.is in
-    judging_fails UsesKnown (KnownStand c.loop-index.knowledge) c.loop-index.at c.place_after-at.result c.args.events.now i c.index-events-index.result c.in_ok-uses_known.field-0
-    c.loop-index.invariant get c.place_after-at.ensures c.in_ok-uses_known.ensures c.if-not-branch.true
+    judging_fails IsOfKnown (KeptStand c.loop-index.kept) c.loop-index.at c.place_after-at.result c.args.events.now i c.index-events-index.result c.in_ok-is_of_known.field-0 c.loop-index.invariant get
+    c.place_after-at.ensures c.in_ok-is_of_known.ensures c.if-not-branch.true
 
 pub loop-index-preserved : goal.loop-index-preserved
 loop-index-preserved c =
     let i = c.loop-index.index in
     let get = slice_get_read c.args.events.now (length c.args.events.now) i c.index-events-index.result refl c.loop-index-test.true c.index-events-index.is in
-    judging_step UsesKnown (KnownStand c.loop-index.knowledge) (KnownStand c.tell_line.new.self) c.loop-index.at c.place_after-at.result c.args.events.now i c.index-events-index.result
-    c.in_ok-uses_known.field-0 c.loop-index.invariant get c.place_after-at.ensures c.in_ok-uses_known.ensures c.if-not-branch.false c.in_ok-tell_line.ensures
+    judging_step IsOfKnown (KeptStand c.loop-index.kept) (KeptStand c.tell_line.new.self) c.loop-index.at c.place_after-at.result c.args.events.now i c.index-events-index.result
+    c.in_ok-is_of_known.field-0 c.loop-index.invariant get c.place_after-at.ensures c.in_ok-is_of_known.ensures c.if-not-branch.false c.in_ok-tell_line.ensures
 
 pub returns : goal.returns
 returns c =
     let all : length c.args.events.now ≤ c.loop-index.index = omega (arith, c.loop-index-test.false) in
-    judging_done UsesKnown (KnownStand c.loop-index.knowledge) c.loop-index.at c.args.events.now c.loop-index.index c.loop-index.invariant all
+    judging_done IsOfKnown (KeptStand c.loop-index.kept) c.loop-index.at c.args.events.now c.loop-index.index c.loop-index.invariant all

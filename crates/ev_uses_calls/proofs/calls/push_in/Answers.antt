@@ -1,0 +1,10 @@
+use Rattle.std.proofs.Common.{◌∙◌, ap, ◌∷◌, List}
+use Rattle.ev_uses_calls.specs.declared.stack.OpenedCall.{OpenedCall}
+use Rattle.ev_uses_calls.specs.Calls.{stack}
+use Rattle.ev_uses_calls.proofs.Calling.{put_back}
+use Rattle.ev_uses_calls.proofs.calls.push_in.Goals as goal
+
+pub returns : goal.returns
+returns c =
+    put_back c.args.activation (c.args.call ∷ stack c.args.stacks.now.entries c.args.activation) c.push.new.self c.args.stacks.now.entries c.take_stack-calls.new.stacks.entries c.insert.new.self.entries
+    c.take_stack-calls.ensures.others c.in_ok-insert.ensures.updates.0 (c.in_ok-push.ensures ∙ ap (λ (xs : List OpenedCall). c.args.call ∷ xs) c.take_stack-calls.ensures.calls)

@@ -1,0 +1,28 @@
+use Rattle.std.proofs.Common.{◌≡◌, ℕ, Bool, true, Option, refl, sym, ap, subst, ◌∙◌}
+use Rattle.std.specs.Prelude.{◌↔◌}
+use Rattle.def_trace.specs.Uses as uses
+use Rattle.def_trace.specs.Uses.{KnowsName, open_calls}
+use Rattle.ev_uses_calls.specs.Calls.{stack}
+use Rattle.ev_uses_calls.proofs.Giving.{asked_inside, begun_inside, none_inside}
+use Rattle.ev_uses_calls.proofs.returning.is_name_given_back.Goals as goal
+
+pub returns-in_default : goal.returns-in_default
+returns-in_default c past h g =
+    let a = c.args.activation in
+    none_inside past a.at a.number c.args.name.now (open_calls past a.at a.number) (stack c.args.calls.now a) c.in_ok-known.known (g.each (record { at = a.at; number = a.number }))
+    (sym c.innermost.ensures ∙ c.in_default.is) (c.in_ok-known.ensures past h)
+
+pub returns-then-call : goal.returns-then-call
+returns-then-call c past h g =
+    let a = c.args.activation in (
+      λ e. asked_inside past a.at a.number c.args.name.now (open_calls past a.at a.number) (stack c.args.calls.now a) c.in-Some.call (g.each (record { at = a.at; number = a.number }))
+          (sym c.innermost.ensures ∙ c.in-Some.is) c.if-call.true,
+      λ x. refl,
+    )
+
+pub returns : goal.returns
+returns c past h g =
+    let a = c.args.activation in
+    let known : (c.in_ok-known-2.known ≡ true) ↔ KnowsName past a.at c.number_or-number.result c.args.name.now = c.in_ok-known-2.ensures past h in
+    begun_inside past a.at a.number c.args.name.now (open_calls past a.at a.number) (stack c.args.calls.now a) c.in-Some.call c.in_ok-known-2.known (g.each (record { at = a.at; number = a.number }))
+    (sym c.innermost.ensures ∙ c.in-Some.is) c.if-call.false (subst (λ (n : ℕ). (c.in_ok-known-2.known ≡ true) ↔ KnowsName past a.at n c.args.name.now) c.number_or-number.ensures known)

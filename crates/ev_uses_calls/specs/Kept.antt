@@ -1,0 +1,14 @@
+-- All that is kept of lines.
+use Rattle.std.specs.Prelude.{List}
+use Rattle.def_trace.specs.Uses.{Line}
+use Rattle.ev_known.specs.Knowing.{Known, KnownStand}
+use Rattle.ev_uses_calls.specs.Calls.{CallsStand, Stacks}
+
+pub record KeptTables : Type 0 where
+  pub knowledge : Known
+  pub calls : Stacks
+
+-- it stands for these lines
+pub record KeptStand (k : KeptTables) (past : List Line) : Type 0 where
+  pub knowledge : KnownStand k.knowledge past
+  pub calls : CallsStand k.calls past
