@@ -84,7 +84,7 @@ fn judged(alloc: Global, trace: &Trace) -> Result<String, Memory>
 
 /// The judgement on the trace that bytes spell, or the first rule that the bytes break, as `ev_trace::read_trace` tells them:
 /// a line `order yes` or `order no M1 M2`, and a line `uses yes` or `uses no LINE`, each with its line feed. Time grows with
-/// the trace.
+/// the trace, and with what leads to each name that is used and that its activation does not have by itself.
 pub fn tell(alloc: Global, bytes: &[u8]) -> Result<String, ScriptFault>
     ensures { Tells result (read bytes.now) }
 {
