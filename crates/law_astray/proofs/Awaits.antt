@@ -1,9 +1,9 @@
 -- Ejectors that are live are awaited: what a list of escapes awaits, and how something that a vat does ends under them.
-use Rattle.std.proofs.Common.{◌≡◌, ℕ, zero, suc, ◌-◌, Bool, true, false, List, [], ◌∷◌, ◌++◌, Option, Some, None, if◌then◌else◌, refl, sym, ◌⊎◌, inl, inr, ◌==◌, length}
+use Rattle.std.proofs.Common.{◌≡◌, ℕ, zero, suc, Bool, true, false, List, [], ◌∷◌, ◌++◌, Option, Some, None, if◌then◌else◌, refl, ◌⊎◌, inl, inr, ◌==◌, length}
 use Rattle.std.specs.Prelude.{slice_get, nat_le}
-use Rattle.std.proofs.lemmas.Bool.{eqb-true, eq-eqb}
-use Rattle.def_machine.specs.Values.{Words, Value, Broken, Naming, Coming, IsOwn}
-use Rattle.def_machine.specs.State.{Thing, Made, Ejector, Audition, Resolver, View, Binding, Message, Note, Happened, Called, Back, Thrown, Left, EjectorMade, Sends, Reacts, Settles, Settle, Change, Vat, Stop, Done, Gives, Throws, Ejects, Stops, Act, ◌>>=◌, ◌>>◌, and_then, end_by, ending, give, throw, stop, eject, look, tell, spend, spent, new_activation, new_thing, kill, change, dead, new_slot, write_slot, new_list, enqueue, send_out, alter, come, draw, draws, new_promise, new_message, new_lone_message}
+use Rattle.std.proofs.lemmas.Bool.{eq-eqb}
+use Rattle.def_machine.specs.Values.{Words, Value, Broken, Naming, Coming}
+use Rattle.def_machine.specs.State.{Thing, Made, Ejector, Audition, Resolver, View, Binding, Message, Note, Happened, Back, Thrown, Left, EjectorMade, Sends, Reacts, Settles, Settle, Change, Vat, Stop, Done, Gives, Throws, Ejects, Stops, Act, ◌>>=◌, ◌>>◌, and_then, end_by, ending, give, throw, stop, eject, look, tell, spend, spent, new_activation, new_thing, kill, change, dead, new_slot, write_slot, new_list, enqueue, send_out, alter, come, draw, draws, new_promise, new_message, new_lone_message}
 use Rattle.def_machine.specs.Refs.{settle, resolve, send, send_only, react}
 use Rattle.def_machine.specs.Scopes.{ended}
 use Rattle.def_machine.specs.Calls.{leave, leaving, new_ejector}

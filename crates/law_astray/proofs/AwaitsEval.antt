@@ -1,8 +1,8 @@
 -- All of evaluation leaves by ejectors alone that are awaited.
-use Rattle.std.proofs.Common.{◌≡◌, ℕ, zero, suc, Bool, true, false, List, [], ◌∷◌, Option, Some, None, refl, ap, codes, if◌then◌else◌, ◌==◌}
+use Rattle.std.proofs.Common.{◌≡◌, ℕ, zero, suc, Bool, true, false, List, [], ◌∷◌, Option, Some, None, refl, ap}
 use Rattle.def_machine.specs.Values.{Words, Value, Null, Flag, Text, Prim, Broken, Items, Ref, Naming, Spot, Own}
-use Rattle.def_machine.specs.State.{Bound, Fixed, Slot, Scope, Binding, Cell, View, Thing, Made, Ejector, Audition, Resolver, Message, Standing, Unsettled, Act, Took, Got, SlotMade, SlotRead, SlotWrote, ListMade, PromiseMade, ObjectMade, Finished, Threw, ◌>>=◌, ◌>>◌, give, throw, eject, ending, tell, spend, new_activation, new_thing, new_slot, write_slot, new_list, new_promise, for_some, WhereSome}
-use Rattle.def_machine.specs.Refs.{Place, Near, settle, resolve, send, send_only, react}
+use Rattle.def_machine.specs.State.{Bound, Fixed, Slot, Scope, Binding, Cell, View, Thing, Made, Ejector, Audition, Resolver, Standing, Unsettled, Act, Got, ◌>>=◌, ◌>>◌, give, throw, tell}
+use Rattle.def_machine.specs.Refs.{Place, Near}
 use Rattle.def_machine.specs.Form.{Item, Begin, End, Word, Fact}
 use Rattle.def_machine.specs.Free.{BoundNoun}
 use Rattle.def_machine.specs.Native.{Reply, Says, Writes, Lists, Iterates, Fails, Guard, Asked, MakesList, Ranges, Same, Compares, Loops, SendsTo, CallsTo, MakesPromise, Breaks, Tells, Whens, ThrowsIt, IsStamped, Coerces, AddsNull, NoMethod}
@@ -15,7 +15,7 @@ use Rattle.def_kernel.specs.declared.node.Node.{Node}
 use Rattle.def_kernel.specs.declared.node.Node.TheVariants.{Lit, Noun, Set, Def, Call, Sequence, If, Escape, Try, Finally, Hide, MatchBind, Object, Final, Var, Any, ListPattern, Via}
 use Rattle.law_machine.proofs.Walks.{walk_bind, walk_then}
 use Rattle.law_name.specs.Names.{IsAmong}
-use Rattle.law_astray.proofs.Awaits.{Awaited, AwaitedBy, awaited_closed, awaits, await_ending, await_throw, await_eject, await_tell, await_activation, await_audition, await_look_thing, await_escape, await_break, await_resolve, await_send, await_send_only, await_react, await_ended, await_leaving}
+use Rattle.law_astray.proofs.Awaits.{Awaited, AwaitedBy, awaited_closed, awaits, await_ending, await_eject, await_look_thing, await_escape, await_break, await_resolve, await_send, await_send_only, await_react, await_ended, await_leaving}
 
 -- a call does, whatever is called
 abbrev pub GoodCaller : {N : Type 0} → Caller N → Type 0

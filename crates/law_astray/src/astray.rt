@@ -1,7 +1,7 @@
 //! Steps that do not go astray.
 
 ghost use Rattle.law_astray.specs.Astray.{SettlingsEnd};
-ghost use Rattle.law_astray.specs.Ejections.{EjectionsAreAwaited};
+ghost use Rattle.law_astray.specs.Ejections.{EjectionsAreAwaited, EjectionsAreAwaitedInRuns};
 ghost use Rattle.law_astray.specs.Runs.{ArrivalsAreNotAstray};
 
 /// A settling does not go astray, in every state in which each name that waits and each answer of a message that is
@@ -21,4 +21,10 @@ pub fn arrivals_are_not_astray()
 /// program or in a turn's message leaves to an escape, a match or a matcher that stands in it. None is live after.
 pub fn ejections_are_awaited()
     ensures { EjectionsAreAwaited }
+{}
+
+/// So no turn of a run is left by an ejector: in every world, after any of the opening turns and after any entries of a
+/// schedule, what a vat evaluates then leaves by ejectors of its own turn alone. This asks nothing of the script.
+pub fn ejections_are_awaited_in_runs()
+    ensures { EjectionsAreAwaitedInRuns }
 {}
