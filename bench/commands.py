@@ -1,5 +1,5 @@
 #!/usr/bin/env python3
-"""Times the commands that answer lines, write a script or sum up its run: seconds of processor, and memory, on inputs of up to 1 MiB.
+"""Times the commands that answer lines, judge the text of a run, write a script or sum up its run: seconds of processor, and memory, on inputs of up to 1 MiB.
 
 Run it at the top of the repository. It builds crates/evat. The figures should grow as the input does.
 """
@@ -24,7 +24,37 @@ def repeated(front: str, line, size: int) -> bytes:
     return "".join(lines).encode()
 
 
+TWO_VATS = "open a\n!0 done null\nopen b\n!0 made b.0 o\n!0 done b.0\nsettle @b b.0\n"
+
+
+def sent(number: int) -> str:
+    """One line of a run in which vat a sends b one message after the other, each with the answer of the one before."""
+    k = number // 6
+    before = f"b?a/{max(k - 1, 0)}"
+    return [
+        f"{3 * k + 1} turn a\n",
+        f"!0 send a/{k} @b f {before} -> b?a/{k}\n",
+        f"{3 * k + 2} carry a b deliver a/{k} @b f {before}\n",
+        f"{3 * k + 3} turn b\n",
+        f"!{k + 1} take a/{k} b.0 f {before}\n",
+        f"settle b?a/{k} {k}\n",
+    ][number % 6]
+
+
+def settled(number: int) -> str:
+    """One line of a run in which each promise settles to the next one, and that one is used."""
+    k = number // 2
+    return [f"settle a~{k} a~{k + 1}\n", f"!0 call 1 add a~{k + 1}\n"][number % 2]
+
+
+def trace(front: str, line, size: int) -> bytes:
+    """A trace of such lines."""
+    return repeated(front, line, size - 4) + b"end\n"
+
+
 INPUTS = {
+    ("check", "messages of two vats"): lambda size: trace(TWO_VATS, sent, size),
+    ("check", "promises in a chain"): lambda size: trace("open a\n!0 promise a~0 a.0\n", settled, size),
     ("sturdy", "register"): lambda size: repeated(KEY, lambda n: f"register {n % 10000}\n", size),
     ("sturdy", "connect, cut, notice"): lambda size: repeated(
         KEY, lambda n: ["connect\n", "use 1 0\n", "cut\n", "notice host\n", "notice guest\n"][n % 5], size

@@ -15,9 +15,9 @@ ghost use Rattle.ev_eval.specs.Turn.{Ends, EndsAs, EndsBy, GivesThere, LeftBy, b
 
 use def_kernel::Kernel;
 use ev_base::{ActId, Memory, NodeId, PromId, Seq, TextId, Value, VatId};
-use ev_frames::{evaluate, take_message};
 use ev_heap::Heap;
 use ev_intro::Words;
+use ev_nodes::{evaluate, take_message};
 use ev_pass::{Interior, Post};
 use ev_refs::Refs;
 use ev_room::exit::Exit;

@@ -22,14 +22,14 @@ use Rattle.ev_frames.specs.declared.frames.Frame.{Frame}
 use Rattle.ev_frames.specs.declared.frames.Frame.TheVariants.{Part as PartOf, Guard as GuardOf}
 use Rattle.ev_frames.specs.declared.frames.Guard.TheVariants.{Audit, Close}
 use Rattle.ev_frames.specs.declared.frames.Part.TheVariants.{Auditors, Stamps}
-use Rattle.ev_frames.specs.declared.nodes.Now.{Now}
+use Rattle.ev_frames.specs.declared.now.Now.{Now}
 use Rattle.ev_frames.specs.Rest.{Goes, Nested, rest, settled, given, going, guarding, came_back}
-use Rattle.ev_frames.proofs.Calling.{answer_gives, given_goes}
-use Rattle.ev_frames.proofs.Ending.{part_again}
-use Rattle.ev_frames.proofs.Native.{value_pushed}
-use Rattle.ev_frames.proofs.Rests.{then_then, part_pushed, goes_as}
 use Rattle.ev_room.proofs.Exits.{unless_as}
 use Rattle.ev_room.proofs.Places.{drop_none, drop_some}
+use Rattle.ev_frames.proofs.Again.{part_again}
+use Rattle.ev_frames.proofs.Calling.{answer_gives, given_goes}
+use Rattle.ev_frames.proofs.Native.{value_pushed}
+use Rattle.ev_frames.proofs.Rests.{goes_as, part_pushed, then_then}
 
 -- ---- verdicts
 

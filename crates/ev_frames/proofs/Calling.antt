@@ -22,10 +22,10 @@ use Rattle.ev_steps.specs.Steps.{Caller, Evaluator, again_by, audition_answer, c
 use Rattle.ev_frames.specs.declared.frames.Frame.{Frame}
 use Rattle.ev_frames.specs.declared.frames.Frame.TheVariants.{Body, Guard as GuardOf}
 use Rattle.ev_frames.specs.declared.frames.Guard.TheVariants.{Alone}
-use Rattle.ev_frames.specs.declared.nodes.Now.{Now}
+use Rattle.ev_frames.specs.declared.now.Now.{Now}
 use Rattle.ev_frames.specs.Rest.{Goes, Stays, Nested, rest, settled, valued, given, guarding, opened_method, bound_then, activated, verb_of, args_of}
 use Rattle.ev_room.proofs.Exits.{unless_as}
-use Rattle.ev_frames.proofs.Rests.{then_then, unless_so, goes_as}
+use Rattle.ev_frames.proofs.Rests.{goes_as, then_then, unless_so}
 
 pub body_nested : (fs gs : List Frame) (here there : Scope) → Nested fs here → gs ≡ Body here ∷ fs → Nested gs there
 unfolding Nested

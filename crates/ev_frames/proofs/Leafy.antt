@@ -10,12 +10,12 @@ use Rattle.ev_room.specs.Acts.{Out, Unless, and_then, ◌>>=◌, cut}
 use Rattle.ev_steps.specs.Steps.{Evaluator, gathered, last_of, call_node}
 use Rattle.def_machine.specs.Values.{Words}
 use Rattle.ev_frames.specs.declared.frames.Frame.{Frame}
-use Rattle.ev_frames.specs.declared.nodes.Now.{Now}
+use Rattle.ev_frames.specs.declared.now.Now.{Now}
 use Rattle.ev_frames.specs.Rest.{Goes, Nested, rest, call_on}
 use Rattle.ev_room.proofs.Exits.{unless_as}
-use Rattle.ev_frames.proofs.Rests.{cut_all}
 use Rattle.ev_room.proofs.Places.{drop_some}
-use Rattle.ev_frames.proofs.Ending.{one_more}
+use Rattle.ev_frames.proofs.Again.{one_more}
+use Rattle.ev_frames.proofs.Rests.{cut_all}
 
 pub leaf_passes : (rec : Evaluator) (v g : Value) (es : List ℕ) (k e : ℕ) (here : Scope) (s t : Room) (due : Out (Value × Scope)) → slice_get es k ≡ Some e → rec.expression e here s ≡ (Ok (g, here), t)
     → last_of rec v (drop k es) here s ≡ due → last_of rec g (drop (k + 1) es) here t ≡ due

@@ -1,11 +1,8 @@
+pub mod Again
 pub mod Auditing
-pub mod Begins
 pub mod Calling
-pub mod Coercing
-pub mod Ending
-pub mod Guarding
+pub mod Failing
 pub mod Leafy
-pub mod Looping
 pub mod Matching
 pub mod Native
 pub mod Patterning

@@ -17,12 +17,12 @@ use Rattle.ev_room.specs.Acts.{Out, Unless, and_then, ◌>>=◌, ◌>>◌, give,
 use Rattle.ev_steps.specs.Steps.{evaluator, handed_over, match_all, matched, message_pair, try_matchers}
 use Rattle.ev_frames.specs.declared.frames.Frame.{Frame}
 use Rattle.ev_frames.specs.declared.frames.Frame.TheVariants.{Case as CaseOf}
-use Rattle.ev_frames.specs.declared.nodes.Now.{Now}
+use Rattle.ev_frames.specs.declared.now.Now.{Now}
 use Rattle.ev_frames.specs.Rest.{Goes, Nested, rest, bound_as, came_to}
 use Rattle.ev_room.proofs.Exits.{unless_as}
-use Rattle.ev_frames.proofs.Rests.{case_pushed, same_behind, nested_behind, goes_as, cut_in_front}
 use Rattle.ev_room.proofs.Places.{drop_some, drop_none}
 use Rattle.ev_frames.proofs.Patterning.{scope_back}
+use Rattle.ev_frames.proofs.Rests.{case_pushed, cut_in_front, goes_as, nested_behind, same_behind}
 
 module _ (tree : List Node) (d : ℕ) (fs gs : List Frame) (here : Scope) (s : Room) (v : Value) where
   pub case_begins : (m : Case) (ms : List Case) (k j : ℕ) (t : Room) (hs : List Frame) (r : Result Now Exit) (a : Scope) (u : Room) → new_ejector here.act s ≡ (Ok j, t) → gs ≡ CaseOf d (length here.nouns) j m.body ms k v ∷ fs

@@ -29,10 +29,10 @@ use Rattle.ev_frames.specs.declared.frames.Frame.{Frame}
 use Rattle.ev_frames.specs.declared.frames.Frame.TheVariants.{Guard as GuardOf}
 use Rattle.ev_frames.specs.declared.frames.Guard.{Guard}
 use Rattle.ev_frames.specs.declared.frames.Guard.TheVariants.{Close, Members, Turns}
-use Rattle.ev_frames.specs.declared.nodes.Now.{Now}
+use Rattle.ev_frames.specs.declared.now.Now.{Now}
 use Rattle.ev_frames.specs.Rest.{Goes, rest, settled, valued, guarding, came_back}
-use Rattle.ev_frames.proofs.Rests.{guard_pushed, goes_as}
 use Rattle.ev_room.proofs.Places.{drop_none, drop_some}
+use Rattle.ev_frames.proofs.Rests.{goes_as, guard_pushed}
 
 pub valued_settled : (here : Scope) (o : Out Value) → valued (settled here o) ≡ o
 unfolding and_then give

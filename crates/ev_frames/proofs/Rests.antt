@@ -1,5 +1,5 @@
 -- What is left to do: frames as they are pushed, and scopes that have more names.
-use Rattle.std.proofs.Common.{◌≡◌, ℕ, ◌≤◌, List, [], ◌∷◌, Ok, Err, length, drop, refl, sym, ap, subst, ◌∙◌, arith}
+use Rattle.std.proofs.Common.{◌≡◌, ℕ, ◌≤◌, List, [], ◌∷◌, Ok, Err, length, drop, refl, sym, ap, subst, ◌∙◌, arith, ◌-◌}
 use Rattle.std.specs.Prelude.{Result, take}
 use Rattle.std.proofs.lemmas.List.{take-take, length-take}
 use Rattle.ev_base.specs.declared.values.Value.{Value}
@@ -18,7 +18,7 @@ use Rattle.ev_frames.specs.declared.frames.Frame.{Frame}
 use Rattle.ev_frames.specs.declared.frames.Frame.TheVariants.{Part as PartOf, Guard as GuardOf, Match, Case as CaseOf, Body}
 use Rattle.ev_frames.specs.declared.frames.Part.{Part}
 use Rattle.ev_frames.specs.declared.frames.Guard.{Guard}
-use Rattle.ev_frames.specs.declared.nodes.Now.{Now}
+use Rattle.ev_frames.specs.declared.now.Now.{Now}
 use Rattle.ev_frames.specs.Rest.{Goes, Nested, rest, going, guarding, scoped, settled, valued}
 
 pub then_then : {A B C : Type 0} (o : Out A) (f : A → Act B) (g : B → Act C) → and_then (and_then o f) g ≡ and_then o (λ a t. and_then (f a t) g)
@@ -142,3 +142,10 @@ goes_on tree fs a e s o h = unless_as e (λ (x : o ≡ (Err e, s)). ap (λ (p : 
 
 pub goes_as : (tree : List Node) (r : Result Now Exit) (gs : List Frame) (b : Scope) (u : Room) (due own : Out (Value × Scope)) → own ≡ due → Goes tree r gs b u due → Goes tree r gs b u own
 goes_as tree r gs b u due own e h = rw e h
+
+-- what gave a value in a scope with more names
+pub given_behind : (tree : List Node) (fs : List Frame) (a b : Scope) (o : Out (Value × Scope)) (v : Value) (t : Room) → Extends a b → Nested fs a → o ≡ (Ok (v, b), t) → rest tree fs a o ≡ rest tree fs b (Ok (v, b), t)
+given_behind tree fs a b o v t e h is = rw is (same_behind tree fs a b (Ok (v, b), t) e h)
+
+pub ended_behind : (tree : List Node) (fs : List Frame) (a b : Scope) (o : Out (Value × Scope)) (x : Exit) (t : Room) → Extends a b → Nested fs a → Unless x (o ≡ (Err x, t)) → Unless x (rest tree fs a o ≡ rest tree fs b (Err x, t))
+ended_behind tree fs a b o x t e h is = unless_as x (λ (y : o ≡ (Err x, t)). ap (λ (p : Out (Value × Scope)). rest tree fs a p) y ∙ same_behind tree fs a b (Err x, t) e h) is

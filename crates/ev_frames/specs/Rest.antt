@@ -8,7 +8,7 @@ use Rattle.def_kernel.specs.declared.node.Node.TheVariants.{Call, Sequence, Meth
 use Rattle.def_machine.specs.Values.{Words}
 use Rattle.def_machine.specs.Scopes.{Case}
 use Rattle.ev_room.specs.declared.exit.Exit.{Exit}
-use Rattle.ev_room.specs.declared.exit.Exit.TheVariants.{Thrown, Ejected, Fuel, Deep, Repeated, Astray, Memory}
+use Rattle.ev_room.specs.declared.exit.Exit.TheVariants.{Thrown, Ejected, Astray}
 use Rattle.ev_room.specs.declared.exit.Came.{Came}
 use Rattle.ev_room.specs.declared.exit.Came.TheVariants.{Gave, Threw, Left}
 use Rattle.ev_pass.specs.declared.interior.Interior.{Interior as Room}
@@ -24,8 +24,8 @@ use Rattle.ev_frames.specs.declared.frames.Part.{Part}
 use Rattle.ev_frames.specs.declared.frames.Part.TheVariants.{Assign, Writes, Guarded, Coerced, DefineBy, Define, Yields, Then, Binds, Asks, Binding, Fails, Matching, Receiver, Args, Auditors, Stamps as Asked, Sequence as Parts, Test, Branch}
 use Rattle.ev_frames.specs.declared.frames.Guard.{Guard}
 use Rattle.ev_frames.specs.declared.frames.Guard.TheVariants.{Alone, Escape, Try, First, Last, Audit, Close, Members, Turns}
-use Rattle.ev_frames.specs.declared.nodes.Now.{Now}
-use Rattle.ev_frames.specs.declared.nodes.Now.TheVariants.{Begin, Bind, Member, Turn, Refuse, Calls, Audit as Audits, Ended}
+use Rattle.ev_frames.specs.declared.now.Now.{Now}
+use Rattle.ev_frames.specs.declared.now.Now.TheVariants.{Begin, Bind, Member, Turn, Refuse, Calls, Audit as Audits, Ended}
 
 -- a value, without the scope after it
 abbrev pub valued : Out (Value × Scope) → Out Value
@@ -196,25 +196,3 @@ unfoldable pub handled_on : Evaluator → ℕ → ℕ → Value → Scope → Ac
 handled_on rec p e v here = do
   inner ← rec.pattern p v held.Null here
   rec.expression e inner
-
--- ---- the loop
-
--- what comes next, or how all of it ended: what stops ends all at once
-unfoldable pub stepped : Result Now Exit → Result Now (Result Value Exit)
-stepped (Ok now) = Ok now
-stepped (Err (Thrown id)) = Ok (Ended (Threw id))
-stepped (Err (Ejected n v)) = Ok (Ended (Left n v))
-stepped (Err Fuel) = Err (Err Fuel)
-stepped (Err Deep) = Err (Err Deep)
-stepped (Err (Repeated i j)) = Err (Err (Repeated i j))
-stepped (Err Astray) = Err (Err Astray)
-stepped (Err Memory) = Err (Err Memory)
-
-abbrev pub StepsTo : List Node → Result Now (Result Value Exit) → List Frame → Scope → Room → Out (Value × Scope) → Type 0
-StepsTo tree (Ok now) fs here s due = due ≡ due_of tree now fs here s
-StepsTo tree (Err (Ok v)) fs here s due = due ≡ (Ok (v, here), s)
-StepsTo tree (Err (Err e)) fs here s due = Unless e (due ≡ (Err e, s))
-
-abbrev pub NestedOn : Result Now (Result Value Exit) → List Frame → Scope → Type 0
-NestedOn (Ok now) fs here = Nested fs here
-NestedOn (Err o) fs here = Unit {0}

@@ -8,9 +8,8 @@ ghost use Rattle.ev_room.specs.declared.scope.Scope.{Scope as Surroundings};
 ghost use Rattle.ev_frames.specs.Rest.{Goes, Nested, Replies, Stays, rest, settled};
 
 use crate::frames::{Frames, Guard};
-use crate::guards::guard;
 use crate::natives::members_from;
-use crate::nodes::{Now, given};
+use crate::now::{Now, guard};
 use def_kernel::Kernel;
 use ev_base::{ActId, Memory, Seq, Value};
 use ev_prims::{Reply, data_reply};

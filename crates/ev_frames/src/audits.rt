@@ -10,11 +10,9 @@ ghost use Rattle.ev_room.specs.declared.scope.Scope.{Scope as Surroundings};
 ghost use Rattle.ev_frames.specs.Rest.{Goes, Nested, Stays, came_back, rest, settled};
 
 use crate::frames::{Frames, Guard, Part};
-use crate::guards::guard;
 use crate::leaves::leaf_args;
 use crate::natives::member_at;
-use crate::nodes::{Now, enter, given};
-use crate::parts::again;
+use crate::now::{Now, again, enter, given, guard};
 use crate::patterns::copied;
 use def_kernel::Kernel;
 use ev_audit::{AuditView, AuditionAsk, audition_ask};
@@ -102,7 +100,7 @@ fn verdict(
 
 /// The call of an auditor has come to an end. However it did, the audition is dead after it.
 #[tactic(auto, using(crate::proofs::Auditing::audit_gave, crate::proofs::Auditing::audit_threw, crate::proofs::Auditing::audit_left, crate::proofs::Rests::gone))]
-pub(crate) fn audit_ended(
+pub fn audit_ended(
     program: &Kernel,
     audition: ObjId,
     came: Came,
@@ -128,7 +126,7 @@ pub(crate) fn audit_ended(
 // ---- objects
 
 /// The object comes to be, with these stamps.
-#[tactic(auto, using(crate::proofs::Begins::given_behind, crate::proofs::Begins::ended_behind, crate::proofs::Rests::nested_behind, crate::proofs::Rests::gone))]
+#[tactic(auto, using(crate::proofs::Rests::given_behind, crate::proofs::Rests::ended_behind, crate::proofs::Rests::nested_behind, crate::proofs::Rests::gone))]
 fn made(
     program: &Kernel,
     id: NodeId,
@@ -210,7 +208,7 @@ pub(crate) fn ask_from(
 
 /// An auditor has given its verdict.
 #[tactic(auto, using(crate::proofs::Auditing::stamps_more, crate::proofs::Auditing::stamps_same, crate::proofs::Rests::gone))]
-pub(crate) fn stamped(
+pub fn stamped(
     program: &Kernel,
     depth: u32,
     id: NodeId,
@@ -243,7 +241,7 @@ pub(crate) fn stamped(
 }
 
 /// The auditors of an object expression so far are known.
-#[tactic(auto, using(crate::proofs::Auditing::auditors_next, crate::proofs::Auditing::auditors_done, crate::proofs::Ending::unmarked))]
+#[tactic(auto, using(crate::proofs::Auditing::auditors_next, crate::proofs::Auditing::auditors_done, crate::proofs::Again::unmarked))]
 fn object_on(
     program: &Kernel,
     depth: u32,
@@ -282,8 +280,8 @@ fn object_on(
 }
 
 /// The auditors of an object expression so far are known, and the leaves behind them are evaluated at once.
-#[tactic(auto, using(crate::proofs::Auditing::auditors_pass, crate::proofs::Auditing::auditors_end, crate::proofs::Rests::gone, crate::proofs::Ending::unmarked))]
-pub(crate) fn auditors_on(
+#[tactic(auto, using(crate::proofs::Auditing::auditors_pass, crate::proofs::Auditing::auditors_end, crate::proofs::Rests::gone, crate::proofs::Again::unmarked))]
+pub fn auditors_on(
     program: &Kernel,
     depth: u32,
     mark: usize,
@@ -308,7 +306,7 @@ pub(crate) fn auditors_on(
 
 /// An object expression begins.
 #[tactic(auto, using(crate::proofs::Leafy::all_nested, crate::proofs::Auditing::auditors_first, crate::proofs::Rests::gone))]
-pub(crate) fn object_node(
+pub fn object_node(
     program: &Kernel,
     depth: u32,
     id: NodeId,

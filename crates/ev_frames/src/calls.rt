@@ -12,7 +12,7 @@ use crate::answers::call_data;
 use crate::audits::call_audition;
 use crate::frames::{Frame, Frames};
 use crate::matchers::matchers_begin;
-use crate::nodes::{Now, given};
+use crate::now::{Now, given};
 use crate::patterns::method_on;
 use crate::performs::perform;
 use def_kernel::{Kernel, Node};
@@ -259,7 +259,7 @@ fn call_at(
 
 /// A call whose receiver and arguments are known.
 #[tactic(auto, using(crate::proofs::Calling::call_goes))]
-pub(crate) fn calling(
+pub fn calling(
     program: &Kernel,
     depth: u32,
     receiver: Value,
@@ -281,7 +281,7 @@ pub(crate) fn calling(
 
 /// A call again: within so many levels, or, where a turn calls, with its levels counted anew.
 #[tactic(auto, unfolding(ev_steps::specs::Steps::again_by))]
-pub(crate) fn call_again(
+pub fn call_again(
     program: &Kernel,
     depth: u32,
     levels: Option<u128>,

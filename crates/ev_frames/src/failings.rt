@@ -8,7 +8,7 @@ ghost use Rattle.ev_refs.specs.Follow.{followed};
 ghost use Rattle.ev_frames.specs.Rest.{Goes, Nested, Stays, rest, settled};
 
 use crate::frames::{Frames, Part};
-use crate::nodes::{Now, enter};
+use crate::now::{Now, enter};
 use def_kernel::Kernel;
 use ev_base::{TextId, Value};
 use ev_prims::Guard;
@@ -18,10 +18,10 @@ use ev_room::room::Room;
 use ev_room::scope::Scope;
 
 /// The problem of what is no guard and is to coerce.
-pub(crate) const NOT_A_GUARD: TextId = TextId(17);
+pub const NOT_A_GUARD: TextId = TextId(17);
 
 /// Whether a value is null.
-pub(crate) fn is_null(value: Value) -> bool
+pub fn is_null(value: Value) -> bool
     ensures { result ≡ is_null value }
 {
     match value {
@@ -31,7 +31,7 @@ pub(crate) fn is_null(value: Value) -> bool
 }
 
 /// A refusal calls the ejector where there is one, and throws where that comes back.
-#[tactic(auto, using(crate::proofs::Coercing::refuses_at_once, crate::proofs::Coercing::refuses_by))]
+#[tactic(auto, using(crate::proofs::Failing::refuses_at_once, crate::proofs::Failing::refuses_by))]
 fn refuses(
     program: &Kernel,
     depth: u32,

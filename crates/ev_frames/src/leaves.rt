@@ -1,20 +1,53 @@
 //! Parts that are literals and nouns are evaluated at once, without a frame.
 
 ghost use Rattle.std.specs.Prelude.{◌≡◌, Some, drop, length, slice_get};
-ghost use Rattle.ev_steps.specs.Steps.{evaluator, gathered, last_of};
+ghost use Rattle.ev_steps.specs.Steps.{evaluator, gathered, last_of, literal_node, literal_value, noun_node};
 ghost use Rattle.def_kernel.specs.declared.node.Node.TheVariants.{Lit, Noun};
-ghost use Rattle.ev_room.specs.Acts.{GivesIn};
+ghost use Rattle.ev_room.specs.Acts.{Gives, GivesIn};
 ghost use Rattle.ev_frames.specs.Leaves.{Gathers, LeafGives, Passes};
+ghost use Rattle.ev_room.specs.declared.scope.Scope.{Scope as Surroundings};
 
-use crate::nodes::{literal_node, noun_node};
 use def_kernel::{Kernel, Literal, Node};
 use ev_base::{NodeId, Seq, Value};
+use ev_room::data::text_kept;
 use ev_room::exit::Exit;
+use ev_room::nouns::read_bound;
 use ev_room::room::{Room, spend};
-use ev_room::scope::Scope;
+use ev_room::scope::{Scope, found};
 use ev_room::tree::node_at;
 use ev_steps::pattern::part_at;
 use ev_word::Word;
+
+/// The value of a literal.
+#[tactic(auto, unfolding(ev_steps::specs::Steps::literal_value, ev_room::specs::Acts::give))]
+fn literal_value(literal: &Literal, room: &mut Room) -> Result<Value, Exit>
+    ensures outcome { Gives result room.new (literal_value literal.now room.old) }
+{
+    match literal {
+        Literal::Int(number) => Ok(Value::Int(*number)),
+        Literal::Char(letter) => Ok(Value::Char(*letter)),
+        Literal::Text(text) => text_kept(text, room),
+    }
+}
+
+/// Evaluates a literal.
+#[tactic(auto, using(ev_room::proofs::Exits::ends), unfolding(ev_steps::specs::Steps::opened_steps))]
+pub fn literal_node(literal: &Literal, here: &Scope, room: &mut Room) -> Result<Value, Exit>
+    ensures outcome { GivesIn result here.now room.new (literal_node literal.now here.now room.old) }
+{
+    let value = literal_value(literal, room)?;
+    Ok(value)
+}
+
+/// The value of a noun.
+#[tactic(auto, using(ev_room::proofs::Exits::ends), unfolding(ev_steps::specs::Steps::opened_steps))]
+pub fn noun_node(noun: &Word, here: &Scope, room: &mut Room) -> Result<Value, Exit>
+    ensures outcome { GivesIn result here.now room.new (noun_node noun.now here.now room.old) }
+{
+    let bound = found(here.nouns.as_slice(), noun);
+    let value = read_bound(here.act, bound, noun.as_str(), room)?;
+    Ok(value)
+}
 
 /// Evaluates a literal.
 #[tactic(auto, using(ev_steps::proofs::Depth::expression_deep, ev_steps::proofs::Depth::expression_goes, ev_room::proofs::Exits::ends), unfolding(ev_steps::specs::Steps::opened_steps))]
@@ -82,7 +115,7 @@ fn leaf_in(
 }
 
 /// The same of the node of a number.
-pub(crate) fn leaf(
+pub fn leaf(
     program: &Kernel,
     depth: u32,
     id: NodeId,
@@ -100,7 +133,7 @@ pub(crate) fn leaf(
 /// Evaluates the parts of a sequence from a place on, as far as they are literals and nouns: the place behind them, and the value of
 /// the last of them, or the one before.
 #[tactic(auto, using(crate::proofs::Leafy::leaf_passes, crate::proofs::Leafy::leaf_ends, std::proofs::lemmas::Option::slice_get_within))]
-pub(crate) fn leaves(
+pub fn leaves(
     program: &Kernel,
     depth: u32,
     begun: usize,
@@ -125,7 +158,7 @@ pub(crate) fn leaves(
 
 /// Evaluates the arguments of a call behind those so far, as far as they are literals and nouns.
 #[tactic(auto, using(crate::proofs::Leafy::leaf_gathers, crate::proofs::Leafy::leaf_gathers_not, std::proofs::lemmas::Option::slice_get_within))]
-pub(crate) fn leaf_args(
+pub fn leaf_args(
     program: &Kernel,
     depth: u32,
     so_far: Seq<Value>,

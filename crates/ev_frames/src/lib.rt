@@ -1,22 +1,15 @@
-//! The evaluator of one vat on an explicit stack of frames.
+//! The frames of an evaluation, and what calls, messages and auditors do on them.
 #![tactic(auto)]
 
 pub mod answers;
 pub mod audits;
 pub mod calls;
-pub mod coercions;
-pub mod ends;
 pub mod failings;
 pub mod frames;
-pub mod guards;
 pub mod leaves;
-pub mod machine;
 pub mod matchers;
 pub mod messages;
 pub mod natives;
-pub mod nodes;
-pub mod parts;
+pub mod now;
 pub mod patterns;
 pub mod performs;
-
-pub use machine::{evaluate, take_message};

@@ -10,7 +10,7 @@ ghost use Rattle.ev_frames.specs.Rest.{Goes, Nested, Stays, came_to, rest};
 ghost use Rattle.ev_frames.specs.declared.frames.Frame.TheVariants.{Case as CaseOf};
 
 use crate::frames::{Frame, Frames};
-use crate::nodes::Now;
+use crate::now::Now;
 use crate::patterns::binding;
 use def_kernel::Kernel;
 use ev_base::{Memory, NodeId, ObjId, Seq, Value};
@@ -173,7 +173,7 @@ fn hand_over(
 
 /// The pattern of a matcher has come to an end. However it did, the ejector is dead after it.
 #[tactic(auto, using(crate::proofs::Matching::case_gave, crate::proofs::Matching::case_threw, crate::proofs::Matching::case_other, crate::proofs::Matching::case_own, crate::proofs::Matching::case_below, crate::proofs::Matching::case_above))]
-pub(crate) fn case_resumes(
+pub fn case_resumes(
     program: &Kernel,
     depth: u32,
     mark: usize,

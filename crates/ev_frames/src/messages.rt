@@ -9,8 +9,7 @@ use crate::answers::answered;
 use crate::audits::audition_answer;
 use crate::calls::found_begins;
 use crate::frames::{Frames, Guard};
-use crate::guards::guard;
-use crate::nodes::{Now, given};
+use crate::now::{Now, given, guard};
 use crate::performs::perform;
 use def_kernel::Kernel;
 use ev_base::{ObjId, Value};
@@ -82,7 +81,7 @@ fn object_takes(
 
 /// A turn takes a message on a target, as that is followed. It tells no line of its own.
 #[tactic(auto, using(crate::proofs::Rests::gone), unfolding(ev_steps::specs::Steps::turn_value, ev_room::specs::Acts::fail, ev_room::specs::Acts::and_then))]
-pub(crate) fn takes(
+pub fn takes(
     program: &Kernel,
     depth: u32,
     target: Value,

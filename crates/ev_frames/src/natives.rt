@@ -5,8 +5,7 @@ ghost use Rattle.ev_steps.specs.Steps.{again_by, evaluator, iterate, turns};
 ghost use Rattle.ev_frames.specs.Rest.{Goes, Nested, Stays, rest, settled};
 
 use crate::frames::{Frames, Guard};
-use crate::guards::guard;
-use crate::nodes::Now;
+use crate::now::{Now, guard};
 use def_kernel::Kernel;
 use ev_base::{Seq, Value};
 use ev_room::exit::{Came, Exit};
@@ -25,7 +24,7 @@ pub(crate) fn member_at(members: &[Value], place: usize) -> Option<Value>
 
 /// An iteration goes on from a place.
 #[tactic(auto, using(crate::proofs::Native::member_begins, crate::proofs::Native::members_done))]
-pub(crate) fn members_from(
+pub fn members_from(
     program: &Kernel,
     depth: u32,
     levels: Option<u128>,
@@ -57,7 +56,7 @@ pub(crate) fn members_from(
 
 /// A loop goes on that may have so many turns.
 #[tactic(auto, using(crate::proofs::Native::turn_begins, crate::proofs::Native::turns_none))]
-pub(crate) fn turns_from(
+pub fn turns_from(
     program: &Kernel,
     depth: u32,
     levels: Option<u128>,

@@ -16,7 +16,7 @@ use crate::audits::bears_stamp;
 use crate::failings::coerces;
 use crate::frames::Frames;
 use crate::natives::turns_from;
-use crate::nodes::{Now, given};
+use crate::now::{Now, given};
 use def_kernel::Kernel;
 use ev_base::{PrimId, Value};
 use ev_eventual::{broken, make_promise, send_with, test_value, when_by};

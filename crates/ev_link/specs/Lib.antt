@@ -1,1 +1,3 @@
 pub mod Way
+pub mod Streams
+pub mod Statements

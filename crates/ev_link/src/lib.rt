@@ -1,6 +1,8 @@
-//! The way of frames from one vat to another.
+//! The way of frames from one vat to another, as bytes that come in pieces.
 #![tactic(auto)]
 
+mod cutting;
+pub mod laws;
 pub mod link;
 
 pub use link::Link;

@@ -17,18 +17,21 @@ use Rattle.ev_reader.specs.declared.fault.Stage.TheVariants as parts
 use Rattle.ev_generate.specs.Generated.{generated}
 use Rattle.ev_sturdy_text.specs.Telling as sturdy
 use Rattle.ev_mint_text.specs.Telling as mint
+use Rattle.def_trace.specs.declared.trace.Trace.{Trace}
+use Rattle.ev_trace.specs.Reading.{read as trace_from}
 use Rattle.ev_top.specs.Commands.{reads}
 use Rattle.ev_top.specs.Debt.{Debt, most_bytes}
-use Rattle.ev_top.specs.Lines.{IsDueOfMint, IsDueOfSturdy, status_of}
+use Rattle.ev_top.specs.Lines.{IsDueOfMint, IsDueOfSturdy, IsDueOfTrace, status_of}
 use Rattle.ev_script.specs.Script.{read as script_from}
 use Rattle.ev_top.specs.Summary.{summary_of}
 use Rattle.ev_top.specs.Programs.{AreRead, IsFirstRefused, names_for, IsRead, safe_names, refusal, stage_of, trees_of, IsDueOfFault}
 use Rattle.ev_top.specs.Expansion.{text_from, nameless, IsDueOfText, IsDueOfForm}
-use Rattle.ev_top.specs.Machine.{script_of, text_of, vat_of_step}
+use Rattle.ev_world.specs.Running.{script_of}
+use Rattle.ev_top.specs.Machine.{greatest_depth, text_of, vat_of_step}
 use Rattle.ev_top.specs.Due.{IsDue, IsDueOfInput, IsDueOfBytes, IsDueOfAnswer, IsDueOfScript, IsDueOfTrees, IsDueOfVats, Pays, PaysWith, due_of_run, astray, Telling}
 use Rattle.ev_top.specs.Causes.{IsInterrupted, Follows, ComesWhere, IsLong, Breaks, HasScript, HasPrograms, HasText, HasFault, HasNoTree, HasRefused, IsProgramRefused, GoesAstray, RepeatsWord, Stops, StopsIn, run_of}
 use Rattle.ev_top.specs.declared.command.Command.{Command}
-use Rattle.ev_top.specs.declared.command.Command.TheVariants.{Run, Expand, Generate, Sum, Sturdy, Mint}
+use Rattle.ev_top.specs.declared.command.Command.TheVariants.{Run, Expand, Generate, Sum, Sturdy, Mint, Check}
 use Rattle.ev_top.specs.declared.status.Status.{Status}
 use Rattle.ev_top.specs.declared.status.Status.TheVariants.{Done, Usage, ReadFault, WriteFault, TooLong, ScriptRefused, ProgramRefused, FuelSpent, TooDeep, WordRepeated, Memory}
 use Rattle.ev_top.specs.declared.status.Stage.{Stage}
@@ -44,7 +47,7 @@ IsRefused vat part kind place status = status ≡ ProgramRefused (refusal vat pa
 
 -- what is due for the run of these programs
 abbrev ran : Telling → Script → List Scoped → Debt
-ran tell script programs = due_of_run script (tell (script_of script (trees_of programs))) (run_of script programs)
+ran tell script programs = due_of_run script (tell (script_of script programs greatest_depth)) (run_of script programs)
 
 data Why (command : Option Command) (input : List ℕ) (status : Status) : Type 0 where
   Misused : status ≡ Usage → Why command input status
@@ -77,6 +80,7 @@ refused_so vat part kind place (Some Expand) input (script, has, refused) = absu
 refused_so vat part kind place (Some (Generate n)) input (script, has, refused) = absurd has
 refused_so vat part kind place (Some Sturdy) input (script, has, refused) = absurd has
 refused_so vat part kind place (Some Mint) input (script, has, refused) = absurd has
+refused_so vat part kind place (Some Check) input (script, has, refused) = absurd has
 
 first_refused : (command : Option Command) (input : List ℕ) (script : Script) (front : List VatScript) (vat : VatScript) (more : List VatScript) (programs : List Scoped) (fault : ProgramFault)
     (status : Status) (text : List ℕ) → HasScript command input script → script.vats ≡ front ++ vat ∷ more → AreRead script.vats front programs → IsRead script.vats vat (Err fault)
@@ -131,6 +135,11 @@ of_mint : (input : List ℕ) (found : Result (List ℕ) ℕ) (status : Status) (
 of_mint input (Ok told) status text few e due = Finished due.0
 of_mint input (Err rule) status text few e due = Broken rule (few, e) due.0
 
+of_trace : (input : List ℕ) (found : Result Trace ℕ) (status : Status) (text : List ℕ) → length input ≤ most_bytes → trace_from input ≡ found
+    → IsDueOfTrace found status text → Why (Some Check) input status
+of_trace input (Ok trace) status text few e due = Finished due.0
+of_trace input (Err rule) status text few e due = Broken rule (few, e) due.0
+
 of_bytes : (command : Command) (input : List ℕ) (status : Status) (text : List ℕ) → length input ≤ most_bytes → IsDueOfBytes command input status text
     → Why (Some command) input status
 of_bytes (Run wire) input status text few due =
@@ -140,6 +149,7 @@ of_bytes (Generate n) input status text few due = Finished due.0
 of_bytes (Sum n) input status text few due = of_script summary_of (Some (Sum n)) input (script_from (generated n)) status text (λ script e. e) (λ rule e. e) due
 of_bytes Sturdy input status text few due = of_sturdy input (sturdy.due input) status text few refl due
 of_bytes Mint input status text few due = of_mint input (mint.due input) status text few refl due
+of_bytes Check input status text few due = of_trace input (trace_from input) status text few refl due
 
 of_input : (long : Bool) (command : Command) (input : List ℕ) (status : Status) (text : List ℕ) → reads command ≡ true → nat_lt most_bytes (length input) ≡ long
     → IsDueOfInput long command input status text → Why (Some command) input status
@@ -154,6 +164,7 @@ why (Some (Generate n)) input status text due = Finished due.0
 why (Some (Sum n)) input status text due = of_script summary_of (Some (Sum n)) input (script_from (generated n)) status text (λ script e. e) (λ rule e. e) due
 why (Some Sturdy) input status text due = of_input (nat_lt most_bytes (length input)) Sturdy input status text refl refl due
 why (Some Mint) input status text due = of_input (nat_lt most_bytes (length input)) Mint input status text refl refl due
+why (Some Check) input status text due = of_input (nat_lt most_bytes (length input)) Check input status text refl refl due
 
 -- ---- from what a call owes to why it answers
 
@@ -248,6 +259,8 @@ rule_there rule (Some Sturdy) input status text due (few, refused) =
     (subst (λ (found : Result sturdy.Ending ℕ). IsDueOfSturdy found status text) refused (few_due Sturdy input status text refl few due)).0
 rule_there rule (Some Mint) input status text due (few, refused) =
     (subst (λ (found : Result (List ℕ) ℕ). IsDueOfMint found status text) refused (few_due Mint input status text refl few due)).0
+rule_there rule (Some Check) input status text due (few, refused) =
+    (subst (λ (found : Result Trace ℕ). IsDueOfTrace found status text) refused (few_due Check input status text refl few due)).0
 
 -- ---- a program that is refused where it is read
 
@@ -404,6 +417,7 @@ script_due (Some Expand) input script status text has due = absurd has
 script_due (Some (Generate n)) input script status text has due = absurd has
 script_due (Some Sturdy) input script status text has due = absurd has
 script_due (Some Mint) input script status text has due = absurd has
+script_due (Some Check) input script status text has due = absurd has
 
 fault_there : (vat : ℕ) (part : Part) (kind place : ℕ) (command : Option Command) (input : List ℕ) (status : Status) (text : List ℕ)
     → IsDue command input status text → HasFault vat part kind place command input → IsRefused vat part kind place status
@@ -419,6 +433,7 @@ fault_there vat part kind place (Some Expand) input status text due (none, progr
 fault_there vat part kind place (Some (Generate n)) input status text due has = absurd has
 fault_there vat part kind place (Some Sturdy) input status text due has = absurd has
 fault_there vat part kind place (Some Mint) input status text due has = absurd has
+fault_there vat part kind place (Some Check) input status text due has = absurd has
 
 -- ---- no tree
 
@@ -458,6 +473,7 @@ tree_there (Some Expand) input status text due (program, (few, found), none) =
 tree_there (Some (Generate n)) input status text due has = absurd has
 tree_there (Some Sturdy) input status text due has = absurd has
 tree_there (Some Mint) input status text due has = absurd has
+tree_there (Some Check) input status text due has = absurd has
 
 -- ---- a run that stops
 
@@ -566,7 +582,7 @@ stop_due script text Astray step w = refl
 stop_there : (script : Script) (stop : Stop) (step : ℕ) (command : Option Command) (input : List ℕ) (status : Status) (text : List ℕ) → IsDue command input status text
     → StopsIn script stop step command input → status ≡ stopped_as script stop step
 stop_there script stop step command input status text due (programs, has, world, stops) =
-    let written = told_of command (script_of script (trees_of programs)) in
+    let written = told_of command (script_of script programs greatest_depth) in
     (read_due command input script programs status text has due).0 ∙ ap (λ (r : machine.Run). (due_of_run script written r).status) stops
     ∙ stop_due script written stop step world
 

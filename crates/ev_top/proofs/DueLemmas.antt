@@ -17,8 +17,10 @@ use Rattle.ev_script.specs.declared.script.VatScript.{VatScript}
 use Rattle.ev_generate.specs.Generated.{generated}
 use Rattle.ev_sturdy_text.specs.Telling as sturdy
 use Rattle.ev_mint_text.specs.Telling as mint
+use Rattle.def_trace.specs.declared.trace.Trace.{Trace}
+use Rattle.ev_trace.specs.Reading.{read as trace_from}
 use Rattle.ev_top.specs.Commands.{reads}
-use Rattle.ev_top.specs.Lines.{IsDueOfMint, IsDueOfSturdy, status_of}
+use Rattle.ev_top.specs.Lines.{IsDueOfMint, IsDueOfSturdy, IsDueOfTrace, status_of}
 use Rattle.ev_top.specs.Words.{line}
 use Rattle.ev_top.specs.Debt.{Debt, IsFor, most_bytes, too_long}
 use Rattle.ev_script.specs.Script.{read as script_from}
@@ -26,9 +28,10 @@ use Rattle.ev_top.specs.Summary.{summary_of}
 use Rattle.ev_top.specs.Programs.{IsDueOfFault}
 use Rattle.ev_top.specs.Expansion.{text_from, nameless, IsDueOfText, IsDueOfForm}
 use Rattle.ev_top.specs.Due.{IsDue, IsDueOfBytes, IsDueOfInput, IsDueOfScript, IsDueOfTrees, IsDueOfVats, IsOfWhole, IsOfRead, Finishes, Pays, PaysWith, Reads, Settles, Telling, TookFor, due_of_run}
-use Rattle.ev_top.specs.Machine.{script_of, text_of}
+use Rattle.law_schedule.specs.Scripts.{machine_script, tree_at}
+use Rattle.ev_top.specs.Machine.{greatest_depth, text_of}
 use Rattle.ev_top.specs.declared.command.Command.{Command}
-use Rattle.ev_top.specs.declared.command.Command.TheVariants.{Run, Expand, Generate, Sum, Sturdy, Mint}
+use Rattle.ev_top.specs.declared.command.Command.TheVariants.{Run, Expand, Generate, Sum, Sturdy, Mint, Check}
 use Rattle.ev_top.specs.declared.status.Status.{Status}
 use Rattle.ev_top.specs.declared.status.Status.TheVariants.{Done, Usage, ReadFault, WriteFault, TooLong, ScriptRefused, ProgramRefused, FuelSpent, TooDeep, WordRepeated, Memory}
 
@@ -55,7 +58,7 @@ of_end script text (Stopped Astray step w) = tt
 
 of_trees : (tell : Telling) (script : Script) (trees : List (List Node)) (status : Status) (text : List ℕ) → IsDueOfTrees tell script trees status text → IsOfWhole status
 of_trees tell script trees status text due =
-    let theirs = script_of script trees in subst IsOfWhole (sym due.0) (of_end script (tell theirs) (run theirs))
+    let theirs = machine_script greatest_depth (tree_at trees) script in subst IsOfWhole (sym due.0) (of_end script (tell theirs) (run theirs))
 
 of_vats : (tell : Telling) (script : Script) (trees : List (List Node)) (vats : List VatScript) (status : Status) (text : List ℕ)
     → IsDueOfVats tell script trees vats status text → IsOfWhole status
@@ -79,6 +82,10 @@ of_mint : (found : Result (List ℕ) ℕ) (status : Status) (text : List ℕ) �
 of_mint (Ok told) status text due = subst IsOfWhole (sym due.0) tt
 of_mint (Err rule) status text due = subst IsOfWhole (sym due.0) tt
 
+of_trace : (found : Result Trace ℕ) (status : Status) (text : List ℕ) → IsDueOfTrace found status text → IsOfWhole status
+of_trace (Ok trace) status text due = subst IsOfWhole (sym due.0) tt
+of_trace (Err rule) status text due = subst IsOfWhole (sym due.0) tt
+
 pub whole : (command : Command) (input : List ℕ) (status : Status) (text : List ℕ) → IsDueOfBytes command input status text → IsOfWhole status
 whole (Run wire) input status text due = of_script (text_of wire) (script_from input) status text due
 whole Expand input status text due = of_text (text_from input) status text due
@@ -86,6 +93,7 @@ whole (Generate n) input status text due = subst IsOfWhole (sym due.0) tt
 whole (Sum n) input status text due = of_script summary_of (script_from (generated n)) status text due
 whole Sturdy input status text due = of_sturdy (sturdy.due input) status text due
 whole Mint input status text due = of_mint (mint.due input) status text due
+whole Check input status text due = of_trace (trace_from input) status text due
 
 -- ---- what is due, by how many bytes there are
 

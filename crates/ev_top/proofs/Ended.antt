@@ -9,14 +9,15 @@ use Rattle.def_local.specs.Numbers.{Course, Runs, Halts}
 use Rattle.law_local.specs.Mirrors.{RunMirrors}
 use Rattle.law_local.proofs.Texts.{texts_mirror}
 use Rattle.law_peers.specs.Steady.{RunsSteadily}
+use Rattle.law_schedule.specs.Scripts.{tree_at}
 use Rattle.law_script.specs.Accepted.{MeetsTheLaws}
 use Rattle.law_script.proofs.Meets.{meets}
 use Rattle.ev_scope.specs.declared.accepted.Scoped.{Scoped}
 use Rattle.ev_script.specs.Rules.{IsAdmitted}
 use Rattle.ev_script.specs.declared.script.Script.{Script}
-use Rattle.ev_world.specs.Running.{end_by, end_of, told_text}
+use Rattle.ev_world.specs.Running.{end_by, end_of, script_of, told_text}
 use Rattle.ev_world.specs.declared.run.RunEnd.{RunEnd}
-use Rattle.ev_top.specs.Machine.{greatest_depth, script_of, text_of, tree_at}
+use Rattle.ev_top.specs.Machine.{greatest_depth, text_of}
 use Rattle.ev_top.specs.Programs.{trees_of}
 use Rattle.ev_world.specs.Writing.{AppendsFront, WritesRun}
 use Rattle.ev_top.specs.Debt.{Debt}
@@ -58,7 +59,7 @@ told_same false theirs h = (texts_mirror theirs (machine.run theirs) (numbers.ru
 
 module _ (wire : Bool) (script : Script) (programs : List Scoped) (admitted : IsAdmitted script) where
   abbrev theirs : machine.Script
-  theirs = script_of script (trees_of programs)
+  theirs = script_of script programs greatest_depth
 
   abbrev debt : Debt
   debt = due_of_machine (text_of wire) script theirs

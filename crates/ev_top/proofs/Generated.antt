@@ -17,7 +17,7 @@ use Rattle.ev_top.specs.Due.{IsReading}
 use Rattle.ev_top.specs.Headline.{IsOfSum, StepsAreKnown, SumsUp}
 use Rattle.ev_script.specs.Script.{read as script_from}
 use Rattle.ev_top.specs.declared.command.Command.{Command}
-use Rattle.ev_top.specs.declared.command.Command.TheVariants.{Run, Expand, Generate, Sum, Sturdy, Mint}
+use Rattle.ev_top.specs.declared.command.Command.TheVariants.{Run, Expand, Generate, Sum, Sturdy, Mint, Check}
 use Rattle.ev_top.specs.declared.status.Status.{Status}
 use Rattle.ev_top.specs.declared.status.Status.TheVariants.{Done, Usage, ReadFault, WriteFault, TooLong, ScriptRefused, ProgramRefused, FuelSpent, TooDeep, WordRepeated, Memory}
 
@@ -39,14 +39,15 @@ sums n (Some (Sum m)) = nat_le m most_generated
 sums n _ = true
 
 few_alone : (n : ℕ) (word : List ℕ) → sums n (command_alone word) ≡ true
-few_alone n word = by (bytes_eq word (codes "run")) (bytes_eq word (codes "expand")) (bytes_eq word (codes "sturdy")) (bytes_eq word (codes "mint"))
+few_alone n word = by (bytes_eq word (codes "run")) (bytes_eq word (codes "expand")) (bytes_eq word (codes "sturdy")) (bytes_eq word (codes "mint")) (bytes_eq word (codes "check"))
   where
-    by : (a b c d : Bool) → sums n (if a then Some (Run false) else if b then Some Expand else if c then Some Sturdy else if d then Some Mint else None) ≡ true
-    by true b c d = refl
-    by false true c d = refl
-    by false false true d = refl
-    by false false false true = refl
-    by false false false false = refl
+    by : (a b c d e : Bool) → sums n (if a then Some (Run false) else if b then Some Expand else if c then Some Sturdy else if d then Some Mint else if e then Some Check else None) ≡ true
+    by true b c d e = refl
+    by false true c d e = refl
+    by false false true d e = refl
+    by false false false true e = refl
+    by false false false false true = refl
+    by false false false false false = refl
 
 few_bounded : (n : ℕ) (text : List ℕ) → sums n (option_map Sum (bounded most_generated text)) ≡ true
 few_bounded n text = by (nat_lt 0 (length text)) (nat_le (digits_value 10 text) most_generated) refl

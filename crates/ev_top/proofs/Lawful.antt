@@ -7,11 +7,12 @@ use Rattle.law_script.proofs.Meets.{accepted}
 use Rattle.law_script.specs.Accepted.{MeetsTheLaws}
 use Rattle.ev_top.specs.Causes.{HasScript}
 use Rattle.ev_top.specs.Headline.{IsToRun}
-use Rattle.ev_top.specs.Machine.{greatest_depth, tree_at}
+use Rattle.law_schedule.specs.Scripts.{tree_at}
+use Rattle.ev_top.specs.Machine.{greatest_depth}
 use Rattle.ev_top.specs.Programs.{trees_of}
 use Rattle.ev_script.specs.Script.{read as script_from}
 use Rattle.ev_top.specs.declared.command.Command.{Command}
-use Rattle.ev_top.specs.declared.command.Command.TheVariants.{Run, Expand, Generate, Sum, Sturdy, Mint}
+use Rattle.ev_top.specs.declared.command.Command.TheVariants.{Run, Expand, Generate, Sum, Sturdy, Mint, Check}
 
 -- it is read from bytes
 bytes_of : (command : Option Command) (input : List ℕ) (script : Script) → HasScript command input script → (bytes : List ℕ) × (script_from bytes ≡ Ok script)
@@ -22,6 +23,7 @@ bytes_of (Some Expand) input script has = absurd has
 bytes_of (Some (Generate n)) input script has = absurd has
 bytes_of (Some Sturdy) input script has = absurd has
 bytes_of (Some Mint) input script has = absurd has
+bytes_of (Some Check) input script has = absurd has
 
 pub lawful : (command : Option Command) (input : List ℕ) (script : machine.Script) → IsToRun command input script → MeetsTheLaws script
 lawful command input script (read, programs, (has, are), is) =

@@ -12,4 +12,3 @@ pub mod Reach
 pub mod Severed
 pub mod Unread
 pub mod Generated
-pub mod Told

@@ -10,18 +10,18 @@ use Rattle.def_local.specs.Numbers as numbers
 use Rattle.def_local.specs.Numbers.{Course, Runs, Halts}
 use Rattle.law_local.specs.Mirrors.{RunMirrors}
 use Rattle.law_peers.specs.Steady.{RunsSteadily}
-use Rattle.law_schedule.specs.Scripts.{machine_entry}
+use Rattle.law_schedule.specs.Scripts.{machine_entry, tree_at}
 use Rattle.law_script.proofs.Meets.{meets}
 use Rattle.ev_scope.specs.declared.accepted.Scoped.{Scoped}
 use Rattle.ev_script.specs.Rules.{IsAdmitted}
 use Rattle.ev_script.specs.declared.script.Script.{Script}
 use Rattle.ev_world.proofs.Wholes.{many_are}
 use Rattle.ev_world.specs.Events.{events_of}
-use Rattle.ev_world.specs.Running.{end_by, end_of}
+use Rattle.ev_world.specs.Running.{end_by, end_of, script_of}
 use Rattle.ev_world.specs.declared.run.RunEnd.{RunEnd}
 use Rattle.ev_top.specs.Due.{IsDueOfTrees}
 use Rattle.ev_top.specs.Ends.{status_by, summed_by}
-use Rattle.ev_top.specs.Machine.{greatest_depth, script_of, tree_at}
+use Rattle.ev_top.specs.Machine.{greatest_depth}
 use Rattle.ev_top.specs.Programs.{trees_of}
 use Rattle.ev_top.specs.Summary.{steps_of, summary_by, summary_of}
 use Rattle.ev_top.specs.declared.status.Status.{Status}
@@ -48,19 +48,19 @@ summed_same theirs (Goes w) (Halts d n W) h = absurd h
 summed_same theirs (Stopped c k w) (Runs W) h = absurd h
 
 -- as many steps as the script that was read has vats and entries
-steps_are : (script : Script) (programs : List Scoped) → length script.vats + length script.schedule ≡ steps_of (script_of script (trees_of programs))
+steps_are : (script : Script) (programs : List Scoped) → length script.vats + length script.schedule ≡ steps_of (script_of script programs greatest_depth)
 steps_are script programs =
     ap (λ (n : ℕ). n + length script.schedule) (sym (many_are script programs greatest_depth))
-    ∙ ap (λ (n : ℕ). length (script_of script (trees_of programs)).vats + n) (sym (length-map script.schedule machine_entry))
+    ∙ ap (λ (n : ℕ). length (script_of script programs greatest_depth).vats + n) (sym (length-map script.schedule machine_entry))
 
 -- what is due for a summary that was made of these events of a run that ended so
 pub script_summed : (script : Script) (programs : List Scoped) (e : RunEnd) (events : List ShownEvent) (status : Status) (written : List ℕ) → IsAdmitted script
-    → (RunsSteadily (script_of script (trees_of programs)) → e ≡ end_of (numbers.run (script_of script (trees_of programs))))
-    → (RunsSteadily (script_of script (trees_of programs)) → events ≡ events_of (numbers.run (script_of script (trees_of programs))))
+    → (RunsSteadily (script_of script programs greatest_depth) → e ≡ end_of (numbers.run (script_of script programs greatest_depth)))
+    → (RunsSteadily (script_of script programs greatest_depth) → events ≡ events_of (numbers.run (script_of script programs greatest_depth)))
     → status ≡ status_by script e → written ≡ summed_by events (length script.vats + length script.schedule) e
     → IsDueOfTrees summary_of script (trees_of programs) status written
 script_summed script programs e events status written admitted is are ended same =
-    let theirs = script_of script (trees_of programs) in
+    let theirs = script_of script programs greatest_depth in
     let lawful = meets script admitted greatest_depth (tree_at (trees_of programs)) in
     let steady = runs_are_steady theirs lawful in
     let mirrors = runs_are_mirrored theirs lawful in

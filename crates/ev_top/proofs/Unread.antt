@@ -4,7 +4,7 @@ use Rattle.std.proofs.KnownBytes.{Consumes-nil}
 use Rattle.ev_top.specs.Commands.{reads}
 use Rattle.ev_top.specs.Due.{IsDue, IsOfRead, IsOfWhole, Reads}
 use Rattle.ev_top.specs.declared.command.Command.{Command}
-use Rattle.ev_top.specs.declared.command.Command.TheVariants.{Run, Expand, Generate, Sum, Sturdy, Mint}
+use Rattle.ev_top.specs.declared.command.Command.TheVariants.{Run, Expand, Generate, Sum, Sturdy, Mint, Check}
 use Rattle.ev_top.specs.declared.status.Status.{Status}
 use Rattle.ev_top.specs.declared.status.Status.TheVariants.{Done, Usage, ReadFault, WriteFault, TooLong, ScriptRefused, ProgramRefused, FuelSpent, TooDeep, WordRepeated, Memory}
 
@@ -52,3 +52,4 @@ due_whatever (Run wire) input other status text unread due = absurd cc
 due_whatever Expand input other status text unread due = absurd cc
 due_whatever Sturdy input other status text unread due = absurd cc
 due_whatever Mint input other status text unread due = absurd cc
+due_whatever Check input other status text unread due = absurd cc

@@ -12,14 +12,16 @@ use Rattle.ev_script.specs.declared.script.VatScript.{VatScript}
 use Rattle.ev_generate.specs.Generated.{generated}
 use Rattle.ev_sturdy_text.specs.Telling as sturdy
 use Rattle.ev_mint_text.specs.Telling as mint
+use Rattle.ev_trace.specs.Reading.{read as trace_from}
 use Rattle.ev_top.specs.Commands.{reads}
 use Rattle.ev_top.specs.Debt.{most_bytes}
 use Rattle.ev_top.specs.Expansion.{text_from}
-use Rattle.ev_top.specs.Machine.{script_of, vat_of_step}
-use Rattle.ev_top.specs.Programs.{AreRead, IsFirstRefused, IsRead, safe_names, trees_of}
+use Rattle.ev_world.specs.Running.{script_of}
+use Rattle.ev_top.specs.Machine.{greatest_depth, vat_of_step}
+use Rattle.ev_top.specs.Programs.{AreRead, IsFirstRefused, IsRead, safe_names}
 use Rattle.ev_script.specs.Script.{read as script_from}
 use Rattle.ev_top.specs.declared.command.Command.{Command}
-use Rattle.ev_top.specs.declared.command.Command.TheVariants.{Run, Expand, Generate, Sum, Sturdy, Mint}
+use Rattle.ev_top.specs.declared.command.Command.TheVariants.{Run, Expand, Generate, Sum, Sturdy, Mint, Check}
 use Rattle.ev_top.specs.declared.status.Status.{Status}
 use Rattle.ev_top.specs.declared.status.Status.TheVariants.{ReadFault, WriteFault, ProgramRefused, Memory}
 
@@ -52,6 +54,7 @@ Breaks rule (Some (Generate n)) input = ⊥
 Breaks rule (Some (Sum n)) input = script_from (generated n) ≡ Err rule
 Breaks rule (Some Sturdy) input = (length input ≤ most_bytes) × (sturdy.due input ≡ Err rule)
 Breaks rule (Some Mint) input = (length input ≤ most_bytes) × (mint.due input ≡ Err rule)
+Breaks rule (Some Check) input = (length input ≤ most_bytes) × (trace_from input ≡ Err rule)
 
 -- in the answers to the whole input, the second of these draws gives what the first gave
 abbrev pub DrawsAgain : ℕ → ℕ → Option Command → List ℕ → Type 0
@@ -106,7 +109,7 @@ IsProgramRefused _ = ⊥
 
 -- the machine's run of a script whose programs are these
 abbrev pub run_of : Script → List Scoped → Machine
-run_of script programs = run (script_of script (trees_of programs))
+run_of script programs = run (script_of script programs greatest_depth)
 
 -- the command runs that script, whose programs are read, and its run stops in this step
 abbrev pub StopsIn : Script → Stop → ℕ → Option Command → List ℕ → Type 0

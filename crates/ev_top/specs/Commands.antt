@@ -4,7 +4,7 @@ use Rattle.std.specs.declared.option.Option.{Option}
 use Rattle.std.specs.Str.{bytes_eq}
 use Rattle.ev_command_lines.specs.Lines.{number}
 use Rattle.ev_top.specs.declared.command.Command.{Command}
-use Rattle.ev_top.specs.declared.command.Command.TheVariants.{Run, Expand, Generate, Sum, Sturdy, Mint}
+use Rattle.ev_top.specs.declared.command.Command.TheVariants.{Run, Expand, Generate, Sum, Sturdy, Mint, Check}
 
 -- the greatest number of a script that is generated
 abbrev pub most_generated : ℕ
@@ -16,6 +16,7 @@ command_alone word =
     else if bytes_eq word (codes "expand") then Some Expand
     else if bytes_eq word (codes "sturdy") then Some Sturdy
     else if bytes_eq word (codes "mint") then Some Mint
+    else if bytes_eq word (codes "check") then Some Check
     else None
 
 -- the run with its frames
@@ -51,3 +52,4 @@ reads (Run wire) = true
 reads Expand = true
 reads Sturdy = true
 reads Mint = true
+reads Check = true

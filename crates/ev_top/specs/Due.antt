@@ -18,13 +18,16 @@ use Rattle.ev_top.specs.Expansion.{IsDueOfText, text_from}
 use Rattle.ev_sturdy_text.specs.Telling as sturdy
 use Rattle.ev_mint_text.specs.Telling as mint
 use Rattle.ev_top.specs.Commands.{reads}
-use Rattle.ev_top.specs.Lines.{IsDueOfGenerated, IsDueOfMint, IsDueOfSturdy}
-use Rattle.ev_top.specs.Machine.{script_of, text_of, vat_of_step}
-use Rattle.ev_top.specs.Programs.{AreRead, ReadAs, IsDueOfFault, names_for, trees_of}
+use Rattle.ev_trace.specs.Reading.{read as trace_from}
+use Rattle.ev_top.specs.Lines.{IsDueOfGenerated, IsDueOfMint, IsDueOfSturdy, IsDueOfTrace}
+use Rattle.law_schedule.specs.Scripts.{machine_script, tree_at}
+use Rattle.ev_world.specs.Running.{script_of}
+use Rattle.ev_top.specs.Machine.{greatest_depth, text_of, vat_of_step}
+use Rattle.ev_top.specs.Programs.{AreRead, ReadAs, IsDueOfFault, names_for}
 use Rattle.ev_script.specs.Script.{read as script_from}
 use Rattle.ev_top.specs.Summary.{summary_of}
 use Rattle.ev_top.specs.declared.command.Command.{Command}
-use Rattle.ev_top.specs.declared.command.Command.TheVariants.{Run, Expand, Generate, Sum, Sturdy, Mint}
+use Rattle.ev_top.specs.declared.command.Command.TheVariants.{Run, Expand, Generate, Sum, Sturdy, Mint, Check}
 use Rattle.ev_top.specs.declared.reply.Owed.{Owed}
 use Rattle.ev_top.specs.declared.reply.Owed.TheVariants as owing
 use Rattle.ev_top.specs.declared.program.Early.{Early}
@@ -60,7 +63,7 @@ due_of_machine tell script theirs = due_of_run script (tell theirs) (run theirs)
 
 -- what is due for a script whose programs have these trees: its run
 abbrev pub IsDueOfTrees : Telling → Script → List (List Node) → Status → List ℕ → Type 0
-IsDueOfTrees tell script trees status text = IsFor status text (due_of_machine tell script (script_of script trees))
+IsDueOfTrees tell script trees status text = IsFor status text (due_of_machine tell script (machine_script greatest_depth (tree_at trees) script))
 
 -- what is due by what the source of the vat of that number and name is read as: what is due for its tree, or its refusal
 abbrev pub IsDueOfAnswer : ℕ → List ℕ → (List Node → Status → List ℕ → Type 0) → Result Scoped ProgramFault → Status → List ℕ → Type 0
@@ -89,6 +92,7 @@ IsDueOfBytes (Generate n) input status text = IsDueOfGenerated n status text
 IsDueOfBytes (Sum n) input status text = IsDueOfScript summary_of (script_from (generated n)) status text
 IsDueOfBytes Sturdy input status text = IsDueOfSturdy (sturdy.due input) status text
 IsDueOfBytes Mint input status text = IsDueOfMint (mint.due input) status text
+IsDueOfBytes Check input status text = IsDueOfTrace (trace_from input) status text
 
 -- what is due for the bytes of a source, by whether they are more than are read
 abbrev pub IsDueOfInput : Bool → Command → List ℕ → Status → List ℕ → Type 0
@@ -150,7 +154,7 @@ Settles held held' debt result = Finishes held held' debt.status debt.text resul
 -- what is due for what is owed: a reply, or the run of a script whose programs are read
 abbrev pub debt_of : Owed → Debt
 debt_of (owing.Reply reply) = record { status = reply.status; text = string_bytes reply.text }
-debt_of (owing.Run run) = due_of_machine (text_of run.wire) run.script (script_of run.script (trees_of run.programs.items))
+debt_of (owing.Run run) = due_of_machine (text_of run.wire) run.script (script_of run.script run.programs.items greatest_depth)
 
 -- the script of a run that is owed is one, and its programs are those of its vats
 abbrev pub MayRun : Owed → Type 0

@@ -18,8 +18,9 @@ use Rattle.ev_scope.specs.declared.accepted.Scoped.{Scoped}
 use Rattle.ev_script.specs.declared.script.Script.{Script}
 use Rattle.law_generated.specs.Accepted.{generated_script}
 use Rattle.ev_top.specs.Causes.{HasPrograms, HasScript}
-use Rattle.ev_top.specs.Machine.{script_of}
-use Rattle.ev_top.specs.Programs.{trees_of}
+use Rattle.law_schedule.specs.Scripts.{machine_script, tree_at}
+use Rattle.ev_world.specs.Running.{script_of}
+use Rattle.ev_top.specs.Machine.{greatest_depth}
 use Rattle.ev_top.specs.Summary.{steps_of}
 use Rattle.ev_top.specs.declared.command.Command.{Command}
 use Rattle.ev_top.specs.declared.command.Command.TheVariants.{Sum}
@@ -29,7 +30,7 @@ use Rattle.ev_top.specs.declared.status.Status.TheVariants.{Usage, ReadFault, To
 -- the command runs a script whose programs are read, and this is the machine's
 abbrev pub IsToRun : Option Command → List ℕ → machine.Script → Type 0
 IsToRun command input script = (read : Script) × (programs : List Scoped) × HasPrograms command input read programs
-    × (script ≡ script_of read (trees_of programs))
+    × (script ≡ script_of read programs greatest_depth)
 
 -- ---- the worlds of a run
 
@@ -104,4 +105,4 @@ SumsUp result command input = (n : ℕ) → command ≡ Some (Sum n) → IsOfSum
 
 -- The steps of its run are told by the number.
 abbrev pub StepsAreKnown : Type 0
-StepsAreKnown = (n : ℕ) (trees : List (List Node)) → steps_of (script_of (generated_script n) trees) ≡ 28 * n + 93
+StepsAreKnown = (n : ℕ) (trees : List (List Node)) → steps_of (machine_script greatest_depth (tree_at trees) (generated_script n)) ≡ 28 * n + 93

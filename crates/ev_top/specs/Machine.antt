@@ -1,11 +1,9 @@
--- The machine's script of what is run, the text of its run, and the vat whose step a step is.
-use Rattle.std.specs.Prelude.{ℕ, nat_lt, ◌-◌, Bool, true, false, if◌then◌else◌, List, [], get_or, length, slice_get, Some, None}
+-- The greatest depth of what is run, the text of the machine's run on a script, and the vat whose step a step is.
+use Rattle.std.specs.Prelude.{ℕ, nat_lt, ◌-◌, Bool, true, false, if◌then◌else◌, List, length, slice_get, Some, None}
 use Rattle.std.specs.declared.option.Option.{Option}
-use Rattle.def_kernel.specs.declared.node.Node.{Node}
 use Rattle.def_run.specs.World as machine
 use Rattle.def_run.specs.World.{run}
 use Rattle.def_run.specs.Text.{text, wire_text}
-use Rattle.law_schedule.specs.Scripts.{machine_script}
 use Rattle.ev_script.specs.declared.script.Entry.{Entry}
 use Rattle.ev_script.specs.declared.script.Entry.TheVariants.{Turn, Carry, Cut, Notice}
 use Rattle.ev_script.specs.declared.script.Script.{Script}
@@ -13,14 +11,6 @@ use Rattle.ev_script.specs.declared.script.Script.{Script}
 -- the greatest depth at which a node begins
 abbrev pub greatest_depth : ℕ
 greatest_depth = 20000
-
--- the tree at a place
-abbrev pub tree_at : List (List Node) → ℕ → List Node
-tree_at trees place = get_or trees place []
-
--- the machine's script of a script that is read, where the programs of its vats have these trees, in order
-abbrev pub script_of : Script → List (List Node) → machine.Script
-script_of script trees = machine_script greatest_depth (tree_at trees) script
 
 -- the text of the machine's run on a script, with the frames where they are asked for
 abbrev pub text_of : Bool → machine.Script → List ℕ

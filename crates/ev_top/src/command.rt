@@ -24,6 +24,8 @@ pub enum Command {
     Sturdy,
     /// Answers lines on brands and mints.
     Mint,
+    /// Judges the text of a run.
+    Check,
 }
 
 /// The command that a word is.
@@ -35,6 +37,7 @@ fn command_alone(word: &str) -> Option<Command>
         "expand" => Some(Command::Expand),
         "sturdy" => Some(Command::Sturdy),
         "mint" => Some(Command::Mint),
+        "check" => Some(Command::Check),
         _ => None,
     }
 }
@@ -94,6 +97,7 @@ pub fn reads(command: Command) -> bool
 {
     match command {
         Command::Generate(_) | Command::Sum(_) => false,
-        Command::Run { .. } | Command::Expand | Command::Sturdy | Command::Mint => true,
+        Command::Run { .. } | Command::Expand | Command::Sturdy | Command::Mint | Command::Check =>
+            true,
     }
 }

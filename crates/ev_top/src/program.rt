@@ -14,7 +14,7 @@ ghost use Rattle.ev_top.specs.Programs.{refusal};
 
 use crate::command::{Command, command_of, reads};
 use crate::expansion::expand_bytes;
-use crate::lines::{mint_bytes, reply_generated, sturdy_bytes};
+use crate::lines::{check_bytes, mint_bytes, reply_generated, sturdy_bytes};
 use crate::reply::{Owed, Reply, reply_line};
 use crate::run::{owed_bytes, write_prepared};
 use crate::status::Status;
@@ -59,6 +59,7 @@ fn reply_bytes(alloc: Global, command: Command, bytes: &[u8]) -> Result<Owed, Me
         Command::Sum(number) => Ok(Owed::Reply(sum_generated(alloc, number)?)),
         Command::Sturdy => Ok(Owed::Reply(sturdy_bytes(alloc, bytes)?)),
         Command::Mint => Ok(Owed::Reply(mint_bytes(alloc, bytes)?)),
+        Command::Check => Ok(Owed::Reply(check_bytes(alloc, bytes)?)),
     }
 }
 

@@ -15,7 +15,7 @@ use Rattle.ev_ways.specs.declared.frame.Frame.{Frame}
 use Rattle.ev_ways.specs.Rows.{Lane, fresh}
 use Rattle.ev_ways.specs.Standing.{AreFrames, AreWays, IsWay, Placed, placed_from, placed_to}
 use Rattle.ev_ways.specs.Statements.{LeftStands}
-use Rattle.ev_ways.specs.Telling.{left_frames, left_row, left_rows}
+use Rattle.ev_ways.specs.Telling.{left_frames, left_labels, left_row, left_rows}
 use Rattle.ev_ways.proofs.Cuts.{shown_join}
 
 -- ---- by the ways in order
@@ -25,7 +25,7 @@ left_placed [] = []
 left_placed (p ∷ ps) = left_frames p.from p.to p.lane.frames ++ left_placed ps
 
 frames_left : (ds : List ℕ) (v u : ℕ) (xs : List Carrying) (ks : List Frame) → AreFrames ds u xs ks → shown_events ds (map (λ (x : Carrying). LeftLink v u x.note) xs) ≡ left_frames v u ks
-unfolding shown_events shown_event left_frames
+unfolding shown_events shown_event left_labels left_frames
 frames_left ds v u [] [] h = refl
 frames_left ds v u (x ∷ xs) (k ∷ ks) h =
     ap (λ (es : List ShownEvent). shown_event ds (LeftLink v u x.note) ++ es) (frames_left ds v u xs ks h.1)
@@ -59,7 +59,7 @@ placed_join (p ∷ ps) qs =
 
 row_or : (v u : ℕ) (b : Bool) (l : Lane) (ps : List Placed) (es : List ShownEvent) → (b ≡ true → l ≡ fresh) → left_placed ps ≡ es
     → left_placed (elim b [ true ↦ ps | false ↦ record { from = v; to = u; lane = l } ∷ ps ]) ≡ left_frames v u l.frames ++ es
-unfolding left_placed left_frames
+unfolding left_placed left_labels left_frames
 row_or v u true l ps es f h = h ∙ ap (λ (m : Lane). left_frames v u m.frames ++ es) (sym (f refl))
 row_or v u false l ps es f h = ap (λ (fs : List ShownEvent). left_frames v u l.frames ++ fs) h
 

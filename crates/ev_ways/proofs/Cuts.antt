@@ -16,7 +16,7 @@ use Rattle.ev_ways.specs.declared.frame.Frame.{Frame}
 use Rattle.ev_ways.specs.Rows.{Lane, changed, changed_from, frames_at, frames_to, row_at, row_of, set_found, severed, with_at}
 use Rattle.ev_ways.specs.Standing.{Placed, AreFrames, IsWay, WaysStand, placed_from, told_message}
 use Rattle.ev_ways.specs.Statements.{CutStands}
-use Rattle.ev_ways.specs.Telling.{lost_event, lost_events}
+use Rattle.ev_ways.specs.Telling.{lost_event, lost_events, lost_labels}
 use Rattle.ev_ways.proofs.Places.{on, placed_at}
 use Rattle.ev_ways.proofs.Stands.{MayStand, finds, changes_stand}
 use Rattle.ev_ways.proofs.Looks.{of_place, frames_found}
@@ -38,7 +38,7 @@ note_lost ds (Elsewhere n c) es = refl
 note_lost ds (Shorten n c i) es = refl
 
 pub frames_lost : (ds : List ℕ) (u : ℕ) (xs : List Carrying) (ks : List Frame) → AreFrames ds u xs ks → shown_events ds (lost_frames xs) ≡ lost_events ks
-unfolding lost_frames lost_events shown_events
+unfolding lost_frames lost_labels lost_events shown_events
 frames_lost ds u [] [] h = refl
 frames_lost ds u (x ∷ xs) (k ∷ ks) h =
     note_lost ds x.note (lost_frames xs)
@@ -48,7 +48,7 @@ frames_lost ds u [] (k ∷ ks) h = absurd h
 frames_lost ds u (x ∷ xs) [] h = absurd h
 
 lost_of : (ds : List ℕ) (v u : ℕ) (o : Option Way) (q : Option Placed) → MayStand ds v u o q → shown_events ds (lost_on o) ≡ lost_events (of_place [] (λ (l : Lane). l.frames) q)
-unfolding lost_on lost_events shown_events
+unfolding lost_on lost_labels lost_events shown_events
 lost_of ds v u None None h = refl
 lost_of ds v u (Some l) (Some p) h = frames_lost ds l.to l.frames p.lane.frames h.stands.under_way
 lost_of ds v u None (Some p) h = absurd h

@@ -1,3 +1,4 @@
+pub mod Labels
 pub mod Rows
 pub mod Standing
 pub mod Telling

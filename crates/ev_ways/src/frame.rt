@@ -1,5 +1,7 @@
 //! A frame under way from one vat to another.
 
+ghost use Rattle.std.specs.Prelude.{◌≡◌};
+
 use def_event::ShownNote;
 use ev_base::{Msg, Seq};
 
@@ -15,7 +17,23 @@ pub struct Frame {
     pub asks: bool,
 }
 
-impl Frame {
-    /// The frame is lost.
-    pub fn lose(self) {}
+/// What a history tells of a frame.
+#[derive(Drop)]
+pub struct Label {
+    /// The note that it says, as it prints.
+    pub note: ShownNote,
+    /// The message that it brings, if one.
+    pub message: Option<Msg>,
+    /// Whether that asks for an answer.
+    pub asks: bool,
+}
+
+impl Label {
+    /// The message that the frame brings, if one.
+    pub fn into_message(self) -> Option<Msg>
+        ensures { result ≡ self.message }
+    {
+        let Label { message, .. } = self;
+        message
+    }
 }

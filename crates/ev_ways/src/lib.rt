@@ -8,6 +8,6 @@ pub mod telling;
 pub mod way;
 pub mod ways;
 
-pub use frame::Frame;
+pub use frame::{Frame, Label};
 pub use telling::tell_lost;
 pub use ways::Ways;

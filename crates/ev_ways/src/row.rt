@@ -1,10 +1,11 @@
 //! The ways from one vat to each other.
 
-ghost use Rattle.std.specs.Prelude.{◌≡◌, ◌++◌, IfOk, OnOk};
+ghost use Rattle.std.specs.Prelude.{◌≡◌, ◌++◌, IfOk, OnOk, map};
+ghost use Rattle.ev_ways.specs.Labels.{label_of};
 ghost use Rattle.ev_ways.specs.Rows.{behind, cut_to, cuts, first_to, frames_to, fresh_row, next_to, put, rest, severed, with_at};
 ghost use Rattle.ev_ways.specs.Telling.{left_row};
 
-use crate::frame::Frame;
+use crate::frame::{Frame, Label};
 use crate::telling::tell_left;
 use crate::way::Way;
 use ev_base::{Memory, VatId};
@@ -74,10 +75,7 @@ impl Row {
         ensures ok { OnOk result (self.new ≡ with_at (put frame) to self.old) }
     {
         match self.ways.get_mut(to) {
-            None => {
-                frame.lose();
-                Ok(())
-            }
+            None => Ok(()),
             Some(way) => way.push(frame),
         }
     }
@@ -94,10 +92,10 @@ impl Row {
         }
     }
 
-    /// Cuts the way to that vat. The answer are the frames that were under way, which are lost.
+    /// Cuts the way to that vat. The answer are the labels of the frames that were under way, which are lost.
     #[tactic(auto, unfolding(crate::specs::Rows::with_at, crate::specs::Rows::set_found, crate::specs::Rows::frames_to, crate::specs::Rows::frames_in))]
-    pub fn cut(&mut self, alloc: Global, to: usize) -> VecDeque<Frame>
-        ensures lost { result.items ≡ frames_to to self.old }
+    pub fn cut(&mut self, alloc: Global, to: usize) -> VecDeque<Label>
+        ensures lost { result.items ≡ map label_of (frames_to to self.old) }
         ensures after { self.new ≡ with_at severed to self.old }
     {
         match self.ways.get_mut(to) {
@@ -126,7 +124,7 @@ impl Row {
         let Row { ways } = self;
         let mut to = 0u8;
         for way in ways {
-            tell_left(alloc, history, from, VatId(to), way.into_frames())?;
+            tell_left(alloc, history, from, VatId(to), way.into_labels())?;
             to = to.checked_add(1).ok_or(Memory)?;
         }
         Ok(())

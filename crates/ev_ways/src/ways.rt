@@ -1,10 +1,11 @@
 //! The ways between all vats of a run.
 
-ghost use Rattle.std.specs.Prelude.{◌≡◌, ◌++◌, IfOk, OnOk};
+ghost use Rattle.std.specs.Prelude.{◌≡◌, ◌++◌, IfOk, OnOk, map};
+ghost use Rattle.ev_ways.specs.Labels.{label_of};
 ghost use Rattle.ev_ways.specs.Rows.{behind, changed, changed_from, cuts, first_at, first_from, frames_at, fresh_rows, is_cut_at, next_at, next_from, put, rest, row_at, severed};
 ghost use Rattle.ev_ways.specs.Telling.{left_rows};
 
-use crate::frame::Frame;
+use crate::frame::{Frame, Label};
 use crate::row::Row;
 use ev_base::{Memory, VatId};
 use ev_event::History;
@@ -74,7 +75,6 @@ impl Ways {
         ensures { OnOk result (self.new ≡ changed (put frame) from to self.old) }
     {
         if from.0 == to.0 {
-            frame.lose();
             return Ok(());
         }
         self.push_from(from.0 as usize, to.0 as usize, frame)
@@ -85,10 +85,7 @@ impl Ways {
         ensures { OnOk result (self.new ≡ changed_from (put frame) from to self.old) }
     {
         match self.rows.get_mut(from) {
-            None => {
-                frame.lose();
-                Ok(())
-            }
+            None => Ok(()),
             Some(row) => row.push(to, frame),
         }
     }
@@ -116,10 +113,10 @@ impl Ways {
         }
     }
 
-    /// Cuts the way from one vat to another. The answer are the frames that were under way, which are lost.
+    /// Cuts the way from one vat to another. The answer are the labels of the frames that were under way, which are lost.
     #[tactic(auto, unfolding(crate::specs::Rows::changed, crate::specs::Rows::changed_from, crate::specs::Rows::with_at, crate::specs::Rows::set_found, crate::specs::Rows::frames_at, crate::specs::Rows::row_at, crate::specs::Rows::row_of, crate::specs::Rows::frames_to, crate::specs::Rows::frames_in))]
-    pub fn cut(&mut self, alloc: Global, from: VatId, to: VatId) -> VecDeque<Frame>
-        ensures lost { result.items ≡ frames_at from to self.old }
+    pub fn cut(&mut self, alloc: Global, from: VatId, to: VatId) -> VecDeque<Label>
+        ensures lost { result.items ≡ map label_of (frames_at from to self.old) }
         ensures after { self.new ≡ changed severed from to self.old }
     {
         if from.0 == to.0 {

@@ -13,7 +13,7 @@ use Rattle.ev_resident.specs.declared.resident.Resident.{Resident}
 use Rattle.ev_ways.proofs.Closing.{left_stands}
 use Rattle.ev_ways.proofs.Cuts.{shown_join}
 use Rattle.ev_ways.specs.Rows.{Lane}
-use Rattle.ev_ways.specs.Telling.{left_frames, left_row, left_rows}
+use Rattle.ev_ways.specs.Telling.{left_frames, left_labels, left_row, left_rows}
 use Rattle.ev_ways.specs.declared.frame.Frame.{Frame}
 use Rattle.ev_world.specs.Closing.{all_left}
 use Rattle.ev_world.specs.Standing.{Comes, IsWorld, told_so}
@@ -25,7 +25,7 @@ use Rattle.ev_world.proofs.Remains.{members_shown, vats_plain}
 -- ---- what is left on ways has no frames
 
 frames_plain : (v u : ℕ) (ks : List Frame) → IsPlain (left_frames v u ks)
-unfolding left_frames
+unfolding left_labels left_frames
 frames_plain v u [] = refl
 frames_plain v u (k ∷ ks) = ap (λ (es : List ShownEvent). line.LeftLink v u k.note ∷ es) (frames_plain v u ks)
 

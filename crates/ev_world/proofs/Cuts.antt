@@ -1,5 +1,5 @@
 -- Steps of a run that change no vat: a link is cut, and an entry that does nothing.
-use Rattle.std.proofs.Common.{◌≡◌, ℕ, Bool, true, false, List, [], ◌∷◌, ◌++◌, Option, Some, None, length, refl, sym, ap, subst, ◌∙◌, append_assoc}
+use Rattle.std.proofs.Common.{◌≡◌, ℕ, Bool, true, false, List, [], ◌∷◌, ◌++◌, Option, Some, None, length, map, refl, sym, ap, subst, ◌∙◌, append_assoc}
 use Rattle.std.specs.Prelude.{filter}
 use Rattle.std.proofs.lemmas.List.Elements.{filter-append}
 use Rattle.def_event.specs.Lines.{is_no_frame}
@@ -11,11 +11,13 @@ use Rattle.def_run.specs.Text.{shown_events}
 use Rattle.def_run.specs.World.{CutAt, CutLink, Event, Idle, Script}
 use Rattle.ev_base.specs.declared.names.Msg.{Msg}
 use Rattle.ev_ways.specs.declared.frame.Frame.{Frame}
+use Rattle.ev_ways.specs.declared.frame.Label.{Label}
+use Rattle.ev_ways.specs.Labels.{label_of}
 use Rattle.ev_ways.specs.Rows.{Lane, changed, frames_at}
 use Rattle.ev_ways.specs.Rows as rows
 use Rattle.ev_ways.specs.Standing.{WaysStand}
 use Rattle.ev_ways.specs.Statements.{IsCut}
-use Rattle.ev_ways.specs.Telling.{lost_event, lost_events}
+use Rattle.ev_ways.specs.Telling.{lost_event, lost_events, lost_labels}
 use Rattle.ev_ways.proofs.Cuts.{cut_stands, shown_join}
 use Rattle.ev_world.specs.Standing.{Comes, IsWorld, told_so}
 use Rattle.ev_world.specs.declared.world.World.{World}
@@ -32,7 +34,7 @@ one_lost None es e = e
 one_lost (Some m) es e = ap (λ (xs : List ShownEvent). line.LostCut m ∷ xs) e
 
 lost_plain : (ks : List Frame) → filter is_no_frame (lost_events ks) ≡ lost_events ks
-unfolding lost_events
+unfolding lost_labels lost_events
 lost_plain [] = refl
 lost_plain (k ∷ ks) = one_lost k.message (lost_events ks) (lost_plain ks)
 
@@ -99,19 +101,20 @@ pub cut_told : (h a b : List ShownEvent) (e : ShownEvent) → ((h ++ e ∷ []) +
 cut_told h a b e = append_assoc (h ++ e ∷ []) a b ∙ append_assoc h (e ∷ []) (a ++ b)
 
 -- what is left once both ways were cut, one after the other
-pub cut_done : (S : Script) (w : Vats) (c : World) (k v u : ℕ) (there back : List (List Lane)) (first second : List Frame) (a b h : List ShownEvent) → IsWorld S w c
-    → there ≡ changed rows.severed v u c.ways → back ≡ changed rows.severed u v there → first ≡ frames_at v u c.ways → second ≡ frames_at u v there
-    → a ≡ c.history ++ line.Cut k v u ∷ [] → b ≡ a ++ lost_events first → h ≡ b ++ lost_events second
+pub cut_done : (S : Script) (w : Vats) (c : World) (k v u : ℕ) (there back : List (List Lane)) (first second : List Label) (a b h : List ShownEvent) → IsWorld S w c
+    → there ≡ changed rows.severed v u c.ways → back ≡ changed rows.severed u v there → first ≡ map label_of (frames_at v u c.ways) → second ≡ map label_of (frames_at u v there)
+    → a ≡ c.history ++ line.Cut k v u ∷ [] → b ≡ a ++ lost_labels first → h ≡ b ++ lost_labels second
     → Comes (λ (y : Vats). IsWorld S y (record c { ways = back; history = h })) (step S (CutLink v u) k w)
+unfolding lost_events
 cut_done S w c k v u there back first second a b h at one two lost more begun then_lost then_more =
     let ways : changed rows.severed u v (changed rows.severed v u c.ways) ≡ back = sym (two ∙ ap (λ (r : List (List Lane)). changed rows.severed u v r) one) in
-    let all_first : lost_events first ≡ lost_events (frames_at v u c.ways) = ap lost_events lost in
-    let all_second : lost_events second ≡ lost_events (frames_at u v (changed rows.severed v u c.ways)) = ap lost_events (more ∙ ap (λ (r : List (List Lane)). frames_at u v r) one) in
+    let all_first : lost_labels first ≡ lost_events (frames_at v u c.ways) = ap lost_labels lost in
+    let all_second : lost_labels second ≡ lost_events (frames_at u v (changed rows.severed v u c.ways)) = ap lost_labels (more ∙ ap (λ (r : List (List Lane)). map label_of (frames_at u v r)) one) in
     let lines : h ≡ c.history ++ cut_lines k v u c.ways =
     then_more
-    ∙ ap (λ (es : List ShownEvent). es ++ lost_events second) (then_lost ∙ ap (λ (es : List ShownEvent). es ++ lost_events first) begun)
-    ∙ cut_told c.history (lost_events first) (lost_events second) (line.Cut k v u)
-    ∙ ap (λ (es : List ShownEvent). c.history ++ line.Cut k v u ∷ (es ++ lost_events second)) all_first
+    ∙ ap (λ (es : List ShownEvent). es ++ lost_labels second) (then_lost ∙ ap (λ (es : List ShownEvent). es ++ lost_labels first) begun)
+    ∙ cut_told c.history (lost_labels first) (lost_labels second) (line.Cut k v u)
+    ∙ ap (λ (es : List ShownEvent). c.history ++ line.Cut k v u ∷ (es ++ lost_labels second)) all_first
     ∙ ap (λ (es : List ShownEvent). c.history ++ line.Cut k v u ∷ (lost_events (frames_at v u c.ways) ++ es)) all_second in
     subst (λ (r : List (List Lane)). Comes (λ (y : Vats). IsWorld S y (record c { ways = r; history = h })) (step S (CutLink v u) k w)) ways
     (subst (λ (es : List ShownEvent). Comes (λ (y : Vats). IsWorld S y (record c { ways = changed rows.severed u v (changed rows.severed v u c.ways); history = es })) (step S (CutLink v u) k w)) (sym lines)

@@ -1,6 +1,5 @@
 -- The whole run in the code is the run in numbers: its end, and its text.
-use Rattle.std.proofs.Common.{◌≡◌, ℕ, zero, suc, Bool, true, false, List, [], ◌∷◌, Result, Ok, Err, length, map, refl, sym, ap, subst, ◌∙◌}
-use Rattle.std.specs.Prelude.{string_bytes, IfOk}
+use Rattle.std.proofs.Common.{◌≡◌, ℕ, zero, suc, Bool, true, false, List, [], ◌∷◌, Result, Err, length, map, refl, sym, ap, subst, ◌∙◌}
 use Rattle.def_event.specs.Lines.{render}
 use Rattle.def_event.specs.declared.event.Event.{Event as ShownEvent}
 use Rattle.def_kernel.specs.declared.node.Node.{Node}
@@ -10,20 +9,13 @@ use Rattle.def_machine.specs.State as machine
 use Rattle.def_machine.specs.Values.{Words}
 use Rattle.def_run.specs.Text.{shown_events, vat_names}
 use Rattle.def_run.specs.World.{Program, Script}
-use Rattle.ev_base.specs.declared.memory.Memory.{Memory as NoMemory}
 use Rattle.ev_scope.specs.declared.accepted.Scoped.{Scoped}
 use Rattle.ev_script.specs.declared.script.Script.{Script as TheirScript}
 use Rattle.ev_script.specs.declared.script.VatScript.{VatScript}
-use Rattle.ev_vat.specs.declared.vat.VatStop.{VatStop}
-use Rattle.ev_vat.specs.declared.vat.VatStop.TheVariants.{Fuel, Deep, WordRepeated, Astray, Memory}
 use Rattle.ev_world.proofs.Loops.{halts_on, runs_on}
-use Rattle.ev_world.specs.Ends.{StoppedAs, Tells, course_of, stopped_text}
-use Rattle.ev_world.specs.Running.{end_by, end_of, script_of, told_text, tree_in}
-use Rattle.ev_world.specs.Standing.{Comes, HaltsAs, HaltsWith, IsWorld, RunIs, told_so}
-use Rattle.law_peers.specs.Steady.{RunsSteadily}
-use Rattle.ev_world.specs.declared.run.RunEnd.{RunEnd}
-use Rattle.ev_world.specs.declared.run.RunEnd.TheVariants as end
-use Rattle.ev_world.specs.declared.run.Told.{Told}
+use Rattle.ev_world.specs.Ends.{course_of, stopped_text}
+use Rattle.ev_world.specs.Running.{script_of, told_text, tree_in}
+use Rattle.ev_world.specs.Standing.{Comes, RunIs, told_so}
 use Rattle.ev_world.specs.declared.world.Halted.{Halted}
 use Rattle.ev_world.specs.declared.world.World.{World}
 use Rattle.law_schedule.specs.Scripts.{machine_vats}
@@ -88,52 +80,3 @@ pub text_halts : (S : Script) (wire : Bool) (s : machine.Stop) (k : ℕ) (w : Va
 unfolding text wire_text
 text_halts S true s k w told e t = ap (λ (es : List ShownEvent). stopped_text (vat_names S) es s k) t ∙ sym (ap (λ (c : Course). wire_text S c) e)
 text_halts S false s k w told e t = ap (λ (es : List ShownEvent). stopped_text (vat_names S) es s k) t ∙ sym (ap (λ (c : Course). text S c) e)
-
--- ---- what is answered
-
--- the answer tells the run in numbers
-abbrev pub IsRun : Script → Bool → Words → RunEnd → Type 0
-IsRun S wire t e = (t ≡ told_text wire S) × (e ≡ end_of (run S))
-
-pub done_is : (S : Script) (wire : Bool) (names : List Words) (w : Vats) (told : List ShownEvent) (t : Words) → names ≡ vat_names S → course_of S ≡ Runs w
-    → Comes (λ (y : Vats). told ≡ told_so wire (shown_events y.drawn y.history)) (close S w) → t ≡ render names told → IsRun S wire t end.Done
-done_is S wire names w told t n e closed said =
-    let whole : run S ≡ Runs closed.0 = run_goes S w closed.0 e closed.1.0 in (
-      said ∙ ap (λ (ns : List Words). render ns told) n ∙ text_goes S wire closed.0 told whole closed.1.1,
-      sym (ap end_of whole),
-    )
-
-stopped_with : (S : Script) (wire : Bool) (names : List Words) (s : machine.Stop) (k : ℕ) (told : List ShownEvent) (x : Told) → names ≡ vat_names S → HaltsWith s k wire (course_of S) told
-    → Tells x (end_by s k) (stopped_text names told s k) → IsRun S wire (string_bytes x.text) x.end
-stopped_with S wire names s k told x n h tells =
-    let whole : run S ≡ Halts s k h.0 = run_halts S s k h.0 h.1.0 in (
-      tells.1 ∙ ap (λ (ns : List Words). stopped_text ns told s k) n ∙ text_halts S wire s k h.0 told whole h.1.1,
-      tells.0 ∙ sym (ap end_of whole),
-    )
-
-pub stopped_is : (S : Script) (wire : Bool) (names : List Words) (c : VatStop) (k : ℕ) (told : List ShownEvent) (r : Result Told NoMemory) → names ≡ vat_names S → HaltsAs c k wire (course_of S) told
-    → StoppedAs c k names told r → IfOk r (λ x. IsRun S wire (string_bytes x.text) x.end)
-stopped_is S wire names c k told (Err e) n h s = tt
-stopped_is S wire names Fuel k told (Ok x) n h s = stopped_with S wire names machine.Fuel k told x n h s
-stopped_is S wire names Deep k told (Ok x) n h s = stopped_with S wire names machine.Deep k told x n h s
-stopped_is S wire names (WordRepeated i j) k told (Ok x) n h s = stopped_with S wire names (machine.Repeated i j) k told x n h s
-stopped_is S wire names Astray k told (Ok x) n h s = stopped_with S wire names machine.Astray k told x n h s
-stopped_is S wire names Memory k told (Ok x) n h s = absurd s
-
-pub stopped_text_is : (S : Script) (wire was : Bool) (names : List Words) (c : VatStop) (k : ℕ) (told : List ShownEvent) (r : Result Told NoMemory) → names ≡ vat_names S → was ≡ wire
-    → (RunsSteadily S → HaltsAs c k was (course_of S) told) → StoppedAs c k names told r → IfOk r (λ x. RunsSteadily S → string_bytes x.text ≡ told_text wire S)
-stopped_text_is S wire was names c k told (Err e) n same h s = tt
-stopped_text_is S wire was names c k told (Ok x) n same h s =
-    λ steady. (stopped_is S wire names c k told (Ok x) n (subst (λ (b : Bool). HaltsAs c k b (course_of S) told) same (h steady)) s).0
-
-pub stopped_end_is : (S : Script) (wire was : Bool) (names : List Words) (c : VatStop) (k : ℕ) (told : List ShownEvent) (r : Result Told NoMemory) → names ≡ vat_names S → was ≡ wire
-    → (RunsSteadily S → HaltsAs c k was (course_of S) told) → StoppedAs c k names told r → IfOk r (λ x. RunsSteadily S → x.end ≡ end_of (run S))
-stopped_end_is S wire was names c k told (Err e) n same h s = tt
-stopped_end_is S wire was names c k told (Ok x) n same h s =
-    λ steady. (stopped_is S wire names c k told (Ok x) n (subst (λ (b : Bool). HaltsAs c k b (course_of S) told) same (h steady)) s).1
-
-pub done_with : (S : Script) (wire was : Bool) (names : List Words) (c : World) (told : List ShownEvent) (t : Words) → names ≡ vat_names S → was ≡ wire → Comes (λ (w : Vats). IsWorld S w c) (course_of S)
-    → ((w : Vats) → IsWorld S w c → Comes (λ (y : Vats). told ≡ told_so was (shown_events y.drawn y.history)) (close S w)) → t ≡ render names told → IsRun S wire t end.Done
-done_with S wire was names c told t n same went closes said =
-    done_is S wire names went.0 told t n went.1.0
-    (subst (λ (b : Bool). Comes (λ (y : Vats). told ≡ told_so b (shown_events y.drawn y.history)) (close S went.0)) same (closes went.0 went.1.1)) said

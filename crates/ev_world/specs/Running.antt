@@ -1,5 +1,5 @@
 -- The run of a script in numbers, as the code tells it.
-use Rattle.std.specs.Prelude.{ℕ, Bool, true, false, List, [], get_or, map}
+use Rattle.std.specs.Prelude.{ℕ, Bool, true, false, List, map}
 use Rattle.def_kernel.specs.declared.node.Node.{Node}
 use Rattle.def_machine.specs.State.{Stop, Fuel, Deep, Repeated, Astray}
 use Rattle.def_run.specs.World as machine
@@ -9,13 +9,13 @@ use Rattle.ev_scope.specs.declared.accepted.Scoped.{Scoped}
 use Rattle.ev_script.specs.declared.script.Script.{Script}
 use Rattle.ev_world.specs.declared.run.RunEnd.{RunEnd}
 use Rattle.ev_world.specs.declared.run.RunEnd.TheVariants as end
-use Rattle.law_schedule.specs.Scripts.{machine_script}
+use Rattle.law_schedule.specs.Scripts.{machine_script, tree_at}
 
 -- the tree of the program at a place
 abbrev pub tree_in : List Scoped → ℕ → List Node
-tree_in programs place = get_or (map (λ (p : Scoped). p.tree) programs) place []
+tree_in programs place = tree_at (map (λ (p : Scoped). p.tree) programs) place
 
--- the machine's script, with the trees of these programs
+-- the machine's script of a script that is read, where these are the programs of its vats, in order, by the greatest depth
 abbrev pub script_of : Script → List Scoped → ℕ → machine.Script
 script_of script programs depth = machine_script depth (tree_in programs) script
 

@@ -44,7 +44,7 @@ fn history_of(world: World) -> History
     history
 }
 
-/// Runs a script as `run_script` does, and gives the events of which the text without frames has a line each, in order.
+/// Runs a script as `write_run` does, and gives the events of which the text without frames has a line each, in order.
 ///
 /// Memory grows with what is told and held.
 pub fn run_events(

@@ -15,6 +15,6 @@ pub mod writing;
 pub mod written;
 
 pub use events::{Ran, run_events};
-pub use run::{RunEnd, Told, run_script};
+pub use run::RunEnd;
 pub use writing::Unfinished;
 pub use written::write_run;

@@ -1,18 +1,12 @@
-//! The run of a script, and its text.
+//! How a run ended, and the text of one that stopped.
 
-ghost use Rattle.std.specs.Prelude.{◌≡◌, IfOk, length, map, string_bytes};
+ghost use Rattle.std.specs.Prelude.{◌≡◌, IfOk, map, string_bytes};
 ghost use Rattle.def_event.specs.Lines.{render};
-ghost use Rattle.def_local.specs.Numbers.{run};
-ghost use Rattle.ev_script.specs.Rules.{IsAdmitted};
 ghost use Rattle.ev_world.specs.Ends.{StoppedAs};
-ghost use Rattle.ev_world.specs.Running.{end_of, script_of, told_text};
-ghost use Rattle.law_peers.specs.Steady.{RunsSteadily};
 
-use crate::world::World;
-use ev_base::{Limits, Memory, Seq, Str};
+use ev_base::{Memory, Seq, Str};
 use ev_event::History;
-use ev_scope::Scoped;
-use ev_script::{Script, VatScript};
+use ev_script::VatScript;
 use ev_vat::VatStop;
 use std::alloc::Global;
 
@@ -31,11 +25,11 @@ pub enum RunEnd {
     Astray(u64),
 }
 
-/// How a run ended, and its text.
+/// How a run ended, and a text that tells it.
 #[derive(Drop)]
-pub struct Told {
-    pub end: RunEnd,
-    pub text: String,
+pub(crate) struct Told {
+    pub(crate) end: RunEnd,
+    pub(crate) text: String,
 }
 
 /// The names of the vats of a script.
@@ -86,36 +80,4 @@ pub(crate) fn stopped(
         }),
         VatStop::Memory => Err(Memory),
     }
-}
-
-/// Runs a script: the opening turn of each vat, in order, each with its program, and the entries of the schedule. No node begins below
-/// `limits.depth` levels. The text has the frames where `wire` asks for them.
-///
-/// Memory grows with what is told and held.
-pub fn run_script(
-    alloc: Global,
-    script: &Script,
-    programs: Vec<Scoped>,
-    limits: Limits,
-    wire: bool,
-) -> Result<Told, Memory>
-    requires admitted { IsAdmitted script.now }
-    requires programs { length programs.items ≡ length script.now.vats }
-    ensures text { IfOk result (λ told. RunsSteadily (script_of script.now programs.items limits.depth)
-        → string_bytes told.text ≡ told_text wire (script_of script.now programs.items limits.depth)) }
-    ensures end { IfOk result (λ told. RunsSteadily (script_of script.now programs.items limits.depth)
-        → told.end ≡ end_of (run (script_of script.now programs.items limits.depth))) }
-{
-    let vats = script.vats.as_slice();
-    let names = names_of(alloc, vats)?;
-    let mut world = World::start(alloc, script, programs, limits, wire)?;
-    if let Err(halted) = world.go_on(alloc, vats.len(), script.schedule.as_slice()) {
-        return stopped(alloc, &names, &world.history, halted.stop, halted.step);
-    }
-    let history = world.close(alloc)?;
-    let text = rendered(alloc, &names, &history)?;
-    Ok(Told {
-        end: RunEnd::Done,
-        text,
-    })
 }

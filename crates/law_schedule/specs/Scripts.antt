@@ -1,5 +1,5 @@
 -- A script that is read, as the machine's script.
-use Rattle.std.specs.Prelude.{ℕ, zero, suc, List, [], ◌∷◌, map}
+use Rattle.std.specs.Prelude.{ℕ, zero, suc, List, [], ◌∷◌, get_or, map}
 use Rattle.def_kernel.specs.declared.node.Node.{Node}
 use Rattle.def_run.specs.World as world
 use Rattle.ev_script.specs.declared.script.Entry.{Entry}
@@ -17,6 +17,10 @@ machine_entry (Notice v w) = world.NoticeLink v w
 abbrev pub machine_vats : (ℕ → List Node) → ℕ → List VatScript → List world.Program
 machine_vats tree place [] = []
 machine_vats tree place (vat ∷ vats) = record { name = vat.name; knows = vat.knows; tree = tree place } ∷ machine_vats tree (suc place) vats
+
+-- the tree at a place
+abbrev pub tree_at : List (List Node) → ℕ → List Node
+tree_at trees place = get_or trees place []
 
 -- the machine's script, by the greatest depth and the tree of each vat's program
 abbrev pub machine_script : ℕ → (ℕ → List Node) → Script → world.Script

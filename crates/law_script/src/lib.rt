@@ -1,7 +1,7 @@
 //! What the laws of runs ask of a script, each script that is read has.
 #![tactic(auto)]
 
-ghost use Rattle.law_script.specs.Accepted.{AcceptedScriptsMeetTheLaws};
+ghost use Rattle.law_script.specs.Accepted.{AcceptedScriptsMeetTheLaws, AcceptedVatsAreNamed};
 
 /// Each script that is read, as the machine's script whatever the trees of its programs, meets what
 /// the laws of runs ask: no vat is told twice that it knows a vat, or that it knows itself; each vat
@@ -9,4 +9,10 @@ ghost use Rattle.law_script.specs.Accepted.{AcceptedScriptsMeetTheLaws};
 /// two vats, which are not one.
 pub fn accepted_scripts_meet_the_laws()
     ensures { AcceptedScriptsMeetTheLaws }
+{}
+
+/// And the names of its vats differ and are of letters and digits, as `law_text` asks of them: so
+/// a text of its run tells which vat is meant.
+pub fn accepted_vats_are_named()
+    ensures { AcceptedVatsAreNamed }
 {}

@@ -8,3 +8,8 @@ pub mod Told
 pub mod Named
 pub mod Valued
 pub mod Kinded
+pub mod Hexed
+pub mod Verbs
+pub mod Parted
+pub mod Rebuilt
+pub mod Stopped

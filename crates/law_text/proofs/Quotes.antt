@@ -110,7 +110,7 @@ module _ (Q : List ℕ → Type 0) (none : Q []) (one : (b : ℕ) (bs : List ℕ
   further_wide : (bits : ℕ) (bs : List ℕ) → Q bs → Q (further bits bs)
   further_wide bits bs h = one (128 + bits % 64) bs (omega arith) h
 
-  encoded : (c : ℕ) → (ltb c 128 ≡ true → Q (c ∷ [])) → Q (encode_utf8 c)
+  pub encoded : (c : ℕ) → (ltb c 128 ≡ true → Q (c ∷ [])) → Q (encode_utf8 c)
   unfolding encode_utf8
   encoded c h =
       pick_wide (ltb c 128) (c ∷ []) (cond (ltb c 2048) two (cond (ltb c 65536) three four)) h

@@ -97,7 +97,7 @@ module _ (vats : List (List ℕ)) (P : List ℕ → Type 0) (L : Leaves vats P) 
     value_line (Named n) = name_line n
     value_line (Members' shape row) = L.list (member_values vats row) (row_are row)
 
-    row_are : {n : _} (row : Row_of-Shown n) → Are (member_values vats row)
+    pub row_are : {n : _} (row : Row_of-Shown n) → Are (member_values vats row)
     row_are end_of-Shown = tt
     row_are (more_of-Shown x rest) = (value_line x, row_are rest)
 

@@ -1,10 +1,10 @@
 -- Where lines end with a line feed a text tells what each line tells that is told apart by its line feed.
-use Rattle.std.proofs.Common.{◌≡◌, ℕ, zero, Option, Some, None, List, [], ◌∷◌, ◌++◌, map, refl, sym, ◌∙◌, ap, append_assoc}
+use Rattle.std.proofs.Common.{◌≡◌, ℕ, zero, eqb, false, Option, Some, None, List, [], ◌∷◌, ◌++◌, map, refl, sym, ◌∙◌, ap, append_assoc}
 use Rattle.std.specs.List.{flat_map}
 use Rattle.def_event.specs.Lines.{spaced}
 use Rattle.law_text.specs.Feeds.{IsOneLine, AllOf}
 use Rattle.law_text.specs.Words.{Place, Outside, behind, reads_on, reads, IsWord}
-use Rattle.law_text.proofs.Front.{head_is, tail_is, cons_is, apart}
+use Rattle.law_text.proofs.Front.{head_is, tail_is, cons_is, two_marks, apart}
 use Rattle.law_text.proofs.Plain.{plain}
 use Rattle.law_text.proofs.Reading.{Goes}
 use Rattle.law_text.proofs.Spelled.{AllSome}
@@ -45,36 +45,59 @@ word_apart p (x ∷ xs) (y ∷ ys) r q c d m n h k e =
 abbrev behind_spaces : List (List ℕ) → List ℕ
 behind_spaces ws = flat_map (λ v. 32 ∷ v) ws
 
--- what stands behind a word begins with a byte that ends it
-begins : (ws : List (List ℕ)) (r : List ℕ) → (c : ℕ) × (more : List ℕ) × (behind_spaces ws ++ 10 ∷ r ≡ c ∷ more) × EndsWord c
-begins [] r = (10, r, refl, refl)
-begins (w ∷ ws) r = (32, (w ++ behind_spaces ws) ++ 10 ∷ r, refl, refl)
+-- it has a byte
+abbrev pub IsFull : List ℕ → Type 0
+IsFull w = w ≡ [] → ⊥
 
-word_then : (w v : List ℕ) (ws vs : List (List ℕ)) (r q : List ℕ) → IsWord w → IsWord v → w ++ (behind_spaces ws ++ 10 ∷ r) ≡ v ++ (behind_spaces vs ++ 10 ∷ q) → (w ≡ v) × (behind_spaces ws ++ 10 ∷ r ≡ behind_spaces vs ++ 10 ∷ q)
-word_then w v ws vs r q h k e =
-    let a = begins ws r in let b = begins vs q in
-    let same = word_apart (Outside zero) w v a.1 b.1 a.0 b.0 a.3 b.3 (h zero) (k zero) (ap (λ t. w ++ t) (sym a.2) ∙ e ∙ ap (λ t. v ++ t) b.2) in
-    (same.0, a.2 ∙ same.1 ∙ sym b.2)
+-- where the last word is ended by a byte that is no space
+module _ (z : ℕ) (ends : EndsWord z) (other : eqb z 32 ≡ false) where
+  -- what stands behind a word begins with a byte that ends it
+  begins : (ws : List (List ℕ)) (r : List ℕ) → (c : ℕ) × (more : List ℕ) × (behind_spaces ws ++ z ∷ r ≡ c ∷ more) × EndsWord c
+  begins [] r = (z, r, refl, ends)
+  begins (w ∷ ws) r = (32, (w ++ behind_spaces ws) ++ z ∷ r, refl, refl)
 
-ten_is_no_space : (r q : List ℕ) → ◌≡◌ {A = List ℕ} (10 ∷ r) (32 ∷ q) → ⊥
-ten_is_no_space r q e = cc
+  word_then : (w v : List ℕ) (ws vs : List (List ℕ)) (r q : List ℕ) → IsWord w → IsWord v → w ++ (behind_spaces ws ++ z ∷ r) ≡ v ++ (behind_spaces vs ++ z ∷ q) → (w ≡ v) × (behind_spaces ws ++ z ∷ r ≡ behind_spaces vs ++ z ∷ q)
+  word_then w v ws vs r q h k e =
+      let a = begins ws r in let b = begins vs q in
+      let same = word_apart (Outside zero) w v a.1 b.1 a.0 b.0 a.3 b.3 (h zero) (k zero) (ap (λ t. w ++ t) (sym a.2) ∙ e ∙ ap (λ t. v ++ t) b.2) in
+      (same.0, a.2 ∙ same.1 ∙ sym b.2)
 
-spaces_apart : (ws vs : List (List ℕ)) (r q : List ℕ) → AllOf IsWord ws → AllOf IsWord vs → behind_spaces ws ++ 10 ∷ r ≡ behind_spaces vs ++ 10 ∷ q → (ws ≡ vs) × (r ≡ q)
-spaces_apart [] [] r q h k e = (refl, tail_is 10 10 r q e)
-spaces_apart [] (v ∷ vs) r q h k e = absurd (ten_is_no_space r ((v ++ behind_spaces vs) ++ 10 ∷ q) e)
-spaces_apart (w ∷ ws) [] r q h k e = absurd (ten_is_no_space q ((w ++ behind_spaces ws) ++ 10 ∷ r) (sym e))
-spaces_apart (w ∷ ws) (v ∷ vs) r q h k e =
-    let one = word_then w v ws vs r q h.0 k.0 (sym (append_assoc w (behind_spaces ws) (10 ∷ r)) ∙ tail_is 32 32 ((w ++ behind_spaces ws) ++ 10 ∷ r) ((v ++ behind_spaces vs) ++ 10 ∷ q) e ∙ append_assoc v (behind_spaces vs) (10 ∷ q)) in
-    let more = spaces_apart ws vs r q h.1 k.1 one.1 in
-    (cons_is w v ws vs one.0 more.0, more.1)
+  no_space : (r q : List ℕ) → ◌≡◌ {A = List ℕ} (z ∷ r) (32 ∷ q) → ⊥
+  no_space r q e = two_marks z 32 other (head_is z 32 r q e)
+
+  spaces_apart : (ws vs : List (List ℕ)) (r q : List ℕ) → AllOf IsWord ws → AllOf IsWord vs → behind_spaces ws ++ z ∷ r ≡ behind_spaces vs ++ z ∷ q → (ws ≡ vs) × (r ≡ q)
+  spaces_apart [] [] r q h k e = (refl, tail_is z z r q e)
+  spaces_apart [] (v ∷ vs) r q h k e = absurd (no_space r ((v ++ behind_spaces vs) ++ z ∷ q) e)
+  spaces_apart (w ∷ ws) [] r q h k e = absurd (no_space q ((w ++ behind_spaces ws) ++ z ∷ r) (sym e))
+  spaces_apart (w ∷ ws) (v ∷ vs) r q h k e =
+      let one = word_then w v ws vs r q h.0 k.0 (sym (append_assoc w (behind_spaces ws) (z ∷ r)) ∙ tail_is 32 32 ((w ++ behind_spaces ws) ++ z ∷ r) ((v ++ behind_spaces vs) ++ z ∷ q) e ∙ append_assoc v (behind_spaces vs) (z ∷ q)) in
+      let more = spaces_apart ws vs r q h.1 k.1 one.1 in
+      (cons_is w v ws vs one.0 more.0, more.1)
+
+  one_and_more : (w v : List ℕ) (ws vs : List (List ℕ)) (r q : List ℕ) → AllOf IsWord (w ∷ ws) → AllOf IsWord (v ∷ vs) → spaced (w ∷ ws) ++ z ∷ r ≡ spaced (v ∷ vs) ++ z ∷ q → ◌≡◌ {A = List (List ℕ)} (w ∷ ws) (v ∷ vs) × (r ≡ q)
+  one_and_more w v ws vs r q h k e =
+      let one = word_then w v ws vs r q h.0 k.0 (sym (append_assoc w (behind_spaces ws) (z ∷ r)) ∙ e ∙ append_assoc v (behind_spaces vs) (z ∷ q)) in
+      let more = spaces_apart ws vs r q h.1 k.1 one.1 in
+      (cons_is w v ws vs one.0 more.0, more.1)
+
+  no_word : (v : List ℕ) (vs : List (List ℕ)) (r q : List ℕ) → IsWord v → IsFull v → z ∷ r ≡ spaced (v ∷ vs) ++ z ∷ q → ⊥
+  no_word v vs r q h full e = full (sym (word_then [] v [] vs r q (λ d. refl) h (e ∙ append_assoc v (behind_spaces vs) (z ∷ q))).0)
+
+  -- words of which there may be none
+  full_apart : (ws vs : List (List ℕ)) (r q : List ℕ) → AllOf IsWord ws → AllOf IsWord vs → AllOf IsFull ws → AllOf IsFull vs → spaced ws ++ z ∷ r ≡ spaced vs ++ z ∷ q → ws ≡ vs
+  full_apart [] [] r q h k f g e = refl
+  full_apart [] (v ∷ vs) r q h k f g e = absurd (no_word v vs r q k.0 g.0 e)
+  full_apart (w ∷ ws) [] r q h k f g e = absurd (no_word w ws q r h.0 f.0 (sym e))
+  full_apart (w ∷ ws) (v ∷ vs) r q h k f g e = (one_and_more w v ws vs r q h k e).0
 
 pub words_apart : (ws vs : List (List ℕ)) (r q : List ℕ) → AllSome IsWord ws → AllSome IsWord vs → spaced ws ++ 10 ∷ r ≡ spaced vs ++ 10 ∷ q → (ws ≡ vs) × (r ≡ q)
 words_apart [] vs r q h k e = absurd h
 words_apart (w ∷ ws) [] r q h k e = absurd k
-words_apart (w ∷ ws) (v ∷ vs) r q h k e =
-    let one = word_then w v ws vs r q h.0 k.0 (sym (append_assoc w (behind_spaces ws) (10 ∷ r)) ∙ e ∙ append_assoc v (behind_spaces vs) (10 ∷ q)) in
-    let more = spaces_apart ws vs r q h.1 k.1 one.1 in
-    (cons_is w v ws vs one.0 more.0, more.1)
+words_apart (w ∷ ws) (v ∷ vs) r q h k e = one_and_more 10 refl refl w v ws vs r q h k e
+
+-- between brackets
+pub members_apart : (ws vs : List (List ℕ)) → AllOf IsWord ws → AllOf IsWord vs → AllOf IsFull ws → AllOf IsFull vs → spaced ws ++ 93 ∷ [] ≡ spaced vs ++ 93 ∷ [] → ws ≡ vs
+members_apart ws vs h k f g e = full_apart 93 refl refl ws vs [] [] h k f g e
 
 -- ---- texts
 

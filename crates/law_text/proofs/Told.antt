@@ -5,13 +5,14 @@ use Rattle.std.specs.List.{flat_map, list_all}
 use Rattle.std.specs.Char.{digit_char}
 use Rattle.std.proofs.lemmas.Bool.{and_parts}
 use Rattle.def_event.specs.declared.event.Event.{Event}
-use Rattle.def_event.specs.Lines.{spaced, hex, is_no_frame, line_of, words}
+use Rattle.def_event.specs.declared.shown.Shown.{Row_of-Shown}
+use Rattle.def_event.specs.Lines.{spaced, hex, is_no_frame, line_of, member_values, words}
 use Rattle.law_text.specs.Feeds.{IsOneLine, AllOf, Fits, TextsTellLines}
 use Rattle.law_text.specs.Words.{Outside, IsWord, IsOrdinary, ordinary, WordsFit, TextsTellWords}
 use Rattle.law_text.proofs.Plain.{plain, line_cons, line_append, flat_line, decimal_line, signed_line, digit_line, quoted_character_line, shortened_line, verb_line}
 use Rattle.law_text.proofs.Reading.{Goes, goes_on, goes_first, ordinary_word, word_append, word_cons, digit_char_ordinary, decimal_word, signed_word}
 use Rattle.law_text.proofs.Quotes.{quoted_character_word, shortened_word, verb_word}
-use Rattle.law_text.proofs.Spelled.{Leaves, AllSome, words_are}
+use Rattle.law_text.proofs.Spelled.{Leaves, AllSome, row_are, words_are}
 use Rattle.law_text.proofs.Split.{one_apart, words_apart, texts_apart}
 
 all_some : {A : Type 0} (P : A → Type 0) (xs : List A) → AllSome P xs → AllOf P xs
@@ -63,7 +64,7 @@ kept P x xs true h k = (h, k)
 kept P x xs false h k = k
 
 -- what is left of a list where some are left out
-some_fit : {A : Type 0} (P : A → Type 0) (keep : A → Bool) (xs : List A) → AllOf P xs → AllOf P (filter keep xs)
+pub some_fit : {A : Type 0} (P : A → Type 0) (keep : A → Bool) (xs : List A) → AllOf P xs → AllOf P (filter keep xs)
 some_fit P keep [] h = tt
 some_fit P keep (x ∷ xs) h = kept P x (filter keep xs) (keep x) h.0 (some_fit P keep xs h.1)
 
@@ -117,11 +118,14 @@ word_leaves vats good = record {
   list = list_word;
 }
 
-some_words : (vats : List (List ℕ)) → AllOf IsOrdinary vats → (e : Event) → WordsFit e → AllSome IsWord (words vats e)
+pub some_words : (vats : List (List ℕ)) → AllOf IsOrdinary vats → (e : Event) → WordsFit e → AllSome IsWord (words vats e)
 some_words vats good e h = words_are vats IsWord (word_leaves vats good) e h
 
 pub event_words : (vats : List (List ℕ)) → AllOf IsOrdinary vats → (e : Event) → WordsFit e → AllOf IsWord (words vats e)
 event_words vats good e h = all_some IsWord (words vats e) (some_words vats good e h)
+
+pub member_words : (vats : List (List ℕ)) → AllOf IsOrdinary vats → {n : _} (row : Row_of-Shown n) → AllOf IsWord (member_values vats row)
+member_words vats good row = row_are vats IsWord (word_leaves vats good) row
 
 pub texts_tell_words : TextsTellWords
 texts_tell_words vats good xs ys h k e = texts_apart (line_of vats) (words vats) WordsFit

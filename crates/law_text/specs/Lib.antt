@@ -3,3 +3,5 @@ pub mod Words
 pub mod Names
 pub mod Values
 pub mod Kinds
+pub mod Parts
+pub mod Runs

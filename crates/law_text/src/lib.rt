@@ -1,6 +1,7 @@
 //! What the text of a history tells of it.
 #![tactic(auto)]
 
+pub mod histories;
 pub mod kinds;
 pub mod lines;
 pub mod names;

@@ -25,19 +25,19 @@ answer_by : (names : List (List ℕ)) (word : List ℕ) (o : Option (List ℕ ×
 answer_by names word None s e f = rw s refl
 answer_by names word (Some p) s e f = rw s (rw (no_vat names p.0 e (low_front word p.0 p.1 63 (split_is 63 word p s) f)) refl)
 
-no_root : (names : List (List ℕ)) (word : List ℕ) → starts 64 word ≡ false → parts.root names word ≡ None
+pub no_root : (names : List (List ℕ)) (word : List ℕ) → starts 64 word ≡ false → parts.root names word ≡ None
 no_root names word f = rw (no_front 64 word (behind_mark 64 word) refl f) refl
 
 name_by : (names : List (List ℕ)) (word : List ℕ) → parts.numbered names 46 word ≡ None → parts.numbered names 126 word ≡ None → parts.numbered names 94 word ≡ None → parts.answer names word ≡ None → parts.root names word ≡ None
     → parts.name names word ≡ None
 name_by names word a b c d e = rw a (rw b (rw c (rw d (rw e refl))))
 
-no_name : (names : List (List ℕ)) (word : List ℕ) → list_all is_vat_name names ≡ true → begins_lower word ≡ false → starts 64 word ≡ false → parts.name names word ≡ None
+pub no_name : (names : List (List ℕ)) (word : List ℕ) → list_all is_vat_name names ≡ true → begins_lower word ≡ false → starts 64 word ≡ false → parts.name names word ≡ None
 no_name names word e f r =
     name_by names word (numbered_by names 46 word (split_at 46 word) refl e f) (numbered_by names 126 word (split_at 126 word) refl e f) (numbered_by names 94 word (split_at 94 word) refl e f)
     (answer_by names word (split_at 63 word) refl e f) (no_root names word r)
 
-no_primitive : (word : List ℕ) → starts 60 word ≡ false → primitive word ≡ None
+pub no_primitive : (word : List ℕ) → starts 60 word ≡ false → primitive word ≡ None
 no_primitive word f = rw (no_front 60 word (behind_mark 60 word) refl f) refl
 
 -- ---- no label
@@ -72,7 +72,7 @@ whole_again t h = rw (text_again t) (rw (le-ltb 32 (length (chars t)) h) refl)
 same_quote : (n : ℕ) → n ≡ 34 → eqb n 34 ≡ true
 same_quote n e = grind (arith, nat_tests)
 
-shown_again : (t : List ℕ) → length (chars t) ≤ 32 → shown_text (quoted t) ≡ Ok t
+pub shown_again : (t : List ℕ) → length (chars t) ≤ 32 → shown_text (quoted t) ≡ Ok t
 shown_again t h =
     ap (λ k. cond k (whole (quoted t)) (cut (quoted t))) (same_quote (slice_index (quoted t) (length (quoted t) - 1)) (last_of (34 ∷ flat_map escaped t) 34)) ∙ whole_again t h
 
@@ -90,7 +90,7 @@ short_again names t lawful h =
     (plain_by names (flat_map escaped t ++ 34 ∷ []) (no_constant word refl refl refl) (no_primitive word refl) (no_name names word lawful refl refl))
     (no_front 39 word (behind_mark 39 word) refl refl) (label_by word (split_at 58 word) refl refl) (shown_again t h)
 
-as_printed : (t : List ℕ) → length (chars t) ≤ 32 → shortened t ≡ quoted t
+pub as_printed : (t : List ℕ) → length (chars t) ≤ 32 → shortened t ≡ quoted t
 as_printed t h = rw (le-leb (length (chars t)) 32 h) refl
 
 pub short_texts_again : ShortTextsAreReadAgain

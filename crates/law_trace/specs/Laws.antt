@@ -1,12 +1,14 @@
 -- What is printed of names, lists, slots, integers and short texts is read again as a value.
-use Rattle.std.specs.Prelude.{◌≡◌, ℕ, ℤ, pos, negsuc, suc, true, false, ◌<◌, ◌≤◌, ◌^◌, List, length, Ok}
+use Rattle.std.specs.Prelude.{◌≡◌, ℕ, ℤ, pos, negsuc, suc, true, false, ◌<◌, ◌≤◌, ◌^◌, ◌⊎◌, List, length, Some, Ok}
 use Rattle.std.specs.Fmt.{signed_decimal}
+use Rattle.std.specs.Char.{IsScalar}
 use Rattle.std.specs.Str.{chars}
 use Rattle.def_text.specs.Quoting.{shortened}
 use Rattle.ev_base.specs.declared.names.Name.{Name}
-use Rattle.def_event.specs.declared.shown.Shown.{Null, Bool, Int, Text, List as ListOf, Slot, Name as Named}
+use Rattle.def_event.specs.declared.shown.Shown.{Null, Bool, Int, Char, Text, Broken, Prim, List as ListOf, Slot, Name as Named}
 use Rattle.def_event.specs.Lines as lines
 use Rattle.ev_trace_words.specs.Laws.{AreNames, FitsName}
+use Rattle.ev_trace_words.specs.Parts.{guarded}
 use Rattle.ev_trace_words.specs.Values.{value}
 
 -- a name, and a list and a slot by their numbers
@@ -27,6 +29,21 @@ IntegersAreReadAgain = (names : List (List ℕ)) (z : ℤ) → AreNames names �
 -- a text of at most 32 characters that is printed is read as itself
 abbrev pub ShortTextsAreReadAgain : Type 0
 ShortTextsAreReadAgain = (names : List (List ℕ)) (t : List ℕ) → AreNames names → length (chars t) ≤ 32 → value names (shortened t) ≡ Ok (Text t)
+
+-- and so is a broken reference, where its problem is such a text
+abbrev pub ShortProblemsAreReadAgain : Type 0
+ShortProblemsAreReadAgain = (names : List (List ℕ)) (t : List ℕ) → AreNames names → length (chars t) ≤ 32 → value names (lines.value names (Broken t)) ≡ Ok (Broken t)
+
+-- a character
+abbrev pub CharactersAreReadAgain : Type 0
+CharactersAreReadAgain = (names : List (List ℕ)) (c : ℕ) → AreNames names → IsScalar c → value names (lines.value names (Char c)) ≡ Ok (Char c)
+
+-- the number of a primitive of the safe scope, or of `nullOk` with a guard, which is 32 more than that of the guard
+abbrev pub IsPrimitive : ℕ → Type 0
+IsPrimitive n = (n < 20) ⊎ ((guard : ℕ) × (guarded guard ≡ Some n))
+
+abbrev pub PrimitivesAreReadAgain : Type 0
+PrimitivesAreReadAgain = (names : List (List ℕ)) (n : ℕ) → IsPrimitive n → value names (lines.value names (Prim n)) ≡ Ok (Prim n)
 
 -- null and the booleans
 pub record ConstantsAreReadAgain : Type 0 where

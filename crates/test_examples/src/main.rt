@@ -2,7 +2,8 @@
 //!
 //! `NAME.e` is a program, and `NAME.form` the form of its kernel tree, as `evat expand` writes it. `NAME.json` is a script, of one vat with
 //! that program or of several, which `NAME.vats` tells; `NAME.lines` is the history that `evat run` writes, and `NAME.frames` what
-//! `evat run wire` writes. `NAME.in` are lines, and `NAME.out` the answers of a command to them. It reads them where it is run.
+//! `evat run wire` writes. `NAME.in` are lines, and `NAME.out` the answers of a command to them. Each history is read again by `evat check`, which
+//! writes for it what stands in `right.judged`. It reads them where it is run.
 #![tactic(auto)]
 
 use ev_base::{Memory, Seq, Str};
@@ -127,6 +128,12 @@ fn answers_of(rt: &HostRuntime, command: &str, name: &str) -> Option<bool> {
     is_as_told(rt, command, from.as_str(), to.as_str())
 }
 
+/// Whether a history is judged to be right.
+fn judged(rt: &HostRuntime, name: &str, ending: &str) -> Option<bool> {
+    let history = format!(in rt.alloc(); "{name}.{ending}").ok()?;
+    is_as_told(rt, "check", history.as_str(), "right.judged")
+}
+
 fn word(found: Option<bool>) -> &'static str {
     match found {
         Some(true) => "as told",
@@ -140,6 +147,15 @@ fn tell_scripts(rt: &HostRuntime, names: &[&str]) -> io::Result<()> {
     for name in names {
         let found = word(lines_of(rt, name));
         println!(rt; "{name}.lines {found}")?;
+    }
+    Ok(())
+}
+
+/// Tells of the histories with this ending what is judged of them.
+fn tell_judged(rt: &HostRuntime, names: &[&str], ending: &str) -> io::Result<()> {
+    for name in names {
+        let found = word(judged(rt, name, ending));
+        println!(rt; "{name}.{ending} judged {found}")?;
     }
     Ok(())
 }
@@ -159,6 +175,9 @@ fn tell(rt: &HostRuntime) -> io::Result<()> {
         let found = word(answers_of(rt, command, name));
         println!(rt; "{name}.out {found}")?;
     }
+    tell_judged(rt, &SCRIPTS, "lines")?;
+    tell_judged(rt, &LINKED, "lines")?;
+    tell_judged(rt, &FRAMED, "frames")?;
     Ok(())
 }
 

@@ -4,14 +4,14 @@
 #[cfg(test)]
 mod event;
 #[cfg(test)]
+mod frames;
+#[cfg(test)]
 mod intro;
 #[cfg(test)]
 mod link;
 #[cfg(test)]
-mod op;
-#[cfg(test)]
-mod parts;
-#[cfg(test)]
 mod queue;
+#[cfg(test)]
+mod rows;
 #[cfg(test)]
 mod tables;

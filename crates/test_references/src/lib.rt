@@ -2,12 +2,10 @@
 #![tactic(auto)]
 
 #[cfg(test)]
-mod arriving;
+mod rows;
 #[cfg(test)]
-mod cases;
+mod steps;
 #[cfg(test)]
-mod inside;
+mod tests;
 #[cfg(test)]
-mod passing;
-#[cfg(test)]
-mod settling;
+mod vat;

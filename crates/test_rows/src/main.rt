@@ -1,4 +1,4 @@
-//! Tells of each row whether the top call answers it as the row says.
+//! Tells of each row whether the top call answers it as the row says, and where it is a run that goes to its end, judges the history to be right.
 //!
 //! A file of rows is a text. A row begins with a line `NAME: WORD.. -> STATUS`: its name, the words of the command, and the exit status.
 //! Behind it stands the input, a line `---`, and what is written; a line `====` stands between two rows.
@@ -19,13 +19,14 @@ use ev_scope::{Scoped, check};
 use ev_script::{Script, read_script};
 use ev_top::top;
 use ev_vat::{Vat, VatStop};
-use ev_world::{RunEnd, run_script};
+use ev_world::{RunEnd, write_run};
 use std::alloc::Global;
 use std::process::ExitCode;
 use std::{fs, io};
 
-const FILES: [&str; 10] = [
+const FILES: [&str; 11] = [
     "commands.rows",
+    "check.rows",
     "forms.rows",
     "programs.rows",
     "scripts.rows",
@@ -188,8 +189,11 @@ fn run_is_as_told(
 {
     let mut programs = Vec::new(alloc);
     programs.push(program)?;
-    let told = run_script(alloc, script, programs, limits, false)?;
-    Ok(status_of(told.end) == row.status && told.text.as_str() == row.output)
+    let mut sink = MemorySink::new(alloc, 1000, 100_000, Seq::new(alloc))?;
+    let Ok(end) = write_run(alloc, script, programs, limits, false, &mut sink) else {
+        return Err(Memory);
+    };
+    Ok(status_of(end) == row.status && sink.bytes.as_slice() == row.output.as_bytes())
 }
 
 /// Whether the opening turn of a tree goes astray.
@@ -214,6 +218,26 @@ fn form_is_as_told(alloc: Global, run: &str, row: &Row<'_>) -> Option<bool> {
     run_is_as_told(alloc, &script, program, reach.limits, row).ok()
 }
 
+/// The row by which a history is judged to be right.
+fn judged(history: &str) -> Row<'_> {
+    Row {
+        name: "judged",
+        words: "check",
+        status: "0",
+        input: history,
+        output: "order yes\nuses yes\n",
+    }
+}
+
+/// Whether the top call answers a row as it says, and judges the history of a run to be right.
+fn row_is_as_told(alloc: Global, row: &Row<'_>) -> Result<bool, Memory> {
+    let is_as_told = call_is_as_told(alloc, row)?;
+    if row.words.starts_with("run") && row.status == "0" {
+        return Ok(is_as_told && call_is_as_told(alloc, &judged(row.output))?);
+    }
+    Ok(is_as_told)
+}
+
 /// Whether the top call answers a row as it says.
 fn call_is_as_told(alloc: Global, row: &Row<'_>) -> Result<bool, Memory> {
     let words = words_of(alloc, row.words)?;
@@ -229,7 +253,7 @@ fn call_is_as_told(alloc: Global, row: &Row<'_>) -> Result<bool, Memory> {
 fn found(alloc: Global, row: &Row<'_>) -> &'static str {
     let is_as_told = match row.words.strip_prefix("form ") {
         Some(run) => form_is_as_told(alloc, run, row),
-        None => call_is_as_told(alloc, row).ok(),
+        None => row_is_as_told(alloc, row).ok(),
     };
     match is_as_told {
         Some(true) => "as told",

@@ -112,9 +112,14 @@ fn large_sources(rt: HostRuntime) -> Result<(), Fail> {
 #[test]
 fn no_programs(rt: HostRuntime) -> Result<(), Fail> {
     let alloc = rt.alloc();
-    let (status, written) = answer(alloc, &["expand"], &[b'1', 255], &quiet())?;
-    assert_eq!(rt; status, 6);
-    assert!(rt; written.as_slice() == b"refused script 1\n".as_slice());
+    for (word, text) in [
+        ("expand", "refused script 1\n"),
+        ("check", "refused script 41\n"),
+    ] {
+        let (status, written) = answer(alloc, &[word], &[b'1', 255], &quiet())?;
+        assert_eq!(rt; status, 6);
+        assert!(rt; written.as_slice() == text.as_bytes());
+    }
     let large = Outside {
         source_serves: 4096,
         source_fails: &[],
@@ -168,12 +173,14 @@ fn lengths(rt: HostRuntime) -> Result<(), Fail> {
         sink_takes: 100,
         sink_fails: &[],
     };
-    for (count, code, text) in [
-        (1_048_577, 5, "refused long\n"),
-        (1_048_576, 6, "refused script 1\n"),
+    for (word, count, code, text) in [
+        ("run", 1_048_577, 5, "refused long\n"),
+        ("run", 1_048_576, 6, "refused script 1\n"),
+        ("check", 1_048_577, 5, "refused long\n"),
+        ("check", 1_048_576, 6, "refused script 42\n"),
     ] {
         let spaces = vec![in alloc; b' '; count]?;
-        let (status, written) = answer(alloc, &["run"], spaces.as_slice(), &large)?;
+        let (status, written) = answer(alloc, &[word], spaces.as_slice(), &large)?;
         assert_eq!(rt; status, code);
         assert!(rt; written.as_slice() == text.as_bytes());
     }

@@ -1,0 +1,56 @@
+-- Lines are decided by sets of labels.
+use Rattle.std.proofs.Common.{◌≡◌, Bool, true, false, List, [], Option, Some, None, refl, sym, ap, subst, ◌∙◌}
+use Rattle.std.specs.Prelude.{◌↔◌}
+use Rattle.ev_base.specs.declared.names.Msg.{Msg}
+use Rattle.def_event.specs.declared.event.Addressed.{Addressed}
+use Rattle.def_event.specs.declared.event.Event.{Event}
+use Rattle.def_event.specs.declared.event.Event.TheVariants.{Take}
+use Rattle.def_trace.specs.Uses.{CarriesThese, IsAmong, IsListed, Line, Reaches, TakesSent, Thing, all_parts, arguments_in, line_before}
+use Rattle.ev_known.specs.declared.label.Label.{Label}
+use Rattle.ev_known.specs.declared.links.Link.{Link}
+use Rattle.ev_known.specs.declared.links.Scope.TheVariants.{All, Lists}
+use Rattle.ev_known.specs.Links.{AreReached}
+use Rattle.ev_uses_messages.specs.declared.sought.Sought.TheVariants.{Names, NoGifts}
+use Rattle.ev_uses_messages.specs.Lines.{AddsThings, message_of, things_with}
+use Rattle.ev_uses_messages.specs.Onward.{OnwardStand}
+use Rattle.ev_uses_messages.specs.Sought.{has_sought}
+use Rattle.ev_uses_messages.proofs.Comparing.{no_gifts, other_names, same_names}
+use Rattle.ev_uses_messages.proofs.Reaching.{AreLabels, added_labels, all_open, lists_open, reached_labels}
+
+-- ---- what is carried
+
+pub nothing_carried : (past : List Line) (d : Option (Msg × List Thing)) → message_of d ≡ None → (true ≡ true) ↔ CarriesThese past d
+nothing_carried past None e = (λ h. tt, λ h. refl)
+nothing_carried past (Some x) e = absurd cc
+
+pub carried_decided : (rows : List (Label × List Link)) (past : List Line) (d : Option (Msg × List Thing)) (m : Msg) (ts : List Thing) (carried old known : List Label) (b : Bool)
+    → OnwardStand rows past → message_of d ≡ Some m → AddsThings (things_with d) [] carried → AddsThings ts [] old → ts ≡ line_before past m → AreReached rows All old known
+    → b ≡ has_sought NoGifts known carried → (b ≡ true) ↔ CarriesThese past d
+carried_decided rows past None m ts carried old known b o is c a before r e = absurd cc
+carried_decided rows past (Some x) m ts carried old known b o is c a before r e =
+    let same : x.0 ≡ m = cc in
+    let had : List Thing = line_before past x.0 in
+    let started : AreLabels old (λ t. IsAmong t had)
+    = added_labels had old (subst (λ (us : List Thing). AddsThings us [] old) (before ∙ ap (line_before past) (sym same)) a) in
+    let both = no_gifts known carried (Reaches past (λ t. IsAmong t had) (λ w. Unit {0})) (λ t. IsAmong t x.1)
+    (reached_labels rows past o All (λ w. Unit {0}) all_open had old started known r) (added_labels x.1 carried c) in
+    (λ h. both.0 (sym e ∙ h), λ h. e ∙ both.1 h)
+
+-- ---- what is taken
+
+pub stands_in : (rows : List (Label × List Link)) (past : List Line) (ts : List Thing) (old labels : List Label) → OnwardStand rows past → AddsThings ts [] old → AreReached rows Lists old labels
+    → AreLabels labels (Reaches past (λ t. IsAmong t ts) IsListed)
+stands_in rows past ts old labels o a r = reached_labels rows past o Lists IsListed lists_open ts old (added_labels ts old a) labels r
+
+module _ (es : List Event) (past : List Line) (t : Addressed) (there sent : List Label) (are : AreLabels there (Reaches past (λ u. IsAmong u (all_parts t.args)) IsListed))
+    (others : AreLabels sent (Reaches past (λ u. IsAmong u (arguments_in es t.message)) IsListed)) where
+  pub takes_same : (b : Bool) → has_sought Names sent there ≡ true → b ≡ has_sought Names there sent → (b ≡ true) ↔ TakesSent es past (Take t)
+  unfolding TakesSent
+  takes_same b first e =
+      let both = same_names there sent (Reaches past (λ u. IsAmong u (all_parts t.args)) IsListed) (Reaches past (λ u. IsAmong u (arguments_in es t.message)) IsListed) are others first in
+      (λ h. both.0 (sym e ∙ h), λ h. e ∙ both.1 h)
+
+  pub takes_other : has_sought Names sent there ≡ false → (false ≡ true) ↔ TakesSent es past (Take t)
+  unfolding TakesSent
+  takes_other first =
+      other_names there sent (Reaches past (λ u. IsAmong u (all_parts t.args)) IsListed) (Reaches past (λ u. IsAmong u (arguments_in es t.message)) IsListed) are others first

@@ -1,0 +1,12 @@
+use Rattle.std.proofs.Common.{List, subst}
+use Rattle.def_trace.specs.Uses.{all_parts}
+use Rattle.ev_known.specs.declared.label.Label.{Label}
+use Rattle.ev_uses_messages.specs.Lines.{AddsThings}
+use Rattle.ev_uses_messages.proofs.Adding.{members_added}
+use Rattle.ev_uses_messages.proofs.parts.add_value.Goals as goal
+
+pub returns : goal.returns
+returns c =
+    let begun = rw c.in-Some.is at c.in_ok-members.ensures in
+    members_added c.args.value.now c.in-Some.members.now c.args.labels.now c.add_values.new.labels begun.1
+    (subst (λ (ls : List Label). AddsThings (all_parts c.in-Some.members.now) ls c.add_values.new.labels) begun.0 c.in_ok-add_values.ensures)

@@ -1,0 +1,101 @@
+//! The first line that carries what was not there before.
+
+ghost use Rattle.std.specs.Prelude.{◌≡◌, ◌↔◌, [], List, IfOk, IsTrue, OnOk, unwrap_or};
+ghost use Rattle.def_trace.specs.Uses.{CarriesSent, CarriesThese, IsFirstFailing, Line, delivered};
+ghost use Rattle.ev_uses_messages.specs.Finding.{FindsBefore, found_at, things_at};
+ghost use Rattle.ev_uses_messages.specs.Lines.{AddsThings, holds, things_with};
+ghost use Rattle.ev_uses_messages.specs.Onward.{OnwardStand};
+
+use crate::lines::{add_delivered, add_held, delivered_message, held_message};
+use crate::onward::tell_onward;
+use crate::places::Places;
+use crate::sought::{Sought, has_sought};
+use def_event::{Event, ShownNote};
+use ev_base::Memory;
+use ev_known::{Labels, Links, Scope, place_after};
+use std::alloc::Global;
+
+/// The names and lists that a note has with the message that it delivers.
+fn carried_by(alloc: Global, note: &ShownNote) -> Result<Labels, Memory>
+    ensures { IfOk result (λ labels. AddsThings (things_with (delivered note.now)) [] labels) }
+{
+    let mut labels = Labels::new(alloc);
+    add_delivered(alloc, &mut labels, note)?;
+    Ok(labels)
+}
+
+/// What the line at a place has of its message, where there is one.
+#[tactic(auto, using(crate::proofs::Adding::none_added), unfolding(crate::specs::Finding::things_at))]
+fn held_at(alloc: Global, events: &[Event], place: Option<usize>) -> Result<Labels, Memory>
+    ensures { IfOk result (λ labels. AddsThings (unwrap_or (found_at holds events.now place) []) [] labels) }
+{
+    let mut labels = Labels::new(alloc);
+    let Some(place) = place else {
+        return Ok(labels);
+    };
+    let Some(event) = events.get(place) else {
+        return Ok(labels);
+    };
+    add_held(alloc, &mut labels, event)?;
+    Ok(labels)
+}
+
+/// Whether each name that a note carries is a gift, or is reached from what the line before of its message has.
+fn is_note_sent(
+    alloc: Global,
+    events: &[Event],
+    before: &Places,
+    links: &Links,
+    note: &ShownNote,
+) -> Result<bool, Memory>
+    ensures { (past : List Line) → FindsBefore events.now before.now past → OnwardStand links.now past
+        → IfOk result (λ sent. IsTrue sent ↔ CarriesThese past (delivered note.now)) }
+{
+    let Some(message) = delivered_message(note) else {
+        return Ok(true);
+    };
+    let carried = carried_by(alloc, note)?;
+    let mut known = held_at(alloc, events, before.find(&message))?;
+    links.reach(&Scope::All, &mut known)?;
+    Ok(has_sought(&known, Sought::NoGifts, carried.as_slice()))
+}
+
+/// Whether a line carries only gifts and what is reached from what the line before of its message has.
+#[tactic(auto, unfolding(def_trace::specs::Uses::CarriesSent))]
+fn carries_sent(
+    alloc: Global,
+    events: &[Event],
+    before: &Places,
+    links: &Links,
+    event: &Event,
+) -> Result<bool, Memory>
+    ensures { (past : List Line) → FindsBefore events.now before.now past → OnwardStand links.now past
+        → IfOk result (λ sent. IsTrue sent ↔ CarriesSent past event.now) }
+{
+    match event {
+        Event::Carry(_, _, _, note) => {
+            let sent = is_note_sent(alloc, events, before, links, note.get())?;
+            Ok(sent)
+        }
+        _ => Ok(true),
+    }
+}
+
+/// The first line of a history, counted from 1, that carries a name with a message which is no gift, and to which nothing leads
+/// that stands in the line before of the message.
+pub fn first_unsent(alloc: Global, events: &[Event]) -> Result<Option<u64>, Memory>
+    ensures { IfOk result (λ answer. IsFirstFailing (λ past l. CarriesSent past l.event) events.now answer) }
+{
+    let mut before = Places::new(alloc);
+    let mut links = Links::new(alloc);
+    let mut at = 0;
+    for (index, event) in events.iter().enumerate() {
+        at = place_after(at, event);
+        if !carries_sent(alloc, events, &before, &links, event)? {
+            return Ok(Some(index as u64 + 1));
+        }
+        before.put(held_message(event), index)?;
+        tell_onward(&mut links, alloc, at, event)?;
+    }
+    Ok(None)
+}

@@ -1,0 +1,10 @@
+pub mod Counts
+pub mod Sure
+pub mod Settling
+pub mod Clear
+pub mod Awaited
+pub mod Hearing
+pub mod Arrivals
+pub mod Awaits
+pub mod AwaitsEval
+pub mod Ejections

@@ -1,0 +1,3 @@
+pub mod Astray
+pub mod Runs
+pub mod Ejections

@@ -1,0 +1,4 @@
+//! What no run of scoped trees meets.
+#![tactic(auto)]
+
+pub mod astray;

@@ -1,0 +1,4 @@
+//! Which kernel trees are scoped.
+#![tactic(auto)]
+
+pub mod scoped;

@@ -1,0 +1,5 @@
+use Rattle.law_text.proofs.Rebuilt.{events_are_told}
+use Rattle.law_text.proofs.histories.events_are_told.Goals as goal
+
+pub returns : goal.returns
+returns c = events_are_told

@@ -1,0 +1,5 @@
+use Rattle.law_text.proofs.Parted.{texts_tell_histories}
+use Rattle.law_text.proofs.histories.texts_tell_histories.Goals as goal
+
+pub returns : goal.returns
+returns c = texts_tell_histories

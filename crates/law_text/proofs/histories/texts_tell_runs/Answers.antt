@@ -1,0 +1,5 @@
+use Rattle.law_text.proofs.Stopped.{texts_tell_runs}
+use Rattle.law_text.proofs.histories.texts_tell_runs.Goals as goal
+
+pub returns : goal.returns
+returns c = texts_tell_runs

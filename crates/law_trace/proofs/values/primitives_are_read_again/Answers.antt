@@ -1,0 +1,5 @@
+use Rattle.law_trace.proofs.OthersAgain.{primitives_again}
+use Rattle.law_trace.proofs.values.primitives_are_read_again.Goals as goal
+
+pub returns : goal.returns
+returns c = primitives_again
