@@ -1,13 +1,12 @@
 -- A fault that was found stays: where none is found in the end, none was found on the way.
 use Rattle.std.proofs.Common.{◌≡◌, ℕ, zero, suc, Bool, true, false, not, ◌&&◌, List, [], ◌∷◌, Option, Some, None, refl}
-use Rattle.std.specs.Prelude.{slice_get, is_some, drop}
+use Rattle.std.specs.Prelude.{slice_get, is_some}
 use Rattle.def_kernel.specs.declared.node.Node.{Node}
 use Rattle.def_kernel.specs.declared.node.Node.TheVariants.{Lit, Noun, Set, Def, Call, Sequence, If, Escape, Try, Finally, Hide, MatchBind, Object, Method, Matcher, Final, Var, Any, ListPattern, Via}
 use Rattle.ev_scope.specs.declared.fault.ScopeFault.{ScopeFault}
-use Rattle.ev_scope.specs.declared.fault.ScopeFault.TheVariants.{Unbound, AssignToFinal, BoundTwice}
-use Rattle.ev_scope.specs.declared.scope.Binding.{Binding}
+use Rattle.ev_scope.specs.declared.fault.ScopeFault.TheVariants.{Unbound, AssignToFinal}
 use Rattle.ev_scope.specs.declared.scan.Scan.{Scan}
-use Rattle.ev_scope.specs.Scopes.{bound, is_bound_here, with_name_here, first, faulty, use_of, assignment_of, is_clean, fault_behind, binds, enter, leave, inside, Scanner, all, perhaps, catch, visit, visit_found, scan}
+use Rattle.ev_scope.specs.Scopes.{bound, is_bound_here, first, use_of, assignment_of, is_clean, fault_behind, binds, enter, inside, Scanner, all, perhaps, catch, visit, visit_found, scan}
 
 abbrev pub IsClean : Scan → Type 0
 IsClean s = s.fault ≡ None
