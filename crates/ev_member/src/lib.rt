@@ -10,3 +10,6 @@ mod starting;
 pub use hearing::Arrival;
 pub use member::Member;
 pub use sending::Sending;
+
+// What crates above name of a vat, so that they need not stand on its crate themselves.
+pub use ev_vat::{Vat, VatStop};

@@ -12,7 +12,7 @@ use Rattle.ev_outcome.specs.Standing.{IsAfter}
 use Rattle.ev_resident.specs.Standing.{IsStepped}
 use Rattle.ev_room.specs.Reading.{World}
 use Rattle.ev_room.specs.Sound.{IsSound}
-use Rattle.ev_vat.specs.Rooted.{fresh}
+use Rattle.ev_member.specs.Rooted.{fresh}
 
 -- words are drawn under the key of those that were lent
 pub under : {A E : Type 0} {before lent : Drawn} (k : List ℕ) (r : Result A E) → before ≡ lent → OnOk r (k ≡ before.key) → OnOk r (k ≡ lent.key)

@@ -13,7 +13,7 @@ use Rattle.ev_member.specs.declared.sending.Sending.{Sending}
 use Rattle.ev_outcome.specs.Standing.{NamesStand, ObjectsStand}
 use Rattle.ev_resident.specs.declared.resident.Resident.{Resident}
 use Rattle.ev_room.specs.Reading.{World, vat_of}
-use Rattle.ev_vat.specs.Vat.{IsReady}
+use Rattle.ev_member.specs.Vat.{IsReady}
 
 -- Between two steps of the run: it is vat u, which is m, and its names are those that were told.
 pub record IsResident (S : Script) (w : Vats) (u : ℕ) (m : Theirs) (r : Resident) : Type 0 where

@@ -24,7 +24,7 @@ ghost use Rattle.ev_pass.specs.Reading.{names_under};
 ghost use Rattle.ev_resident.specs.Standing.{IsStepped};
 ghost use Rattle.ev_resident.specs.Starting.{with_roots};
 ghost use Rattle.ev_resident.specs.Telling.{IsTold};
-ghost use Rattle.ev_vat.specs.Vat.{IsReady};
+ghost use Rattle.ev_member.specs.Vat.{IsReady};
 
 use crate::outgoing::Outgoing;
 use crate::starting::first_names;
@@ -35,7 +35,7 @@ use ev_event::History;
 use ev_intro::Words;
 use ev_member::{Arrival, Member, Sending};
 use ev_naming::{Told, VatNames};
-use ev_vat::VatStop;
+use ev_member::VatStop;
 use ev_word::Word;
 use std::alloc::Global;
 

@@ -14,10 +14,10 @@ use Rattle.def_run.specs.Text.{shown_events}
 use Rattle.def_run.specs.World.{Event, Script}
 use Rattle.ev_base.specs.declared.names.Msg.{Msg}
 use Rattle.ev_intro.specs.Word.{Drawn, number_at, word}
-use Rattle.ev_member.specs.Standing.{with_draws}
-use Rattle.ev_member.specs.Steps.{EndsSo, Having, IsDone, IsSteady, Leaves, own}
-use Rattle.ev_member.specs.declared.member.Member.{Member as Ours}
-use Rattle.ev_member.specs.declared.sending.Sending.{Sending}
+use Rattle.ev_resident.specs.MemberStanding.{with_draws}
+use Rattle.ev_resident.specs.MemberSteps.{EndsSo, Having, IsDone, IsSteady, Leaves, own}
+use Rattle.ev_resident.specs.declared.Member.{Member as Ours}
+use Rattle.ev_resident.specs.declared.Sending.{Sending}
 use Rattle.ev_naming.specs.Names.{Entry, Named, carried_mails, told_at}
 use Rattle.ev_naming.specs.Standing.{Says, mails_of}
 use Rattle.def_local.specs.Names as local
@@ -26,9 +26,9 @@ use Rattle.ev_pass.specs.Reading.{names_under}
 use Rattle.ev_resident.specs.Standing.{IsResident, IsStepped}
 use Rattle.ev_resident.specs.declared.resident.Resident.{Resident}
 use Rattle.ev_scope.specs.declared.accepted.Scoped.{Scoped}
-use Rattle.ev_vat.specs.Vat.{IsReady, StopsWith}
-use Rattle.ev_vat.specs.declared.vat.VatStop.{VatStop}
-use Rattle.ev_vat.specs.declared.vat.VatStop.TheVariants.{Fuel, Deep, WordRepeated, Astray, Memory}
+use Rattle.ev_resident.specs.Vat.{IsReady, StopsWith}
+use Rattle.ev_resident.specs.declared.VatStop.{VatStop}
+use Rattle.ev_resident.specs.declared.VatStop.TheVariants.{Fuel, Deep, WordRepeated, Astray, Memory}
 use Rattle.ev_ways.specs.Rows.{Lane}
 use Rattle.ev_ways.specs.Standing.{WaysStand}
 use Rattle.ev_ways.proofs.Cuts.{shown_join}

@@ -19,8 +19,8 @@ use Rattle.def_run.specs.World.{Carried, Event}
 use Rattle.ev_base.specs.declared.memory.Memory.{Memory as NoMemory}
 use Rattle.ev_base.specs.declared.names.Msg.{Msg}
 use Rattle.ev_intro.specs.Word.{Drawn}
-use Rattle.ev_member.specs.Hearing.{AllOwn, Brings, HeardNote, IsSteadyHearing, frame_heard, heard_of, op_found}
-use Rattle.ev_member.specs.Standing.{IsMember}
+use Rattle.ev_resident.specs.MemberHearing.{AllOwn, Brings, HeardNote, IsSteadyHearing, frame_heard, heard_of, op_found}
+use Rattle.ev_resident.specs.MemberStanding.{IsMember}
 use Rattle.ev_naming.specs.Names.{Entry, carried_mails}
 use Rattle.ev_naming.specs.Standing.{Says, mails_of, words_of}
 use Rattle.ev_outcome.specs.Standing.{NamesStand, ObjectsStand}

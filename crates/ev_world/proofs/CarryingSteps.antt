@@ -15,11 +15,11 @@ use Rattle.def_run.specs.Connections.{Connection}
 use Rattle.def_run.specs.Shown.{shown_event}
 use Rattle.def_run.specs.Text.{shown_events}
 use Rattle.def_run.specs.World.{Carried, Carry, Event, Idle, Script}
-use Rattle.ev_member.specs.Hearing.{BringsSo, HeardNote, Hears, HearsSo, IsSteadyHearing, frame_heard, having}
-use Rattle.ev_member.specs.Standing.{IsFound, IsMember, with_draws}
-use Rattle.ev_member.specs.Steps.{Having, IsDone, Leaves}
-use Rattle.ev_member.specs.declared.member.Member.{Member as Ours}
-use Rattle.ev_member.specs.declared.sending.Sending.{Sending}
+use Rattle.ev_resident.specs.MemberHearing.{BringsSo, HeardNote, Hears, HearsSo, IsSteadyHearing, frame_heard, having}
+use Rattle.ev_resident.specs.MemberStanding.{IsFound, IsMember, with_draws}
+use Rattle.ev_resident.specs.MemberSteps.{Having, IsDone, Leaves}
+use Rattle.ev_resident.specs.declared.Member.{Member as Ours}
+use Rattle.ev_resident.specs.declared.Sending.{Sending}
 use Rattle.ev_naming.specs.Names.{Entry}
 use Rattle.ev_naming.specs.Standing.{Says, words_of}
 use Rattle.ev_outcome.specs.Standing.{NamesStand}
@@ -31,8 +31,8 @@ use Rattle.ev_resident.proofs.Worlds.{is_after}
 use Rattle.ev_resident.specs.Standing.{IsResident, IsStepped}
 use Rattle.ev_resident.specs.declared.resident.Resident.{Resident}
 use Rattle.ev_room.specs.Reading.{vat_of}
-use Rattle.ev_vat.specs.declared.vat.VatStop.{VatStop}
-use Rattle.ev_vat.specs.declared.vat.VatStop.TheVariants.{Fuel, Deep, WordRepeated, Astray, Memory}
+use Rattle.ev_resident.specs.declared.VatStop.{VatStop}
+use Rattle.ev_resident.specs.declared.VatStop.TheVariants.{Fuel, Deep, WordRepeated, Astray, Memory}
 use Rattle.ev_ways.proofs.Changes.{carry_stands}
 use Rattle.ev_ways.proofs.Places.{chosen, refused}
 use Rattle.ev_ways.specs.Rows.{Lane, behind, changed, next_at}

@@ -5,8 +5,8 @@ use Rattle.def_local.specs.Numbers.{Vats, Runs, Halts, close, run}
 use Rattle.def_machine.specs.State as machine
 use Rattle.def_run.specs.Text.{shown_events}
 use Rattle.def_run.specs.World.{Script}
-use Rattle.ev_vat.specs.declared.vat.VatStop.{VatStop}
-use Rattle.ev_vat.specs.declared.vat.VatStop.TheVariants.{Fuel, Deep, WordRepeated, Astray, Memory}
+use Rattle.ev_resident.specs.declared.VatStop.{VatStop}
+use Rattle.ev_resident.specs.declared.VatStop.TheVariants.{Fuel, Deep, WordRepeated, Astray, Memory}
 use Rattle.ev_world.proofs.Wholes.{run_goes, run_halts}
 use Rattle.ev_world.specs.Ends.{course_of}
 use Rattle.ev_world.specs.Events.{EndsAs, events_of}

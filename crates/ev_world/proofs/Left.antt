@@ -12,9 +12,9 @@ use Rattle.def_run.specs.Text.{shown_events}
 use Rattle.def_run.specs.World.{Event, Script}
 use Rattle.ev_base.specs.declared.names.Msg.{Msg}
 use Rattle.ev_intro.specs.Word.{Drawn}
-use Rattle.ev_member.specs.Standing.{IsMember}
-use Rattle.ev_member.specs.declared.member.Member.{Member as Ours}
-use Rattle.ev_member.specs.declared.sending.Sending.{Sending}
+use Rattle.ev_resident.specs.MemberStanding.{IsMember}
+use Rattle.ev_resident.specs.declared.Member.{Member as Ours}
+use Rattle.ev_resident.specs.declared.Sending.{Sending}
 use Rattle.ev_naming.specs.Names.{Entry, Named}
 use Rattle.ev_naming.specs.Standing.{mails_of}
 use Rattle.ev_outcome.specs.Standing.{IsAfter, NamesStand, ObjectsStand}
@@ -25,7 +25,7 @@ use Rattle.ev_resident.specs.Telling.{IsTold}
 use Rattle.ev_resident.specs.declared.outgoing.Outgoing.{Outgoing}
 use Rattle.ev_resident.specs.declared.resident.Resident.{Resident}
 use Rattle.ev_room.specs.Reading.{vat_of}
-use Rattle.ev_vat.specs.Vat.{IsReady}
+use Rattle.ev_resident.specs.Vat.{IsReady}
 use Rattle.ev_scope.specs.declared.accepted.Scoped.{Scoped}
 use Rattle.ev_ways.specs.Rows.{Lane}
 use Rattle.ev_ways.specs.Standing.{WaysStand}

@@ -7,7 +7,7 @@ use Rattle.def_machine.specs.Values.{Local}
 use Rattle.def_run.specs.Connections.{Connection}
 use Rattle.ev_base.specs.declared.values.Value.{Value}
 use Rattle.ev_base.specs.declared.values.Value.TheVariants as held
-use Rattle.ev_member.specs.declared.member.Member.{Member as Ours}
+use Rattle.ev_resident.specs.declared.Member.{Member as Ours}
 use Rattle.ev_naming.specs.Names.{Named}
 use Rattle.ev_outcome.specs.Standing.{ObjectsStand, exported_to, object_number}
 use Rattle.ev_peer.specs.Standing.{connection_of, local_of}

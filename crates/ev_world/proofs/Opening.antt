@@ -13,7 +13,7 @@ use Rattle.def_machine.specs.State.{Binding, Done, Fixed, Gives}
 use Rattle.def_machine.specs.Values.{Local, Naming, Prom, Ref, Words}
 use Rattle.def_run.specs.World.{NoticeLink, NoticedAt, Opens, Program, Script, name_at}
 use Rattle.ev_room.specs.Reading.{roots_from}
-use Rattle.ev_member.specs.Standing.{with_draws}
+use Rattle.ev_resident.specs.MemberStanding.{with_draws}
 use Rattle.ev_pass.specs.Acts.{words_by}
 use Rattle.ev_pass.specs.Reading.{names_under}
 use Rattle.ev_scope.specs.declared.accepted.Scoped.{Scoped}

@@ -2,9 +2,9 @@
 use Rattle.std.proofs.Common.{◌≡◌, ◌⊎◌, inl, inr, ℕ, ◌<◌, List, Some, length, sym, ap, subst, ◌∙◌}
 use Rattle.std.specs.Prelude.{slice_get, slice_set}
 use Rattle.std.proofs.lemmas.List.{length-set}
-use Rattle.ev_member.specs.declared.member.Member.{Member}
+use Rattle.ev_resident.specs.declared.Member.{Member}
 use Rattle.ev_resident.specs.declared.resident.Resident.{Resident}
-use Rattle.ev_vat.specs.Vat.{IsReady}
+use Rattle.ev_resident.specs.Vat.{IsReady}
 use Rattle.ev_world.specs.Exporting.{AreTold}
 use Rattle.ev_world.specs.Standing.{AreReady}
 use Rattle.ev_world.proofs.Objects.{is_within, same_or_not, set_other, set_there}

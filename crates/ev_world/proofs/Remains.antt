@@ -13,7 +13,7 @@ use Rattle.def_run.specs.Text.{shown_events}
 use Rattle.def_run.specs.World.{Event, LeftHeld, LeftQueue, LeftWait, Script}
 use Rattle.ev_base.specs.declared.names.Msg.{Msg as ShownMsg}
 use Rattle.ev_base.specs.declared.names.Name.{Name as ShownName}
-use Rattle.ev_member.specs.Standing.{Sees, with_draws}
+use Rattle.ev_resident.specs.MemberStanding.{Sees, with_draws}
 use Rattle.ev_naming.specs.Printing.{Agrees}
 use Rattle.ev_outcome.proofs.Naming.{agrees}
 use Rattle.ev_pass.specs.declared.interior.Interior.{Interior}
@@ -25,8 +25,8 @@ use Rattle.ev_resident.specs.Standing.{IsResident}
 use Rattle.ev_resident.specs.declared.resident.Resident.{Resident}
 use Rattle.ev_room.specs.Reading.{World as Seen, texts_of, vat_of}
 use Rattle.ev_step_lines.specs.Lines.{Naming, name_at}
-use Rattle.ev_vat.specs.Closing.{held_line, held_lines, left_lines, queue_line, wait_line, wait_lines}
-use Rattle.ev_vat.specs.Rooted.{fresh}
+use Rattle.ev_resident.specs.Closing.{held_line, held_lines, left_lines, queue_line, wait_line, wait_lines}
+use Rattle.ev_resident.specs.Rooted.{fresh}
 use Rattle.ev_ways.proofs.Cuts.{shown_join}
 use Rattle.ev_world.specs.Closing.{all_left, left_of}
 use Rattle.ev_world.proofs.Plain.{IsPlain, plain_join}

@@ -10,7 +10,7 @@ use Rattle.def_machine.specs.State.{is_in, with_vat}
 use Rattle.def_machine.specs.Values.{Words}
 use Rattle.def_run.specs.World.{Program, knowers, name_at}
 use Rattle.ev_script.specs.declared.script.VatScript.{VatScript}
-use Rattle.ev_vat.specs.Rooted.{each_once}
+use Rattle.ev_resident.specs.Rooted.{each_once}
 use Rattle.ev_world.specs.Starting.{bare, bare_from}
 use Rattle.law_schedule.specs.Scripts.{machine_vats}
 

@@ -7,10 +7,10 @@ use Rattle.def_machine.specs.State.{Known, Vat, begun, is_in}
 use Rattle.def_machine.specs.Values.{Local, Prom, Root}
 use Rattle.def_run.specs.Connections.{Connection}
 use Rattle.def_run.specs.World.{Program, Script, knowers}
-use Rattle.ev_member.specs.Starting as ours
-use Rattle.ev_member.specs.Starting.{first_connections, rooted_member}
+use Rattle.ev_resident.specs.MemberStarting as ours
+use Rattle.ev_resident.specs.MemberStarting.{first_connections, rooted_member}
 use Rattle.ev_outcome.specs.Standing.{exported_to, object_number}
-use Rattle.ev_vat.specs.Rooted as rooted
+use Rattle.ev_resident.specs.Rooted as rooted
 use Rattle.ev_world.proofs.StartingKnowers.{each_knows_once, knows_so, some_is}
 use Rattle.ev_world.proofs.StartingRoots.{root_if}
 

@@ -15,8 +15,8 @@ use Rattle.def_machine.specs.Values.{Root}
 use Rattle.def_run.specs.Text.{shown_events}
 use Rattle.def_run.specs.World.{Program, Script, knowers, name_at}
 use Rattle.ev_intro.specs.Word.{Drawn}
-use Rattle.ev_member.specs.Standing.{IsMember}
-use Rattle.ev_member.specs.Starting.{rooted_member}
+use Rattle.ev_resident.specs.MemberStanding.{IsMember}
+use Rattle.ev_resident.specs.MemberStarting.{rooted_member}
 use Rattle.ev_naming.specs.Names.{Named}
 use Rattle.ev_outcome.specs.Standing.{ObjectsStand}
 use Rattle.ev_pass.specs.Acts.{words_by}
@@ -26,7 +26,7 @@ use Rattle.ev_scope.specs.declared.accepted.Scoped.{Scoped}
 use Rattle.ev_script.specs.Rules.{IsAdmitted, KnowOthers, KnowsOthers}
 use Rattle.ev_script.specs.declared.script.Script.{Script as TheirScript}
 use Rattle.ev_script.specs.declared.script.VatScript.{VatScript}
-use Rattle.ev_vat.specs.Vat.{IsReady}
+use Rattle.ev_resident.specs.Vat.{IsReady}
 use Rattle.ev_ways.specs.Rows.{Lane, fresh_rows}
 use Rattle.ev_ways.specs.Standing.{WaysStand}
 use Rattle.ev_ways.proofs.Starts.{start_stands}

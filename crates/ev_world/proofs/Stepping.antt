@@ -14,16 +14,16 @@ use Rattle.def_run.specs.Shown.{shown_event}
 use Rattle.def_run.specs.Text.{shown_events}
 use Rattle.def_run.specs.World.{Event, Idle, NoticeLink, NoticedAt, Opens, Program, Script, Turn, Turned}
 use Rattle.ev_room.specs.Reading.{roots_from}
-use Rattle.ev_member.specs.Standing.{IsFound, IsMember, with_draws}
-use Rattle.ev_member.specs.Steps.{Steps, Turns, own}
-use Rattle.ev_member.specs.declared.member.Member.{Member as Ours}
-use Rattle.ev_member.specs.declared.sending.Sending.{Sending}
+use Rattle.ev_resident.specs.MemberStanding.{IsFound, IsMember, with_draws}
+use Rattle.ev_resident.specs.MemberSteps.{Steps, Turns, own}
+use Rattle.ev_resident.specs.declared.Member.{Member as Ours}
+use Rattle.ev_resident.specs.declared.Sending.{Sending}
 use Rattle.ev_pass.specs.Acts.{words_by}
 use Rattle.ev_pass.specs.Reading.{names_under}
 use Rattle.ev_resident.specs.Standing.{IsResident}
 use Rattle.ev_resident.specs.declared.resident.Resident.{Resident}
 use Rattle.ev_scope.specs.declared.accepted.Scoped.{Scoped}
-use Rattle.ev_vat.specs.declared.vat.VatStop.{VatStop}
+use Rattle.ev_resident.specs.declared.VatStop.{VatStop}
 use Rattle.ev_world.specs.Midway.{IsMidway}
 use Rattle.ev_world.specs.Standing.{Comes, HaltsAs, IsWorld}
 use Rattle.ev_world.specs.Steadily.{OpensSteadily, StepsSteadily}

@@ -3,7 +3,7 @@ use Rattle.std.proofs.Common.{◌≡◌, ◌⊎◌, inl, inr, ℕ, zero, suc, �
 use Rattle.std.specs.Prelude.{drop, slice_get, slice_set}
 use Rattle.std.proofs.lemmas.List.{length-append, length-map, length-set}
 use Rattle.ev_base.specs.declared.values.Value.{Value}
-use Rattle.ev_member.specs.declared.member.Member.{Member}
+use Rattle.ev_resident.specs.declared.Member.{Member}
 use Rattle.ev_naming.specs.Names.{Named}
 use Rattle.ev_resident.specs.declared.resident.Resident.{Resident}
 use Rattle.ev_step_lines.specs.Lines.{with_import}

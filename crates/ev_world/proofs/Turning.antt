@@ -15,10 +15,10 @@ use Rattle.def_run.specs.Shown.{shown_event}
 use Rattle.def_run.specs.Text.{shown_events}
 use Rattle.def_run.specs.World.{Idle, Program, Script, Turn, Turned, tree_at}
 use Rattle.ev_intro.specs.Word.{Drawn}
-use Rattle.ev_member.specs.Standing.{IsFound, IsMember, Sees, with_draws}
-use Rattle.ev_member.specs.Steps.{EndsSo, Turns, TurnsSo, own}
-use Rattle.ev_member.specs.declared.member.Member.{Member as Ours}
-use Rattle.ev_member.specs.declared.sending.Sending.{Sending}
+use Rattle.ev_resident.specs.MemberStanding.{IsFound, IsMember, Sees, with_draws}
+use Rattle.ev_resident.specs.MemberSteps.{EndsSo, Turns, TurnsSo, own}
+use Rattle.ev_resident.specs.declared.Member.{Member as Ours}
+use Rattle.ev_resident.specs.declared.Sending.{Sending}
 use Rattle.ev_outcome.specs.Standing.{NamesStand, ObjectsStand}
 use Rattle.ev_pass.specs.Acts.{words_by}
 use Rattle.ev_pass.specs.Reading.{names_under}
@@ -27,8 +27,8 @@ use Rattle.ev_resident.specs.Standing.{IsResident}
 use Rattle.ev_resident.specs.declared.resident.Resident.{Resident}
 use Rattle.ev_room.specs.Reading.{World as Seen, vat_of}
 use Rattle.ev_scope.specs.declared.accepted.Scoped.{Scoped}
-use Rattle.ev_vat.specs.declared.vat.VatStop.{VatStop}
-use Rattle.ev_vat.specs.declared.vat.VatStop.TheVariants.{Fuel, Deep, WordRepeated, Astray, Memory}
+use Rattle.ev_resident.specs.declared.VatStop.{VatStop}
+use Rattle.ev_resident.specs.declared.VatStop.TheVariants.{Fuel, Deep, WordRepeated, Astray, Memory}
 use Rattle.ev_ways.proofs.Cuts.{shown_join}
 use Rattle.ev_naming.specs.Names.{Named}
 use Rattle.ev_ways.specs.Rows.{Lane}

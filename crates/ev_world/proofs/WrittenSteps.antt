@@ -11,8 +11,8 @@ use Rattle.def_machine.specs.Values.{Words}
 use Rattle.def_run.specs.Text.{shown_events}
 use Rattle.def_run.specs.World.{Entry, Event, Program, Script, Turn, Carry, CutLink, NoticeLink}
 use Rattle.ev_ways.proofs.Cuts.{shown_join}
-use Rattle.ev_vat.specs.declared.vat.VatStop.{VatStop}
-use Rattle.ev_vat.specs.declared.vat.VatStop.TheVariants.{Fuel, Deep, WordRepeated, Astray, Memory}
+use Rattle.ev_resident.specs.declared.VatStop.{VatStop}
+use Rattle.ev_resident.specs.declared.VatStop.TheVariants.{Fuel, Deep, WordRepeated, Astray, Memory}
 use Rattle.ev_world.specs.Standing.{Comes, HaltsAs, HaltsWith, IsWorld, told_so}
 use Rattle.ev_world.specs.Writing.{AppendsFront, IsBehind, IsStep, IsWritten, StopsAs, StopsWith, text_at, text_to, untold}
 use Rattle.ev_world.specs.declared.world.World.{World}

@@ -4,8 +4,8 @@ use Rattle.def_local.specs.Numbers.{brought, carried_in}
 use Rattle.def_local.specs.Vats.{Member, connection_for}
 use Rattle.def_machine.specs.State.{Note}
 use Rattle.def_machine.specs.Values.{Name}
-use Rattle.ev_member.specs.Hearing.{Brings, HeardNote}
-use Rattle.ev_member.specs.Standing.{IsMember}
+use Rattle.ev_resident.specs.MemberHearing.{Brings, HeardNote}
+use Rattle.ev_resident.specs.MemberStanding.{IsMember}
 use Rattle.ev_naming.specs.Names.{Entry, carried_mails}
 use Rattle.ev_naming.specs.Standing.{Says, mails_of, words_of}
 use Rattle.ev_outcome.specs.Standing.{NamesStand, ObjectsStand}

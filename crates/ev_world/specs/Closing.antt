@@ -2,7 +2,7 @@
 use Rattle.std.specs.Prelude.{List, [], ◌∷◌, ◌++◌}
 use Rattle.def_event.specs.declared.event.Event.{Event}
 use Rattle.ev_resident.specs.declared.resident.Resident.{Resident}
-use Rattle.ev_vat.specs.Closing.{left_lines}
+use Rattle.ev_resident.specs.Closing.{left_lines}
 
 -- of one vat, by the names that it has
 abbrev pub left_of : Resident → List Event

@@ -8,8 +8,8 @@ use Rattle.def_machine.specs.Values.{Words}
 use Rattle.def_run.specs.Text.{stop_line}
 use Rattle.def_run.specs.World.{Script}
 use Rattle.ev_base.specs.declared.memory.Memory.{Memory}
-use Rattle.ev_vat.specs.declared.vat.VatStop.{VatStop}
-use Rattle.ev_vat.specs.declared.vat.VatStop.TheVariants as stop
+use Rattle.ev_resident.specs.declared.VatStop.{VatStop}
+use Rattle.ev_resident.specs.declared.VatStop.TheVariants as stop
 use Rattle.ev_world.specs.declared.run.RunEnd.{RunEnd}
 use Rattle.ev_world.specs.declared.run.RunEnd.TheVariants as end
 use Rattle.ev_world.specs.declared.run.Told.{Told}

@@ -5,8 +5,8 @@ use Rattle.def_event.specs.declared.event.Event.{Event as ShownEvent}
 use Rattle.def_local.specs.Numbers.{Course, Runs, Halts}
 use Rattle.def_run.specs.Text.{shown_events}
 use Rattle.ev_base.specs.declared.memory.Memory.{Memory}
-use Rattle.ev_vat.specs.declared.vat.VatStop.{VatStop}
-use Rattle.ev_vat.specs.declared.vat.VatStop.TheVariants as stop
+use Rattle.ev_resident.specs.declared.VatStop.{VatStop}
+use Rattle.ev_resident.specs.declared.VatStop.TheVariants as stop
 use Rattle.ev_world.specs.declared.run.RunEnd.{RunEnd}
 use Rattle.ev_world.specs.declared.run.RunEnd.TheVariants as end
 

@@ -2,7 +2,7 @@
 use Rattle.std.specs.Prelude.{◌≡◌, ◌≤◌, ◌<◌, ℕ, zero, List, [], ◌∷◌, Some, drop, get_or, length, map, slice_get}
 use Rattle.ev_base.specs.declared.values.Value.{Value}
 use Rattle.ev_base.specs.declared.values.Value.TheVariants as held
-use Rattle.ev_member.specs.declared.member.Member.{Member}
+use Rattle.ev_resident.specs.declared.Member.{Member}
 use Rattle.ev_naming.specs.Names.{Named}
 use Rattle.ev_resident.specs.declared.resident.Resident.{Resident}
 use Rattle.ev_step_lines.specs.Lines.{with_import}

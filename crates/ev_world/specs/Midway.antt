@@ -7,15 +7,15 @@ use Rattle.def_machine.specs.Values.{Local}
 use Rattle.def_run.specs.Text.{shown_events}
 use Rattle.def_run.specs.World.{Event, Program, Script, name_at}
 use Rattle.ev_base.specs.declared.names.Msg.{Msg}
-use Rattle.ev_member.specs.Steps.{Having}
-use Rattle.ev_member.specs.declared.sending.Sending.{Sending}
+use Rattle.ev_resident.specs.MemberSteps.{Having}
+use Rattle.ev_resident.specs.declared.Sending.{Sending}
 use Rattle.ev_naming.specs.Names.{Entry, carried_mails}
 use Rattle.ev_naming.specs.Standing.{Says, mails_of}
 use Rattle.ev_outcome.specs.Standing.{NamesStand, ObjectsStand}
 use Rattle.ev_resident.specs.Standing.{IsResident, IsStepped}
 use Rattle.ev_resident.specs.declared.resident.Resident.{Resident}
 use Rattle.ev_scope.specs.declared.accepted.Scoped.{Scoped}
-use Rattle.ev_vat.specs.Vat.{IsReady}
+use Rattle.ev_resident.specs.Vat.{IsReady}
 use Rattle.ev_ways.specs.Standing.{WaysStand}
 use Rattle.ev_world.specs.Standing.{told_so}
 use Rattle.ev_world.specs.declared.world.World.{World}

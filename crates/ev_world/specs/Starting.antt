@@ -4,15 +4,15 @@ use Rattle.def_local.specs.Names.{Names}
 use Rattle.def_machine.specs.State as machine
 use Rattle.def_machine.specs.Values.{Local, Root}
 use Rattle.def_run.specs.World.{Program, knowers}
-use Rattle.ev_member.specs.Standing.{IsMember}
-use Rattle.ev_member.specs.Starting.{rooted_member}
+use Rattle.ev_resident.specs.MemberStanding.{IsMember}
+use Rattle.ev_resident.specs.MemberStarting.{rooted_member}
 use Rattle.ev_naming.specs.Names.{names_first}
 use Rattle.ev_outcome.specs.Standing.{NamesStand}
 use Rattle.ev_resident.specs.Starting.{with_roots}
 use Rattle.ev_resident.specs.declared.resident.Resident.{Resident}
 use Rattle.ev_script.specs.declared.script.Script.{Script}
 use Rattle.ev_script.specs.declared.script.VatScript.{VatScript}
-use Rattle.ev_vat.specs.Vat.{IsReady}
+use Rattle.ev_resident.specs.Vat.{IsReady}
 use Rattle.law_schedule.specs.Scripts.{machine_vats}
 
 -- the vats from a place on, without their programs, which say nothing of names and of whom a vat knows

@@ -8,8 +8,8 @@ use Rattle.def_machine.specs.State as machine
 use Rattle.def_machine.specs.Values.{Words}
 use Rattle.def_run.specs.Text.{shown_events}
 use Rattle.def_run.specs.World.{Script}
-use Rattle.ev_vat.specs.declared.vat.VatStop.{VatStop}
-use Rattle.ev_vat.specs.declared.vat.VatStop.TheVariants.{Fuel, Deep, WordRepeated, Astray, Memory}
+use Rattle.ev_resident.specs.declared.VatStop.{VatStop}
+use Rattle.ev_resident.specs.declared.VatStop.TheVariants.{Fuel, Deep, WordRepeated, Astray, Memory}
 use Rattle.ev_world.specs.Running.{end_of, told_text}
 use Rattle.ev_world.specs.Standing.{Comes, IsWorld, told_so}
 use Rattle.ev_world.specs.declared.run.RunEnd.{RunEnd}

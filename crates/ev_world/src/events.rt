@@ -13,7 +13,7 @@ use ev_base::{Limits, Memory};
 use ev_event::History;
 use ev_scope::Scoped;
 use ev_script::Script;
-use ev_vat::VatStop;
+use ev_resident::VatStop;
 use std::alloc::Global;
 
 /// How a run ended, and its events. One that stopped has those of the steps before.

@@ -14,7 +14,7 @@ use crate::exporting::tell_exports;
 use crate::pushing::push_out;
 use crate::world::World;
 use ev_base::{Memory, Msg, VatId};
-use ev_member::Sending;
+use ev_resident::Sending;
 use ev_naming::Told;
 use std::alloc::Global;
 

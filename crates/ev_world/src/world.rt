@@ -22,7 +22,7 @@ use ev_naming::Told;
 use ev_resident::Resident;
 use ev_scope::Scoped;
 use ev_script::{Entry, Script};
-use ev_vat::VatStop;
+use ev_resident::VatStop;
 use ev_ways::Ways;
 use ev_ways::telling::tell_lost;
 use ev_word::Word;

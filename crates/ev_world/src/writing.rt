@@ -13,7 +13,7 @@ use crate::world::{Halted, World};
 use ev_base::{Seq, Str};
 use ev_event::History;
 use ev_io::{Sink, write_all};
-use ev_vat::VatStop;
+use ev_resident::VatStop;
 use std::alloc::Global;
 
 /// Why a run was not written to its end.

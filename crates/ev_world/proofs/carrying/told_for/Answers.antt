@@ -1,7 +1,7 @@
 use Rattle.std.proofs.Common.{◌≡◌, ℕ, ◌∙◌, Some, length, refl, slice_get, subst, sym, ap}
 use Rattle.std.proofs.lemmas.Bool.{ltb-true}
 use Rattle.std.proofs.lemmas.Option.{slice_get_read}
-use Rattle.ev_vat.specs.declared.vat.Vat.{Vat}
+use Rattle.ev_resident.specs.declared.Vat.{Vat}
 use Rattle.ev_world.proofs.CarryingFrames.{tells_frame}
 use Rattle.ev_world.proofs.carrying.told_for.Goals as goal
 

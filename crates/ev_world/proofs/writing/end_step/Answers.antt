@@ -1,6 +1,6 @@
 use Rattle.std.proofs.Common.{subst}
 use Rattle.std.specs.declared.result.Result.{Result}
-use Rattle.ev_vat.specs.declared.vat.VatStop.{VatStop}
+use Rattle.ev_resident.specs.declared.VatStop.{VatStop}
 use Rattle.ev_world.specs.Standing.{CourseIs}
 use Rattle.ev_world.proofs.WrittenSteps.{step_cut, step_goes, step_stops}
 use Rattle.ev_world.proofs.writing.end_step.Goals as goal

@@ -5,8 +5,8 @@ use Rattle.std.specs.Prelude.{IfSome}
 use Rattle.std.specs.Vec.{with_item}
 use Rattle.def_local.specs.Numbers.{step, step_number}
 use Rattle.def_run.specs.World.{Carry}
-use Rattle.ev_member.specs.Hearing.{BringsSo, frame_heard}
-use Rattle.ev_member.specs.declared.hearing.Arrival.{Arrival}
+use Rattle.ev_resident.specs.MemberHearing.{BringsSo, frame_heard}
+use Rattle.ev_resident.specs.declared.Arrival.{Arrival}
 use Rattle.ev_resident.specs.declared.resident.Resident.{Resident}
 use Rattle.ev_world.specs.Carrying.{TellsFrame, with_ways}
 use Rattle.ev_world.specs.Exporting.{AreCounted}

@@ -2,10 +2,10 @@ use Rattle.std.proofs.Common.{◌≡◌, ℕ, Bool, false, List, Some, ◌∙◌
 use Rattle.std.proofs.lemmas.Bool.{ltb-true}
 use Rattle.std.proofs.lemmas.Option.{slice_get_read}
 use Rattle.def_local.specs.Numbers.{link_of}
-use Rattle.ev_member.specs.declared.member.Member.{Member}
+use Rattle.ev_resident.specs.declared.Member.{Member}
 use Rattle.ev_naming.specs.Printing.{TellsCuts}
 use Rattle.ev_resident.specs.declared.resident.Resident.{Resident}
-use Rattle.ev_vat.specs.Vat.{IsReady}
+use Rattle.ev_resident.specs.Vat.{IsReady}
 use Rattle.ev_ways.proofs.Links.{cuts_stand}
 use Rattle.ev_world.specs.Midway.{having_of}
 use Rattle.ev_world.specs.declared.world.World.{World}

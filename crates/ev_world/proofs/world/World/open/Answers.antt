@@ -5,7 +5,7 @@ use Rattle.std.specs.Vec.{with_item}
 use Rattle.def_local.specs.Numbers.{nothing_brought, open_member}
 use Rattle.def_machine.specs.Values.{Words}
 use Rattle.def_run.specs.World.{Opens}
-use Rattle.ev_member.specs.declared.sending.Sending.{Sending}
+use Rattle.ev_resident.specs.declared.Sending.{Sending}
 use Rattle.ev_naming.specs.Names.{Entry}
 use Rattle.ev_scope.specs.declared.accepted.Scoped.{Scoped}
 use Rattle.ev_world.specs.Exporting.{AreCounted}

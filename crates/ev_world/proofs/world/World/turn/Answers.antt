@@ -4,7 +4,7 @@ use Rattle.std.proofs.lemmas.Option.{slice_get_read}
 use Rattle.std.specs.Vec.{with_item}
 use Rattle.def_local.specs.Numbers.{nothing_brought, step, step_number}
 use Rattle.def_run.specs.World.{Turn, Turned}
-use Rattle.ev_member.specs.declared.sending.Sending.{Sending}
+use Rattle.ev_resident.specs.declared.Sending.{Sending}
 use Rattle.ev_naming.specs.Names.{Entry}
 use Rattle.ev_scope.specs.declared.accepted.Scoped.{Scoped}
 use Rattle.ev_world.specs.Exporting.{AreCounted}
