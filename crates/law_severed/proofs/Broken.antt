@@ -53,7 +53,7 @@ module _ (script : Script) (v w : ℕ) where
 -- ---- what is broken stays so
 
 module _ (K : Naming Name Name) where
-  still_broken : (n : Name) (s t : Vat Name) → SettledStays K s t → IsBroken K s n → IsBroken K t n
+  pub still_broken : (n : Name) (s t : Vat Name) → SettledStays K s t → IsBroken K s n → IsBroken K t n
   unfolding standing_of
   still_broken n s t h x = let found = settled_entry (entry_of K s.known n) (Broken x.0) x.1 in (x.0, standing_found K t.known n found.0 (Broken x.0) (h n found.0 (Broken x.0) found.1 found.2) found.2)
 

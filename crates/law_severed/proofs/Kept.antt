@@ -49,7 +49,7 @@ lasts_opened p i (g ∷ gs) = lasts_either (is_gift p i g) g gs (with_opened p i
 lasts_on : {N : Type 0} (fs gs hs : List (GiftEntry N)) → Lasts fs gs → Lasts gs hs → Lasts fs hs
 lasts_on fs gs hs a b i f e = let g = a i f e in let h = b i g.0 g.1 in (h.0, h.1, later_on f g.0 h.0 g.2 h.2)
 
-gifts_law : {N : Type 0} → IsKept {N = N} SameGifts
+pub gifts_law : {N : Type 0} → IsKept {N = N} SameGifts
 gifts_law = record {
   same = λ s. lasts_self s.gifts;
   trans = λ {s} {t} {u} h k. lasts_on s.gifts t.gifts u.gifts h k;
@@ -69,7 +69,7 @@ gifts_law = record {
   drawn = λ s w. lasts_self s.gifts;
 }
 
-gifts_names : {N W : Type 0} (K : Naming N W) → IsKeptUnder K SameGifts
+pub gifts_names : {N W : Type 0} (K : Naming N W) → IsKeptUnder K SameGifts
 gifts_names K = record {
   altered = λ s c n. lasts_self s.gifts;
   came = λ s c h. lasts_self s.gifts;

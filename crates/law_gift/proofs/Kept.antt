@@ -1,0 +1,137 @@
+-- What is kept of a vat: that a name which waits or settled, but to a broken reference, is one that may settle; and so is all that waits, and each answer that a message here has.
+use Rattle.std.proofs.Common.{◌≡◌, ℕ, Bool, true, false, List, [], ◌∷◌, Option, Some, refl, sym, subst, ◌⊎◌, inl, inr}
+use Rattle.def_machine.specs.Values.{Value, Null, Flag, Number, Letter, Text, Prim, Broken, Items, Ref, Name, Gift, Naming, naming}
+use Rattle.def_machine.specs.State.{Message, Standing, Unsettled, WaitsOn, Viewed, Settled, Known, Change, Hold, Wait, WaitOn, See, React, ToTell, Settle, GiftEntry, Vat, Done, Gives, Throws, Ejects, Stops, WhereSome, is_gift, with_opened, with_change, changed, changed_to}
+use Rattle.def_machine.specs.Arrive.{gift_at}
+use Rattle.def_machine.specs.Refs.{entry_of, target_of}
+use Rattle.std.proofs.lemmas.Bool.{eqb-true}
+use Rattle.std.specs.Prelude.{◌==◌}
+use Rattle.law_name.specs.Names.{AllOf}
+use Rattle.law_name.proofs.Facts.{all_end}
+use Rattle.law_reference.specs.ListRingless.{IsNamed}
+use Rattle.law_reference.proofs.Kept.{is, changed_or}
+
+-- a broken reference
+abbrev pub IsBreak : Value Name → Type 0
+IsBreak (Broken p) = Unit {0}
+IsBreak Null = ⊥
+IsBreak (Flag b) = ⊥
+IsBreak (Number z) = ⊥
+IsBreak (Letter c) = ⊥
+IsBreak (Text t) = ⊥
+IsBreak (Prim n) = ⊥
+IsBreak (Items k) = ⊥
+IsBreak (Ref n) = ⊥
+
+-- it neither waits nor settled, but to a broken reference
+abbrev pub IsCalm : Standing Name → Type 0
+IsCalm Unsettled = Unit {0}
+IsCalm (WaitsOn q) = ⊥
+IsCalm (Viewed q) = ⊥
+IsCalm (Settled y) = IsBreak y
+
+-- ---- gifts
+
+opened_either : (v : ℕ) (b : Bool) (g : GiftEntry Name) (gs hs : List (GiftEntry Name)) → IsNamed v g → AllOf (IsNamed v) gs → AllOf (IsNamed v) hs → AllOf (IsNamed v) (elim b [ true ↦ record g { opened = true } ∷ gs | false ↦ g ∷ hs ])
+opened_either v true g gs hs h i j = (h, i)
+opened_either v false g gs hs h i j = (h, j)
+
+pub opened_named : (v p i : ℕ) (gs : List (GiftEntry Name)) → AllOf (IsNamed v) gs → AllOf (IsNamed v) (with_opened p i gs)
+unfolding with_opened
+opened_named v p i [] h = tt
+opened_named v p i (g ∷ gs) h = opened_either v (is_gift p i g) g gs (with_opened p i gs) h.0 h.1 (opened_named v p i gs h.1)
+
+number_of : (b c : Bool) (i j : ℕ) → (i == j) ≡ c → elim b [ true ↦ c | false ↦ false ] ≡ true → i ≡ j
+number_of true true i j e f = eqb-true i j e
+number_of true false i j e f = cc
+number_of false c i j e f = cc
+
+named_so : (v p i : ℕ) (g : GiftEntry Name) → IsNamed v g → is_gift p i g ≡ true → g.name ≡ Gift v i
+unfolding is_gift
+named_so v p i g h e = let n : g.number ≡ i = number_of (g.provider == p) (g.number == i) g.number i refl e in subst (λ j. g.name ≡ Gift v j) n h
+
+at_head : (v p i : ℕ) (b : Bool) (g : GiftEntry Name) (o : Option (GiftEntry Name)) → is_gift p i g ≡ b → IsNamed v g → WhereSome (λ f. f.name ≡ Gift v i) o → WhereSome (λ f. f.name ≡ Gift v i) (elim b [ true ↦ Some g | false ↦ o ])
+at_head v p i true g o e h k = named_so v p i g h e
+at_head v p i false g o e h k = k
+
+-- a gift that is found under a key is named by it
+pub found_named : (v p i : ℕ) (gs : List (GiftEntry Name)) → AllOf (IsNamed v) gs → WhereSome (λ g. g.name ≡ Gift v i) (gift_at p i gs)
+unfolding gift_at
+found_named v p i [] h = tt
+found_named v p i (g ∷ gs) h = at_head v p i (is_gift p i g) g (gift_at p i gs) refl h.0 (found_named v p i gs h.1)
+
+module _ (word : ℕ → ℕ) (v : ℕ) (May : Name → Type 0) where
+  abbrev pub N : Naming Name Name
+  N = naming word v
+
+  abbrev pub MayAnswer : Message Name → Type 0
+  MayAnswer m = WhereSome May m.answer
+
+  abbrev pub Entry : Known Name → Type 0
+  Entry k = (IsCalm k.standing ⊎ May k.name) × AllOf MayAnswer k.held × AllOf May k.waiting × AllOf MayAnswer k.reactions
+
+  abbrev pub Kept : Vat Name → Type 0
+  Kept s = (s.number ≡ v) × AllOf Entry s.known × AllOf MayAnswer s.queue × AllOf (IsNamed v) s.gifts
+
+  -- ---- a change of what is known of a name
+
+  -- a name that waits or comes to be viewed may settle, and one that settles may or breaks
+  abbrev pub Fair : Change Name → Name → Type 0
+  Fair (Hold m) n = MayAnswer m
+  Fair (Wait q) n = May q
+  Fair (WaitOn q) n = May n
+  Fair (See q) n = May n
+  Fair (React m) n = MayAnswer m
+  Fair (ToTell w) n = Unit {0}
+  Fair (Settle y) n = IsBreak y ⊎ May n
+
+  changed_entry : (c : Change Name) (k : Known Name) → Fair c k.name → Entry k → Entry (changed_to c k)
+  unfolding changed_to
+  changed_entry (Hold m) k f h = (h.0, all_end MayAnswer k.held m h.1 f, h.2, h.3)
+  changed_entry (Wait q) k f h = (h.0, h.1, all_end May k.waiting q h.2 f, h.3)
+  changed_entry (WaitOn q) k f h = (inr f, h.1, h.2, h.3)
+  changed_entry (See q) k f h = (inr f, h.1, h.2, h.3)
+  changed_entry (React m) k f h = (h.0, h.1, h.2, all_end MayAnswer k.reactions m h.3 f)
+  changed_entry (ToTell w) k f h = h
+  changed_entry (Settle y) k f h = (f, tt, tt, tt)
+
+  changed_so : (c : Change Name) (k : Known Name) → Fair c k.name → Entry k → (changed c k ≡ k) ⊎ (changed c k ≡ changed_to c k) → Entry (changed c k)
+  changed_so c k f h (inl e) = subst Entry (sym e) h
+  changed_so c k f h (inr e) = subst Entry (sym e) (changed_entry c k f h)
+
+  change_head : (b : Bool) (c : Change Name) (n : Name) (k : Known Name) (ks ls : List (Known Name)) → (b ≡ true → k.name ≡ n) → Fair c n → Entry k → AllOf Entry ks → AllOf Entry ls → AllOf Entry (elim b [ true ↦ changed c k ∷ ks | false ↦ k ∷ ls ])
+  change_head true c n k ks ls e f h i j = (changed_so c k (subst (λ m. Fair c m) (sym (e refl)) f) h (changed_or c k), i)
+  change_head false c n k ks ls e f h i j = (h, j)
+
+  pub changes : (c : Change Name) (n : Name) (ks : List (Known Name)) → Fair c n → AllOf Entry ks → AllOf Entry (with_change N c n ks)
+  unfolding with_change
+  changes c n [] f h = tt
+  changes c n (k ∷ ks) f h = change_head (N.same k.name n) c n k ks (with_change N c n ks) (is word v k.name n) f h.0 h.1 (changes c n ks f h.1)
+
+  found_head : (b : Bool) (k : Known Name) (o : Option (Known Name)) → Entry k → WhereSome Entry o → WhereSome Entry (elim b [ true ↦ Some k | false ↦ o ])
+  found_head true k o h i = h
+  found_head false k o h i = i
+
+  -- what is known of a name that is found
+  pub found : (ks : List (Known Name)) (n : Name) → AllOf Entry ks → WhereSome Entry (entry_of N ks n)
+  unfolding entry_of
+  found [] n h = tt
+  found (k ∷ ks) n h = found_head (N.same k.name n) k (entry_of N ks n) h.0 (found ks n h.1)
+
+  break_stays : (s : Vat Name) (p : Name) (x : Value Name) → IsBreak x → IsBreak (target_of N s p x)
+  unfolding target_of
+  break_stays s p (Broken t) h = tt
+  break_stays s p _ h = absurd h
+
+  -- what leads back to a name breaks, and what is broken stays so
+  pub target_fair : (s : Vat Name) (p : Name) (x : Value Name) → IsBreak x ⊎ May p → IsBreak (target_of N s p x) ⊎ May p
+  target_fair s p x (inl h) = inl (break_stays s p x h)
+  target_fair s p x (inr h) = inr h
+
+  -- ---- how something ends
+
+  abbrev pub Leaves : {A : Type 0} → (A → Type 0) → Done Name A → Type 0
+  Leaves G (Gives a t) = Kept t × G a
+  Leaves G (Throws p t) = Kept t
+  Leaves G (Ejects n x t) = Kept t
+  Leaves G (Stops c t) = Kept t
