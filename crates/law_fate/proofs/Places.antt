@@ -330,7 +330,7 @@ module _ (M : Marked) (vats : List (Vat Name)) (v : ℕ) (q : Vat Name) (there :
     unfolding naming
     whole_serves = record {
       spots = record { alike = λ a b e. let spots = under.spots in spots.alike a b e; placed = λ s m n g. let spots = under.spots in spots.placed s m.0 n g };
-      object = λ s i. under.object s i;
+      object = λ s i l. under.object s i l;
       promises = whole_promises;
       breaks = whole_breaks;
       resolves = whole_resolves;

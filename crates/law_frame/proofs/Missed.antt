@@ -145,7 +145,7 @@ module _ (i : ℕ) where
       unfolding naming name_of
       misses_under = record {
         spots = record { alike = λ a b e. reference_is a b e; placed = λ s m n g. spot_ok s n (spot_of v n) };
-        object = λ s j. tt;
+        object = λ s j l. tt;
         happened = λ s e. (tt, λ h. h);
         queue = λ s m. (tt, λ h. h);
         outbox = λ s p h. (tt, λ k. k);

@@ -117,7 +117,7 @@ module _ (v : ℕ) (T : Name → Type 0) where
     unfolding naming name_of
     under = record {
       spots = record { alike = λ a b e. reference_is a b e; placed = λ s m n g. spot_ok s n (spot_of v n) g };
-      object = λ s i. inl refl;
+      object = λ s i l. inl refl;
       happened = λ s e. (tt, λ h. tt);
       queue = λ s m. (tt, λ h. tt);
       outbox = λ s p h. (tt, λ k. tt);

@@ -110,7 +110,7 @@ module _ (g i : ℕ) where
       unfolding naming name_of
       bare_under = record {
         spots = record { alike = λ a b e. reference_is a b e; placed = λ s m n k. spot_ok s n (spot_of v n) k };
-        object = λ s j. no_object v j;
+        object = λ s j l. no_object v j;
         happened = λ s e. (tt, λ h. h);
         queue = λ s m. (tt, λ h. h);
         outbox = λ s p h. (tt, λ k. k);

@@ -1,5 +1,5 @@
 -- What a vat does from a sound state, under facts on what it has in hand, ends in a sound state with facts on what it gives.
-use Rattle.std.proofs.Common.{◌≡◌, ℕ, zero, suc, ◌-◌, Bool, true, false, List, [], ◌∷◌, ◌++◌, Option, Some, None, if◌then◌else◌, length, refl, sym, subst}
+use Rattle.std.proofs.Common.{◌≡◌, ℕ, zero, suc, ◌-◌, ◌<◌, Bool, true, false, List, [], ◌∷◌, ◌++◌, Option, Some, None, if◌then◌else◌, length, refl, sym, subst}
 use Rattle.std.specs.Prelude.{nat_le}
 use Rattle.def_machine.specs.Values.{Words, Value, Null, Flag, Number, Text, Prim, Broken, Items, Ref, Naming, IsOwn, IsAnswer, IsGift, IsSent, key}
 use Rattle.def_machine.specs.State.{Bound, Scope, Cell, View, Thing, Made, Ejector, Audition, Resolver, Message, Standing, Unsettled, WaitsOn, Viewed, Settled, Known, Change, Hold, Wait, WaitOn, See, React, ToTell, Settle, Passed, Passeds, Note, Put, GiftEntry, Happened, Took, Called, Back, Thrown, Left, Got, SlotMade, SlotRead, SlotWrote, ListMade, EjectorMade, AuditionMade, PromiseMade, ObjectMade, Sends, Reacts, Finished, Threw, Lost, Posted, Vat, Stop, Done, Gives, Throws, Ejects, Stops, Act, ◌>>=◌, ◌>>◌, and_then, for_some, end_by, ending, each, give, throw, stop, eject, look, tell, spend, spent, new_activation, new_thing, kill, change, dead, new_slot, holding, write_slot, new_list, enqueue, send_out, new_gift, with_opened, open_gift, is_gift, mark, draws, with_change, changed, changed_to, unless_settled, with_vat, is_in, alter, come, new_promise, new_message, draw, begun, new_lone_message}
@@ -62,7 +62,7 @@ pub record Spots {N W : Type 0} (K : Naming N W) (S : Care N) : Type 0 where
 -- and that each other change is so, but views and gifts
 pub record Under {N W : Type 0} (K : Naming N W) (S : Care N) : Type 0 where
   pub spots : Spots K S
-  pub object : (s : Vat N) (i : ℕ) → S.ok s (Named (K.object i))
+  pub object : (s : Vat N) (i : ℕ) → i < length s.things → S.ok s (Named (K.object i))
   pub happened : (s : Vat N) (e : Happened N) → S.rel s (record s { happened = s.happened ++ e ∷ [] }) × (S.more s → S.more (record s { happened = s.happened ++ e ∷ [] }))
   pub queue : (s : Vat N) (m : Message N) → S.rel s (record s { queue = s.queue ++ m ∷ [] }) × (S.more s → S.more (record s { queue = s.queue ++ m ∷ [] }))
   pub outbox : (s : Vat N) (p : Put N) → PutOk (S.ok s) p → S.rel s (record s { outbox = s.outbox ++ p ∷ [] }) × (S.more s → S.more (record s { outbox = s.outbox ++ p ∷ [] }))
@@ -397,12 +397,14 @@ module _ {N : Type 0} (S : Care N) where
   unfolding new_activation
   fine_activation = record { after = λ s h c. let r = S.activations s in (r.0, record { parts = still s _ r.0 h; more = r.1 h.more }, tt) }
 
+  -- What is good of a thing may rest on that it is there: an object may be among its own captures.
+  pub thing_comes : (s : Vat N) (x : Thing N) → Sound S s → ThingOk (S.ok (record s { things = s.things ++ x ∷ [] })) x → S.rel s (record s { things = s.things ++ x ∷ [] }) × Sound S (record s { things = s.things ++ x ∷ [] })
+  thing_comes s x h g = let r = S.thing s x in let t = record s { things = s.things ++ x ∷ [] } in let p = still s t r.0 h in
+      (r.0, record { parts = record { things = all_end (ThingOk (S.ok t)) s.things x p.things g; slots = p.slots; lists = p.lists; queue = p.queue; known = p.known; gifts = p.gifts; outbox = p.outbox }; more = r.1 h.more })
+
   pub fine_thing : {C : Fact N} (x : Thing N) → Gets C (IsThing x) → Fine C (new_thing x) nothing
   unfolding new_thing
-  fine_thing x g = record {
-    after = λ s h c. let r = S.thing s x in let t = record s { things = s.things ++ x ∷ [] } in let p = still s t r.0 h in
-        (r.0, record { parts = record { things = all_end (ThingOk (S.ok t)) s.things x p.things (thing_up (S.ok s) (S.ok t) (S.up s t r.0) x (g.at s c)); slots = p.slots; lists = p.lists; queue = p.queue; known = p.known; gifts = p.gifts; outbox = p.outbox }; more = r.1 h.more }, tt);
-  }
+  fine_thing x g = record { after = λ s h c. let t = record s { things = s.things ++ x ∷ [] } in let e = thing_comes s x h (thing_up (S.ok s) (S.ok t) (S.up s t (S.thing s x).0) x (g.at s c)) in (e.0, e.1, tt) }
 
   dead_ok : (P : Bit N → Type 0) (x : Thing N) → ThingOk P x → ThingOk P (dead x)
   unfolding dead
@@ -553,9 +555,6 @@ module _ {N : Type 0} (S : Care N) where
   end_answer h x y z = fine_ending answer h x y z
 
 module _ {N W : Type 0} (K : Naming N W) (S : Care N) (law : Under K S) where
-  pub got_object : (C : Fact N) (i : ℕ) → Gets S C (IsName (K.object i))
-  got_object C i = record { at = λ s h. law.object s i }
-
   pub fine_tell : {C : Fact N} (e : Happened N) → Fine S C (tell e) nothing
   unfolding tell
   fine_tell e = record { after = λ s h c. let r = law.happened s e in (r.0, record { parts = still S s _ r.0 h; more = r.1 h.more }, tt) }
@@ -718,4 +717,4 @@ pub ruleset quiet = (gets, then_unit, then_number, then_value, then_answer, bind
 -- and lines that tell of no message
 pub ruleset quiet_told = (quiet, told_called, told_back, told_thrown, told_left, told_got, told_slot_made, told_slot_read, told_slot_wrote, told_list_made, told_ejector_made, told_audition_made, told_promise_made, told_object_made, told_finished, told_threw)
 
-pub ruleset fine = (quiet, got_object, fine_tell, fine_enqueue, fine_out, fine_open, fine_mark, fine_draw, fine_hold, fine_wait, fine_waits_on, fine_reacts, fine_to_tell, fine_settles, come_answer)
+pub ruleset fine = (quiet, fine_tell, fine_enqueue, fine_out, fine_open, fine_mark, fine_draw, fine_hold, fine_wait, fine_waits_on, fine_reacts, fine_to_tell, fine_settles, come_answer)

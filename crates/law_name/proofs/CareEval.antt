@@ -1,8 +1,8 @@
 -- All of evaluation, from a sound state, ends in a sound state.
-use Rattle.std.proofs.Common.{ℕ, zero, suc, Bool, true, false, List, [], ◌∷◌, Option, Some, None}
+use Rattle.std.proofs.Common.{ℕ, zero, suc, Bool, true, false, List, [], ◌∷◌, ◌++◌, Option, Some, None, length, map}
 use Rattle.std.specs.Prelude.{slice_get}
 use Rattle.def_machine.specs.Values.{Words, Value, Flag, Text, Prim, Broken, Items, Ref, Naming, Spot, Own}
-use Rattle.def_machine.specs.State.{Bound, Fixed, Slot, Scope, Binding, Cell, View, Thing, Made, Ejector, Audition, Resolver, Message, Took, Standing, Unsettled, Act, give, look, throw, eject}
+use Rattle.def_machine.specs.State.{Bound, Fixed, Slot, Scope, Binding, Cell, View, Thing, Made, Ejector, Audition, Resolver, Message, Took, Standing, Unsettled, Vat, Act, ◌>>=◌, ◌>>◌, and_then, new_thing, give, look, throw, eject}
 use Rattle.def_machine.specs.Refs as refs
 use Rattle.def_machine.specs.Refs.{Place, Near}
 use Rattle.def_machine.specs.Form.{Item, Begin, End, Word, Fact as Fixing, literal_value}
@@ -15,11 +15,12 @@ use Rattle.def_machine.specs.Eval as eval
 use Rattle.def_machine.specs.Scopes.{meets, any_guard, frozen_guard, freezes, Answer, Answers, Evaluator, Caller, Body, Case, AuditionAsk, GetsForm, GetsGuard, Asks, NoAuditionAsk, ResolverAsk, Resolves, Smashes, NoResolverAsk}
 use Rattle.def_kernel.specs.declared.node.Node.{Node}
 use Rattle.def_kernel.specs.declared.node.Node.TheVariants.{Lit, Noun, Set, Def, Call, Sequence, If, Escape, Try, Finally, Hide, MatchBind, Object, Final, Var, Any, ListPattern, Via}
-use Rattle.law_name.proofs.Facts.{Fact, Also, IsName, IsValue, AreValues, AreLists, IsBound, AreNouns, IsMessage, IsThing, IsView, IsPlace, MayValue, MayBound, MayCell, MayThing, IsReply, IsAsked, IsAuditionAsk, IsResolverAsk, scope, answer, answers, nothing, MayName}
-use Rattle.law_name.proofs.Care.{Care, Under, Makes, Gets, Fine, got, got_left, got_text, fine_bind, fine_ending, fine_left, fine_give, fine_throw, fine_eject, fine_stop, fine_spend, fine_activation, fine_tell, bind_number, then_unit}
+use Rattle.law_name.specs.Names.{AllOf, ValuesOk, NounOk}
+use Rattle.law_name.proofs.Facts.{Holds, Fact, Also, IsName, IsValue, AreValues, AreLists, IsBound, AreNouns, IsMessage, IsThing, IsView, IsPlace, MayValue, MayBound, MayCell, MayThing, IsReply, IsAsked, IsAuditionAsk, IsResolverAsk, scope, answer, answers, nothing, MayName}
+use Rattle.law_name.proofs.Care.{Care, Under, Makes, Sound, Gets, Ends, Fine, got, got_left, got_text, got_ejector, got_audition, got_resolver, widen, rise, thing_comes, told_ejector_made, told_object_made, fine_bind, fine_ending, fine_left, fine_give, fine_throw, fine_eject, fine_stop, fine_spend, fine_activation, fine_tell, bind_number, bind_name, bind_values, bind_answer, then_unit}
 use Rattle.law_name.proofs.Looks.{looks, look_place, look_place_of}
-use Rattle.law_name.proofs.Serves.{Serves, served, served_by}
-use Rattle.law_name.proofs.EvalFacts.{knows, got_noun, got_item, got_lists, got_literal}
+use Rattle.law_name.proofs.Serves.{Serves, served, served_by, below_end, serve_promise, serve_thing, bind_object}
+use Rattle.law_name.proofs.EvalFacts.{knows, got_noun, got_named, got_captures, got_view, got_item, got_lists, got_literal}
 
 -- a call, whatever is called
 abbrev pub GoodCaller : {N : Type 0} → Care N → Caller N → Type 0
@@ -150,7 +151,7 @@ module _ {N W : Type 0} (K : Naming N W) (S : Care N) (serves : Serves K S) (tre
 
   pub fine_make_promise : {C : Fact N} → (x1 : ℕ) → Fine S C (perform.make_promise K tree x1) IsValue
   unfolding perform.make_promise
-  fine_make_promise {C = C} act = search (served, looks, place_here, place_of_here, knows, fine_make_list) depth 30
+  fine_make_promise {C = C} act = bind_name S (serve_promise K S serves) (λ p. bind_object K S serves (serve_thing K S serves (Resolver p) (got_resolver S (Also C (IsName p)) p (got S C (IsName p)))) (λ r. search (served, looks, place_here, place_of_here, knows, fine_make_list) depth 30))
 
   pub fine_react_near : {C : Fact N} → (x1 : ℕ) → (x2 : Value N) → Gets S C (IsValue x2) → (x3 : Value N) → Gets S C (IsValue x3) → (x4 : Value N) → Gets S C (IsValue x4) → (x5 : Place N) → Gets S C (IsPlace x5) → Fine S C (perform.react_near K tree x1 x2 x3 x4 x5) IsValue
   unfolding perform.react_near
@@ -205,7 +206,7 @@ module _ {N W : Type 0} (K : Naming N W) (S : Care N) (serves : Serves K S) (tre
 
   pub fine_audit : {C : Fact N} → (x1 : Caller N) → GoodCaller S x1 → (x2 : ℕ) → (x3 : View N) → Gets S C (IsView x3) → (x4 : Value N) → Gets S C (IsValue x4) → (x5 : Place N) → Gets S C (IsPlace x5) → Fine S C (calls.audit K tree x1 x2 x3 x4 x5) nothing
   unfolding calls.audit
-  fine_audit {C = C} again h1 act view g1 a g2 Near p7 = search (served, looks, place_here, place_of_here, knows, fine_leaving) depth 30
+  fine_audit {C = C} again h1 act view g1 a g2 Near p7 = bind_object K S serves (serve_thing K S serves (Audition true view) (got_audition S C true view g1)) (λ n. search (served, looks, place_here, place_of_here, knows, fine_leaving) depth 30)
   fine_audit {C = C} again h1 act view g1 a g2 _ p7 = search (served, looks, place_here, place_of_here, knows) depth 30
 
   pub fine_verdict : {C : Fact N} → (again : Caller N) → GoodCaller S again → (act : ℕ) → (view : View N) → Gets S C (IsView view) → (a : Value N) → Gets S C (IsValue a) → (y : Value N) → Gets S C (IsValue y) → Fine S C (calls.verdict K tree again act view a y) nothing
@@ -270,9 +271,9 @@ module _ {N W : Type 0} (K : Naming N W) (S : Care N) (serves : Serves K S) (tre
   fine_bind_all {C = C} rec good (p ∷ ps) [] g1 j g2 here g3 = search (served, looks, place_here, place_of_here, knows) depth 30
   fine_bind_all {C = C} rec good (p ∷ ps) (v ∷ vs) g1 j g2 here g3 = let d0_g1 : Gets S C (IsValue v) = record { at = λ s h. (g1.at s h).0 } in let d1_g1 : Gets S C (AreValues vs) = record { at = λ s h. (g1.at s h).1 } in let rest : (D : Fact N) (next : Scope N) → Gets S D (AreValues vs) → Gets S D (IsValue j) → Gets S D (AreNouns next.nouns) → Fine S D (calls.bind_all K tree rec ps vs j next) scope = λ D next a b c. fine_bind_all {C = D} rec good ps vs a j b next c in search (served, looks, place_here, place_of_here, knows, good.pattern) depth 30
 
-  pub fine_new_ejector : {C : Fact N} → (x1 : ℕ) → Fine S C (calls.new_ejector K tree x1) nothing
+  pub fine_new_ejector : {C : Fact N} → (x1 : ℕ) → Fine S C (calls.new_ejector K tree x1) (λ i. IsName (K.object i))
   unfolding calls.new_ejector
-  fine_new_ejector {C = C} act = search (served, looks, place_here, place_of_here, knows) depth 30
+  fine_new_ejector {C = C} act = bind_object K S serves (serve_thing K S serves (Ejector true) (got_ejector S C true)) (λ j. then_unit S (told_ejector_made S act (K.object j)) (fine_give S j (got S C (IsName (K.object j)))))
 
   pub fine_hand_over : {C : Fact N} → (x1 : ℕ) → (x2 : ℕ) → (x3 : Act N (Value N)) → Fine S C x3 IsValue → (x4 : ℕ) → (x5 : Value N) → Gets S C (IsValue x5) → Fine S C (calls.hand_over K tree x1 x2 x3 x4 x5) IsValue
   unfolding calls.hand_over
@@ -285,7 +286,7 @@ module _ {N W : Type 0} (K : Naming N W) (S : Care N) (serves : Serves K S) (tre
   pub fine_match_all : {C : Fact N} → (x1 : Evaluator N) → GoodEvaluator S x1 → (x2 : List Case) → (x3 : Value N) → Gets S C (IsValue x3) → (x4 : Scope N) → Gets S C (AreNouns x4.nouns) → Fine S C (calls.match_all K tree x1 x2 x3 x4) IsValue
   unfolding calls.match_all
   fine_match_all {C = C} rec good [] v g1 here g2 = search (served, looks, place_here, place_of_here, knows) depth 30
-  fine_match_all {C = C} rec good (m ∷ ms) v g1 here g2 = let rest : Fine S C (λ s. calls.match_all K tree rec ms v here s) IsValue = fine_match_all {C = C} rec good ms v g1 here g2 in search (served, looks, place_here, place_of_here, knows, fine_new_ejector, fine_matched, good.pattern) depth 30
+  fine_match_all {C = C} rec good (m ∷ ms) v g1 here g2 = bind_object K S serves (fine_new_ejector here.act) (λ j. let rest : Fine S (Also C (IsName (K.object j))) (λ s. calls.match_all K tree rec ms v here s) IsValue = fine_left S (fine_match_all {C = C} rec good ms v g1 here g2) in search (served, looks, place_here, place_of_here, knows, fine_matched, good.pattern) depth 30)
 
   pub fine_try_matchers : {C : Fact N} → (x1 : Evaluator N) → GoodEvaluator S x1 → (x2 : List Case) → (x3 : Words) → (x4 : List (Value N)) → Gets S C (AreValues x4) → (x5 : Scope N) → Gets S C (AreNouns x5.nouns) → Fine S C (calls.try_matchers K tree x1 x2 x3 x4 x5) IsValue
   unfolding calls.try_matchers
@@ -359,21 +360,27 @@ module _ {N W : Type 0} (K : Naming N W) (S : Care N) (serves : Serves K S) (tre
 
   -- ---- making objects
 
-  pub fine_object_made : {C : Fact N} → (node : ℕ) → (x : Words) → (act : ℕ) → (me : N) → Gets S C (IsName me) → (after : Scope N) → Gets S C (AreNouns after.nouns) → (stamps : List (Value N)) → Gets S C (AreValues stamps) → (caught : List (Binding N)) → Gets S C (AreNouns caught) → Fine S C (calls.object_made K tree node x act me after stamps caught) answer
-  unfolding calls.object_made
-  fine_object_made {C = C} node x act me g1 after g2 stamps g3 caught g4 = search (served, looks, place_here, place_of_here, knows, fine_answered) depth 30
+  -- an object may be among its own captures: they are good once it is there
+  object_ends : (node : ℕ) (p : Option Node) (xs : List Words) (stamps : List (Value N)) (here : Scope N) (s : Vat N) → Sound S s → AllOf (NounOk (S.ok s)) here.nouns → ValuesOk (S.ok s) stamps
+      → Ends S answer s (calls.object_as K tree node p xs stamps (K.object (length s.things)) here s)
+  unfolding calls.object_as calls.object_in calls.object_made ◌>>◌ and_then new_thing
+  object_ends node p xs stamps here s h nouns i =
+      let me : N = K.object (length s.things) in let after : Scope N = scopes.named p (Ref me) here in let caught : List (Binding N) = scopes.captures after xs in
+      let x : Thing N = Made node caught stamps in let t : Vat N = record s { things = s.things ++ x ∷ [] } in let r = (S.thing s x).0 in
+      let C : Fact N = Also (IsName me) (AreNouns here.nouns) in let c : Holds (S.ok t) C = (serves.object t (length s.things) (below_end s.things x), rise S s t r (AreNouns here.nouns) nouns) in
+      let own : Gets S C (IsValue (Ref me)) = record { at = λ u k. k.0 } in let in_after : Gets S C (AreNouns after.nouns) = got_named S C p (Ref me) here own (record { at = λ u k. k.1 }) in
+      let e = thing_comes S s x h ((got_captures S C after xs in_after).at t c, rise S s t r (AreValues stamps) i) in
+      widen S answer s t _ e.0 ((then_unit S (told_object_made S here.act me (scopes.name_of p) (map (λ b. b.bound) caught) stamps) (fine_answered after in_after (Ref me) own)).after t e.1 c)
 
-  pub fine_object_in : {C : Fact N} → (node : ℕ) → (x : Words) → (free : List Words) → (act : ℕ) → (me : N) → Gets S C (IsName me) → (stamps : List (Value N)) → Gets S C (AreValues stamps) → (after : Scope N) → Gets S C (AreNouns after.nouns) → Fine S C (calls.object_in K tree node x free act me stamps after) answer
-  unfolding calls.object_in
-  fine_object_in {C = C} node x free act me g1 stamps g2 after g3 = search (served, looks, place_here, place_of_here, knows, fine_object_made) depth 30
-
-  pub fine_object_as : {C : Fact N} → (node : ℕ) → (p : Option Node) → (free : List Words) → (stamps : List (Value N)) → Gets S C (AreValues stamps) → (me : N) → Gets S C (IsName me) → (here : Scope N) → Gets S C (AreNouns here.nouns) → Fine S C (calls.object_as K tree node p free stamps me here) answer
-  unfolding calls.object_as
-  fine_object_as {C = C} node p free stamps g1 me g2 here g3 = search (served, looks, place_here, place_of_here, knows, fine_object_in) depth 30
+  object_after : {C : Fact N} (node : ℕ) (p : Option Node) (xs : List Words) (stamps : List (Value N)) (here : Scope N) → Gets S C (AreNouns here.nouns) → Gets S C (AreValues stamps)
+      → Fine S C (look (λ s. length s.things) >>= (λ n. calls.object_as K tree node p xs stamps (K.object n) here)) answer
+  unfolding look ◌>>=◌ and_then
+  object_after node p xs stamps here g i = record { after = λ s h c. object_ends node p xs stamps here s h (g.at s c) (i.at s c) }
 
   pub fine_make_object : {C : Fact N} → (again : Caller N) → GoodCaller S again → (node : ℕ) → (p : Option Node) → (xs : List Words) → (auditors : List (Value N)) → Gets S C (AreValues auditors) → (here : Scope N) → Gets S C (AreNouns here.nouns) → Fine S C (calls.make_object K tree again node p xs auditors here) answer
   unfolding calls.make_object
-  fine_make_object {C = C} again h1 node p xs auditors g1 here g2 = search (served, looks, place_here, place_of_here, knows, fine_ask_all, fine_object_as) depth 30
+  fine_make_object {C = C} again h1 node p xs auditors g1 here g2 = bind_values S (fine_ask_all again h1 here.act (calls.view_of K tree node p xs here) (got_view K S tree C node p xs here g2) auditors g1)
+      (λ stamps. object_after node p xs stamps here (got_left S C (AreValues stamps) (AreNouns here.nouns) g2) (got S C (AreValues stamps)))
 
   pub fine_all_of : {C : Fact N} → (x1 : Evaluator N) → GoodEvaluator S x1 → (x2 : List ℕ) → (x3 : Scope N) → Gets S C (AreNouns x3.nouns) → Fine S C (eval.all_of K tree x1 x2 x3) answers
   unfolding eval.all_of
@@ -454,11 +461,11 @@ module _ {N W : Type 0} (K : Naming N W) (S : Care N) (serves : Serves K S) (tre
   fine_step {C = C} rec good id (Call r verb args) here g1 = search (served, looks, place_here, place_of_here, knows, fine_all_of, fine_call, fine_answered, good.expression) depth 30
   fine_step {C = C} rec good id (Sequence es) here g1 = search (served, looks, place_here, place_of_here, knows, fine_last_of) depth 30
   fine_step {C = C} rec good id (If t a b) here g1 = search (served, looks, place_here, place_of_here, knows, fine_choose, good.expression) depth 30
-  fine_step {C = C} rec good id (Escape p body c) here g1 = search (served, looks, place_here, place_of_here, knows, fine_new_ejector, fine_escaped, good.expression, good.pattern) depth 30
+  fine_step {C = C} rec good id (Escape p body c) here g1 = bind_object K S serves (fine_new_ejector here.act) (λ j. search (served, looks, place_here, place_of_here, knows, fine_escaped, good.expression, good.pattern) depth 30)
   fine_step {C = C} rec good id (Try body p h) here g1 = search (served, looks, place_here, place_of_here, knows, fine_tried, good.expression) depth 30
   fine_step {C = C} rec good id (Finally a b) here g1 = search (served, looks, place_here, place_of_here, knows, fine_at_last, good.expression) depth 30
   fine_step {C = C} rec good id (Hide e) here g1 = search (served, looks, place_here, place_of_here, knows, fine_answered, good.expression) depth 30
-  fine_step {C = C} rec good id (MatchBind e p) here g1 = search (served, looks, place_here, place_of_here, knows, fine_new_ejector, fine_match_ended, good.expression, good.pattern) depth 30
+  fine_step {C = C} rec good id (MatchBind e p) here g1 = bind_answer S (good.expression C e here g1) (λ x. bind_object K S serves (fine_new_ejector here.act) (λ j. search (served, looks, place_here, place_of_here, knows, fine_match_ended, good.pattern) depth 30))
   fine_step {C = C} rec good id (Object p auditors members) here g1 = search (served, looks, place_here, place_of_here, knows, fine_all_of, fine_make_object, fine_call) depth 30
   fine_step {C = C} rec good id _ here g1 = search (served, looks, place_here, place_of_here, knows) depth 30
 

@@ -136,7 +136,7 @@ module _ (P : Note Name → Type 0) where
   abbrev Holding : Link → Type 0
   Holding l = AllOf P l.notes
 
-  with_link_holds : (f : Link → Link) → ((l : Link) → Holding l → Holding (f l)) → (v w : ℕ) (ls : List Link) → AllOf Holding ls → AllOf Holding (world.with_link f v w ls)
+  pub with_link_holds : (f : Link → Link) → ((l : Link) → Holding l → Holding (f l)) → (v w : ℕ) (ls : List Link) → AllOf Holding ls → AllOf Holding (world.with_link f v w ls)
   unfolding world.with_link
   with_link_holds f g v w [] h = tt
   with_link_holds f g v w (l ∷ ls) h = either (world.is_link v w l) (g l h.0) (with_link_holds f g v w ls h.1)
@@ -153,7 +153,7 @@ module _ (P : Note Name → Type 0) where
       either true = i
       either false = all_end P l.notes n i h
 
-  push_all_holds : (v : ℕ) (ps : List (Put Name)) (ls : List Link) → AllOf (λ (p : Put Name). P p.note) ps → AllOf Holding ls → AllOf Holding (world.push_all v ps ls)
+  pub push_all_holds : (v : ℕ) (ps : List (Put Name)) (ls : List Link) → AllOf (λ (p : Put Name). P p.note) ps → AllOf Holding ls → AllOf Holding (world.push_all v ps ls)
   unfolding world.push_all
   push_all_holds v [] ls h i = i
   push_all_holds v (p ∷ ps) ls h i = push_all_holds v ps (world.with_link (world.pushed p.note) v p.to ls) h.1 (with_link_holds (world.pushed p.note) (pushed_holds p.note h.0) v p.to ls i)
@@ -449,7 +449,7 @@ module _ (script : Script) where
   links_to_hold P v w [] = tt
   links_to_hold P v w (p ∷ ps) = either_links (v == w) _ (world.links_to v (suc w) ps) P tt (links_to_hold P v (suc w) ps)
 
-  links_from_hold : (P : Note Name → Type 0) (all : List Program) (v : ℕ) (ps : List Program) → AllOf (Holding P) (world.links_from all v ps)
+  pub links_from_hold : (P : Note Name → Type 0) (all : List Program) (v : ℕ) (ps : List Program) → AllOf (Holding P) (world.links_from all v ps)
   unfolding world.links_from
   links_from_hold P all v [] = tt
   links_from_hold P all v (p ∷ ps) = all_append (Holding P) (world.links_to v zero all) (world.links_from all (suc v) ps) (links_to_hold P v zero all) (links_from_hold P all (suc v) ps)
@@ -497,7 +497,7 @@ module _ (script : Script) where
         same : (x : Program) → Some p ≡ Some x → AllOf (λ (u : ℕ). IsAmong (Root u) (names_in Fresh.known)) (v ∷ x.knows)
         same x i = let f : p ≡ x = cc in all_roots (names_in Fresh.known) (v ∷ x.knows) (λ u a. root_in u (among_list u v p.knows x.knows (ap (λ (y : Program). y.knows) f) a))
 
-  fresh_at : (v : ℕ) (ps : List Program) (n : ℕ) (s : Vat Name) → slice_get (world.fresh_from script v ps) n ≡ Some s → (p : Program) × (u : ℕ) × (slice_get ps n ≡ Some p) × (u ≡ v + n) × (world.fresh script u p ≡ s)
+  pub fresh_at : (v : ℕ) (ps : List Program) (n : ℕ) (s : Vat Name) → slice_get (world.fresh_from script v ps) n ≡ Some s → (p : Program) × (u : ℕ) × (slice_get ps n ≡ Some p) × (u ≡ v + n) × (world.fresh script u p ≡ s)
   unfolding world.fresh_from
   fresh_at v [] n s e = absurd (nothing_is s e)
     where

@@ -1,16 +1,16 @@
 -- What evaluation does with references and promises, each as one thing: so that evaluation is gone over once for all that is cared for.
-use Rattle.std.proofs.Common.{ℕ, List}
+use Rattle.std.proofs.Common.{ℕ, ◌<◌, List, [], ◌∷◌, ◌++◌, length, arith}
 use Rattle.def_machine.specs.Values.{Words, Value, Broken, Naming}
-use Rattle.def_machine.specs.State.{Vat, new_promise}
+use Rattle.def_machine.specs.State.{Thing, Vat, Act, ◌>>=◌, new_thing, new_promise}
 use Rattle.def_machine.specs.Refs.{settle, resolve, send, send_only, react}
 use Rattle.law_name.specs.Names.{Named}
-use Rattle.law_name.proofs.Facts.{Fact, IsName, IsValue, AreValues, nothing}
-use Rattle.law_name.proofs.Care.{Care, Spots, Under, Makes, Gets, Fine, quiet_told, got_entry, fine_promise}
+use Rattle.law_name.proofs.Facts.{Fact, Also, IsName, IsThing, IsValue, AreValues, nothing}
+use Rattle.law_name.proofs.Care.{Care, Spots, Under, Makes, Gets, Fine, quiet_told, got_entry, fine_bind, fine_thing, fine_promise}
 use Rattle.law_name.proofs.CareRefs.{fine_settle, fine_resolve, fine_send, fine_send_only, fine_react}
 
 pub record Serves {N W : Type 0} (K : Naming N W) (S : Care N) : Type 0 where
   pub spots : Spots K S
-  pub object : (s : Vat N) (i : ℕ) → S.ok s (Named (K.object i))
+  pub object : (s : Vat N) (i : ℕ) → i < length s.things → S.ok s (Named (K.object i))
   pub promises : (C : Fact N) → Fine S C (new_promise K) IsName
   pub breaks : (C : Fact N) (p : N) → Gets S C (IsName p) → (t : Words) → Fine S C (settle K p (Broken t)) nothing
   pub resolves : (C : Fact N) (p : N) → Gets S C (IsName p) → (y : Value N) → Gets S C (IsValue y) → Fine S C (resolve K p y) nothing
@@ -18,9 +18,18 @@ pub record Serves {N W : Type 0} (K : Naming N W) (S : Care N) : Type 0 where
   pub sends_only : (C : Fact N) (act : ℕ) (x : Value N) → Gets S C (IsValue x) → (verb : Words) (args : List (Value N)) → Gets S C (AreValues args) → Fine S C (send_only K act x verb args) IsValue
   pub reacts : (C : Fact N) (act : ℕ) (x : Value N) → Gets S C (IsValue x) → (o : Value N) → Gets S C (IsValue o) → (near : Value N) → Gets S C (IsValue near) → Fine S C (react K act x o near) IsValue
 
+pub below_end : {A : Type 0} (xs : List A) (x : A) → length xs < length (xs ++ x ∷ [])
+below_end [] x = omega arith
+below_end (y ∷ xs) x = let l : length xs < length (xs ++ x ∷ []) = below_end xs x in omega arith
+
 module _ {N W : Type 0} (K : Naming N W) (S : Care N) (serves : Serves K S) where
-  pub own_object : (C : Fact N) (i : ℕ) → Gets S C (IsName (K.object i))
-  own_object C i = record { at = λ s h. serves.object s i }
+  -- a thing that came to be is there, so its number is that of a name in hand
+  pub serve_thing : {C : Fact N} (x : Thing N) → Gets S C (IsThing x) → Fine S C (new_thing x) (λ i. IsName (K.object i))
+  unfolding new_thing
+  serve_thing x g = record { after = λ s h c. let e = (fine_thing S x g).after s h c in (e.0, e.1, serves.object (record s { things = s.things ++ x ∷ [] }) (length s.things) (below_end s.things x)) }
+
+  pub bind_object : {B : Type 0} {C : Fact N} {m : Act N ℕ} {f : ℕ → Act N B} {H : B → Fact N} → Fine S C m (λ i. IsName (K.object i)) → ((i : ℕ) → Fine S (Also C (IsName (K.object i))) (f i) H) → Fine S C (m >>= f) H
+  bind_object h k = fine_bind S (λ i. IsName (K.object i)) h k
 
   pub serve_promise : {C : Fact N} → Fine S C (new_promise K) IsName
   serve_promise {C = C} = serves.promises C
@@ -40,13 +49,13 @@ module _ {N W : Type 0} (K : Naming N W) (S : Care N) (serves : Serves K S) wher
   pub serve_react : {C : Fact N} (act : ℕ) (x : Value N) → Gets S C (IsValue x) → (o : Value N) → Gets S C (IsValue o) → (near : Value N) → Gets S C (IsValue near) → Fine S C (react K act x o near) IsValue
   serve_react {C = C} act x g o h near k = serves.reacts C act x g o h near k
 
-pub ruleset served = (quiet_told, own_object, serve_promise, serve_break, serve_resolve, serve_send, serve_send_only, serve_react)
+pub ruleset served = (quiet_told, serve_promise, serve_break, serve_resolve, serve_send, serve_send_only, serve_react)
 
 -- where each single change is cared for, so is each of these
 pub served_by : {N W : Type 0} (K : Naming N W) (S : Care N) → Under K S → Makes K S → Serves K S
 served_by K S law makes = record {
   spots = law.spots;
-  object = λ s i. law.object s i;
+  object = λ s i l. law.object s i l;
   promises = λ C. fine_promise K S law makes;
   breaks = λ C p g t. fine_settle K S law p (got_entry S C p g) (Broken t) (record { at = λ s c. tt });
   resolves = λ C p g y h. fine_resolve K S law p (got_entry S C p g) y h;

@@ -1,5 +1,5 @@
 -- What is kept of names in a step of one vat: each was made, and is known to the vat; roots and promises are known once, and each host is true.
-use Rattle.std.proofs.Common.{◌≡◌, ℕ, ◌≤◌, ◌<◌, zero, suc, Bool, true, false, List, [], ◌∷◌, ◌++◌, Some, refl, sym, ap, ◌∙◌, ◌⊎◌, inl, inr, subst, Option, ◌==◌, length, arith}
+use Rattle.std.proofs.Common.{◌≡◌, ℕ, ◌≤◌, ◌<◌, zero, suc, Bool, true, false, List, [], ◌∷◌, ◌++◌, Some, refl, sym, ap, ◌∙◌, ◌⊎◌, inl, inr, subst, Option, ◌==◌, arith}
 use Rattle.std.specs.Prelude.{slice_get}
 use Rattle.std.proofs.lemmas.Bool.{eq-eqb}
 use Rattle.def_machine.specs.Refs as refs
@@ -395,7 +395,7 @@ module _ (news : Bool) (M : Marked) (vats : List (Vat Name)) (v : ℕ) (q : Vat 
     unfolding naming name_of answer_of mail_of
     tracked_under = record {
       spots = tracked_spots;
-      object = λ s i. object_ok s i;
+      object = λ s i l. object_ok s i;
       happened = λ s e. (quiet s, λ h. h);
       queue = λ s m. (quiet s, λ h. h);
       outbox = λ s p h. (quiet s, λ h. h);

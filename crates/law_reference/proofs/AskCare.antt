@@ -243,7 +243,7 @@ module _ (g i : ℕ) where
       unfolding naming name_of
       asks_under = record {
         spots = record { alike = λ a b e. reference_is a b e; placed = λ s m n k. spot_ok s n (spot_of v n) k };
-        object = λ s j. tt;
+        object = λ s j l. tt;
         happened = λ s e. (λ n a. a, λ h. h);
         queue = λ s m. (λ n a. a, λ h. h);
         outbox = λ s p k. (λ n a. a, λ h. (h.0, λ a. why_put s p (h.1 a)));

@@ -1,5 +1,5 @@
 -- What a vat does with references, what arrives once it is learnt, and notices, end in a sound state: from how each single change and each note put ends.
-use Rattle.std.proofs.Common.{◌≡◌, ℕ, zero, suc, Bool, true, false, List, [], Option, Some, None, if◌then◌else◌, codes, length, refl, sym, subst}
+use Rattle.std.proofs.Common.{◌≡◌, ℕ, ◌<◌, zero, suc, Bool, true, false, List, [], Option, Some, None, if◌then◌else◌, codes, length, refl, sym, subst}
 use Rattle.def_machine.specs.Values.{Words, Value, Broken, Prim, Ref, Naming, IsAnswer, IsGift, Null}
 use Rattle.def_machine.specs.State.{Happened, Hold, Wait, WaitOn, React, ToTell, Settle, Took, Sends, Reacts, Unsettled, WaitsOn, Viewed, Open, Ask, GiftEntry, Vat, ◌>>=◌, ◌>>◌, tell, enqueue, alter, come, new_gift, open_gift, mark, draw, new_message, new_promise, send_out, give, look, is_in, for_some, Message, Standing, Settled, Known, Act, new_lone_message}
 use Rattle.def_machine.specs.Refs as refs
@@ -29,7 +29,7 @@ Called K h m None = Unit {0}
 pub record Puts {N W : Type 0} (K : Naming N W) (S : Care N) : Type 0 where
   pub spots : Spots K S
   pub alike : Alike S
-  pub object : (s : Vat N) (i : ℕ) → S.ok s (Named (K.object i))
+  pub object : (s : Vat N) (i : ℕ) → i < length s.things → S.ok s (Named (K.object i))
   pub tells : (C : Fact N) (e : Happened N) → Fine S C (tell e) nothing
   pub queues : (C : Fact N) (m : Message N) → Gets S C (IsMessage m) → Fine S C (enqueue m) nothing
   pub holds : (C : Fact N) (m : Message N) (n : N) → Gets S C (IsChange (Hold m)) → Fine S C (alter K (Hold m) n) nothing
@@ -345,7 +345,7 @@ module _ {N W : Type 0} (K : Naming N W) (S : Care N) (puts : Puts K S) where
   pub serves_by : Serves K S
   serves_by = record {
     spots = puts.spots;
-    object = λ s i. puts.object s i;
+    object = λ s i l. puts.object s i l;
     promises = λ C. puts.promises C;
     breaks = λ C p g t. put_settle p (got_entry S C p g) (Broken t) (record { at = λ s c. tt });
     resolves = λ C p g y h. put_resolve p g y h;

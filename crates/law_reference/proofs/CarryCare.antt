@@ -259,7 +259,7 @@ module _ (M : Marked) (vats : List (Vat Name)) (v : ℕ) (q : Vat Name) (there :
   fit_puts = record {
     spots = record { alike = λ a b e. let spots = under.spots in spots.alike a b e; placed = λ s m n g. let spots = under.spots in spots.placed s m.0 n g };
     alike = record { named = λ s n h. h; owns = λ s n i h. h; gave = λ s i h. h };
-    object = λ s i. under.object s i;
+    object = λ s i l. under.object s i l;
     tells = λ C e. fit_tell e;
     queues = λ C m g. lift (fine_enqueue Names T under m (gets_names g)) (λ s o. o);
     holds = λ C m n g. lift (fine_hold Names T under m n (gets_names g)) (λ s o. o);

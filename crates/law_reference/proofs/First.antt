@@ -414,7 +414,7 @@ module _ (g : ℕ) (m : Msg) where
     blocks = record {
       spots = record { alike = λ a b e. let spots = under.spots in spots.alike a b e; placed = λ s k n i. let spots = under.spots in spots.placed s k.0 n i };
       alike = record { named = λ s n h. h; owns = λ s n i h. h; gave = λ s i h. h };
-      object = λ s i. under.object s i;
+      object = λ s i l. under.object s i l;
       tells = λ C e. lift (fine_tell Names T under e) (λ s o. told_leaves e s o);
       queues = λ C n k. lift (fine_enqueue Names T under n (gets_names k)) (λ s o. o);
       holds = λ C n p k. lift (fine_hold Names T under n p (gets_names k)) (λ s o. altered (Hold n) p s o);

@@ -533,7 +533,7 @@ module _ (v : ℕ) (m : Msg) (mine : m.sender ≡ v) where
     pub serves : Serves Names Z
     serves = record {
       spots = record { alike = λ a b e. let spots = under.spots in spots.alike a b e; placed = λ s k n i. let spots = under.spots in spots.placed s k.0 n i };
-      object = λ s i. under.object s i;
+      object = λ s i l. under.object s i l;
       promises = λ C. lift_of (fine_promise Names T under makes) (λ s h c k. promised s k);
       breaks = λ C p g t. lift_of (fine_settle Names T under p (record { at = λ s c. g.at s c }) (Broken t) (record { at = λ s c. tt }))
           (λ s h c k. none_made nothing s _ ((fine_settle Names F under_none {C = C} p (record { at = λ s c. g.at s c }) (Broken t) (record { at = λ s c. tt })).after s (none_sound s h) c) ((light_break Names v global Id p t).after s k.0) ((table.free_settle v X word p (Broken t)).after s) ((account.free_settle (λ u. false) v Id Names p (Broken t)).after s) k);

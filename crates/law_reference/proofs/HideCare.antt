@@ -84,7 +84,7 @@ module _ (i : ℕ) where
       unfolding naming name_of
       hides_under = record {
         spots = record { alike = λ a b e. reference_is a b e; placed = λ s m n g. spot_ok s n (spot_of v n) g };
-        object = λ s j. tt;
+        object = λ s j l. tt;
         happened = λ s e. (tt, λ h. h);
         queue = λ s m. (tt, λ h. h);
         outbox = λ s p h. (tt, λ k. k);

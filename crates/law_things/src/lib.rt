@@ -1,0 +1,4 @@
+//! Objects that a vat names are there.
+#![tactic(auto)]
+
+pub mod things;
