@@ -1,0 +1,9 @@
+pub mod Retold
+pub mod Reaching
+pub mod Told
+pub mod Tidy
+pub mod Telling
+pub mod Beside
+pub mod Homes
+pub mod TrueNotes
+pub mod Wholes

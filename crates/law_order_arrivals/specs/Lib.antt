@@ -1,0 +1,4 @@
+pub mod Tellings
+pub mod Notes
+pub mod Wholes
+pub mod Example
