@@ -1,0 +1,3 @@
+pub mod Letting
+pub mod Cuts
+pub mod Example
