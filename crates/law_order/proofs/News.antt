@@ -2,8 +2,8 @@
 use Rattle.std.proofs.Common.{arith, ◌≡◌, ℕ, zero, suc, ◌≤◌, Bool, true, false, List, [], ◌∷◌, ◌++◌, Option, Some, None, length, refl, sym, ap, subst, ◌∙◌, ◌⊎◌, inl, inr}
 use Rattle.std.proofs.lemmas.Bool.{ne_eqb}
 use Rattle.std.specs.Prelude.{◌==◌, ◌&&◌}
-use Rattle.def_machine.specs.Values.{Value, Null, Flag, Number, Letter, Text, Prim, Broken, Items, Ref, Name, Root, Object, Promise, Answer, Gift, Sent, Naming, host_of, naming, same_name, same_reference, key}
-use Rattle.def_machine.specs.State.{Known, Open, Vat, begun, drawn_at}
+use Rattle.def_machine.specs.Values.{Value, Null, Flag, Number, Letter, Text, Prim, Broken, Items, Ref, Name, Root, Object, Promise, Answer, Gift, Sent, Naming, host_of, naming, same_name, same_reference, key, word_of}
+use Rattle.def_machine.specs.State.{Known, Note, Open, Shorten, Vat, begun, is_in, drawn_at}
 use Rattle.def_machine.specs.Refs as refs
 use Rattle.def_run.specs.World.{Script, Link, World, names}
 use Rattle.def_run.specs.World as world
@@ -11,14 +11,15 @@ use Rattle.std.proofs.lemmas.List.{append-nil}
 use Rattle.law_order.specs.Ways.{Lane, Queue, Held, Way, Item, Free, IsOneWay, Ways}
 use Rattle.law_order.specs.Messages.{More}
 use Rattle.law_order.specs.Changes.{Grows}
-use Rattle.law_order.specs.Places.{queued, held_on, held_in, leads, ways, ways_of, amid}
+use Rattle.law_order.specs.Places.{queued, held_on, held_in, opens, shortens, leads, ways, ways_of, amid}
 use Rattle.law_order.specs.Worlds.{IsWaiting, IsFixed, IsObject, FollowsEnd, RefersAlike, SameWays}
 use Rattle.law_order.proofs.Sends.{none_some, some_same, push_last}
 use Rattle.law_order.proofs.Pushing.{all_same}
 use Rattle.law_order.proofs.Adding.{refers_same}
 use Rattle.law_order.proofs.Coming.{old_entry, new_entry, waits_here, followed, comes_same, coming_grows}
 use Rattle.law_order.proofs.Amid.{leads_same, same_between}
-use Rattle.law_order.specs.Steps.{AllDrawn, Ready, Grown, StaysReady}
+use Rattle.law_order.specs.Steps.{LetsDrawn, AllDrawn, Ready, Grown, StaysReady}
+use Rattle.law_order.proofs.Noted.{Spares}
 use Rattle.law_order.proofs.Below.{more_draws, in_more, key_in_last, key_is_new, with_drawn, links_lack}
 use Rattle.law_order.proofs.Standing.{no_more, more_then, queue_more, held_more, way_more}
 use Rattle.law_order.proofs.Opens.{opening_grows}
@@ -243,6 +244,55 @@ module _ (script : Script) (honest : ℕ → Bool) (w : World) (v : ℕ) (s : Va
   pub promised : StaysReady script honest w v s (Promised s.number)
   promised r = subst (λ q. Ready script honest w v (Promised q) × Grown script honest w v s (Promised q)) (sym r.number) (promised_here r)
 
+-- a note is put that lets go that gift of a new draw, and no other
+module _ (script : Script) (honest : ℕ → Bool) (w : World) (v h word d : ℕ) (note : Note Name) (s : Vat Name) (spares : (i : ℕ) → (d == i) ≡ false → Spares i note) (fresh : is_in (word_of d) s.drawn ≡ false) (lets : LetsDrawn (s.drawn ++ word ∷ []) note) where
+  abbrev LetGo : Vat Name
+  LetGo = record s { drawn = s.drawn ++ word ∷ []; outbox = s.outbox ++ record { to = h; note = note } ∷ [] }
+
+  abbrev Before : List Link
+  Before = world.push_all v s.outbox w.links
+
+  abbrev After : List Link
+  After = world.with_link (world.pushed note) v h Before
+
+  after_is : world.push_all v LetGo.outbox w.links ≡ After
+  after_is = push_last v s.outbox (record { to = h; note = note }) w.links
+
+  there : RefersAlike (names script v) s LetGo
+  there = alike_same (names script v) s LetGo refl refl refl refl
+
+  back : RefersAlike (names script v) LetGo s
+  back = alike_same (names script v) LetGo s refl refl refl refl
+
+  let_ready : Ready script honest w v s → Ready script honest w v LetGo
+  let_ready r = record {
+    number = r.number;
+    ends = record { objects = r.ends.objects; fixed = r.ends.fixed };
+    draws = subst (λ ls. AllDrawn LetGo.drawn ls) (sym after_is) (with_drawn LetGo.drawn note v h Before lets (more_draws s.drawn LetGo.drawn Before (in_more word s.drawn) r.draws));
+    answers = r.answers;
+    promises = r.promises;
+  }
+
+  let_grows : Ready script honest w v s → Grows (ways script honest (amid v s w)) (ways script honest (amid v LetGo w))
+  unfolding ways amid
+  let_grows r = subst (λ ls. Grows (ways_of script honest (world.put_at v s w.vats) Before) (ways_of script honest (world.put_at v LetGo w.vats) ls)) (sym after_is)
+      (grows_then (ways_of script honest (world.put_at v s w.vats) Before) (ways_of script honest (world.put_at v s w.vats) After) (ways_of script honest (world.put_at v LetGo w.vats) After)
+      (opening_grows script honest (world.put_at v s w.vats) Before v h d note spares (links_lack s.drawn d fresh Before r.draws))
+      (grows_same (ways_of script honest (world.put_at v s w.vats) After) (ways_of script honest (world.put_at v LetGo w.vats) After)
+      (same_between script honest v s LetGo w.vats After (refers_same script honest v s LetGo there) (refers_same script honest v LetGo s back) (λ i j. j) (λ i j. j))))
+
+  let_leads : (u : ℕ) (x : Value Name) → leads script honest (amid v LetGo w).vats (amid v LetGo w).links u x ≡ leads script honest (amid v s w).vats (amid v s w).links u x
+  unfolding amid leads
+  let_leads u x = leads_same script honest w.vats After After (all_same After) v s LetGo (refers_same script honest v s LetGo there) u x
+
+  let_more : (l : Lane) → More (ways script honest (amid v s w)) (ways script honest (amid v LetGo w)) l
+  let_more (Queue u) = queue_more script honest w v s LetGo u (λ e. ([], sym (append-nil (queued s.queue))))
+  let_more (Held u m) = held_more script honest w v s LetGo u m (λ e. ([], sym (append-nil (held_in m (refs.entry_of (names script v) s.known m)))))
+  let_more (Way a b) = way_more script honest w v s LetGo (record { to = h; note = note } ∷ []) refl a b
+
+  pub let_go : StaysReady script honest w v s LetGo
+  let_go r = (let_ready r, record { grows = let_grows r; more = λ l. let_more l; leading = let_leads })
+
 -- a gift is let go
 module _ (script : Script) (honest : ℕ → Bool) (w : World) (v h word : ℕ) (n : Name) (s : Vat Name) (fresh : drawn_at zero word s.drawn ≡ None) where
   -- the key of the gift
@@ -252,46 +302,25 @@ module _ (script : Script) (honest : ℕ → Bool) (w : World) (v h word : ℕ) 
   abbrev Opened : Vat Name
   Opened = record s { drawn = s.drawn ++ word ∷ []; outbox = s.outbox ++ record { to = h; note = Open D n } ∷ [] }
 
-  abbrev Before : List Link
-  Before = world.push_all v s.outbox w.links
-
-  abbrev After : List Link
-  After = world.with_link (world.pushed (Open D n)) v h Before
-
-  after_is : world.push_all v Opened.outbox w.links ≡ After
-  after_is = push_last v s.outbox (record { to = h; note = Open D n }) w.links
-
-  there : RefersAlike (names script v) s Opened
-  there = alike_same (names script v) s Opened refl refl refl refl
-
-  back : RefersAlike (names script v) Opened s
-  back = alike_same (names script v) Opened s refl refl refl refl
-
-  opened_ready : Ready script honest w v s → Ready script honest w v Opened
-  opened_ready r = record {
-    number = r.number;
-    ends = record { objects = r.ends.objects; fixed = r.ends.fixed };
-    draws = subst (λ ls. AllDrawn Opened.drawn ls) (sym after_is) (with_drawn Opened.drawn (Open D n) v h Before (key_in_last s.number word s.drawn) (more_draws s.drawn Opened.drawn Before (in_more word s.drawn) r.draws));
-    answers = r.answers;
-    promises = r.promises;
-  }
-
-  opened_grows : Ready script honest w v s → Grows (ways script honest (amid v s w)) (ways script honest (amid v Opened w))
-  unfolding ways amid
-  opened_grows r = subst (λ ls. Grows (ways_of script honest (world.put_at v s w.vats) Before) (ways_of script honest (world.put_at v Opened w.vats) ls)) (sym after_is)
-      (grows_then (ways_of script honest (world.put_at v s w.vats) Before) (ways_of script honest (world.put_at v s w.vats) After) (ways_of script honest (world.put_at v Opened w.vats) After)
-      (opening_grows script honest (world.put_at v s w.vats) Before v h D n (links_lack s.drawn D (key_is_new s.number word s.drawn fresh) Before r.draws))
-      (grows_same (ways_of script honest (world.put_at v s w.vats) After) (ways_of script honest (world.put_at v Opened w.vats) After)
-      (same_between script honest v s Opened w.vats After (refers_same script honest v s Opened there) (refers_same script honest v Opened s back) (λ i j. j) (λ i j. j))))
-
-  opened_leads : (u : ℕ) (x : Value Name) → leads script honest (amid v Opened w).vats (amid v Opened w).links u x ≡ leads script honest (amid v s w).vats (amid v s w).links u x
-  unfolding amid leads
-  opened_leads u x = leads_same script honest w.vats After After (all_same After) v s Opened (refers_same script honest v s Opened there) u x
-
-  opened_more : (l : Lane) → More (ways script honest (amid v s w)) (ways script honest (amid v Opened w)) l
-  opened_more (Queue u) = queue_more script honest w v s Opened u (λ e. ([], sym (append-nil (queued s.queue))))
-  opened_more (Held u m) = held_more script honest w v s Opened u m (λ e. ([], sym (append-nil (held_in m (refs.entry_of (names script v) s.known m)))))
-  opened_more (Way a b) = way_more script honest w v s Opened (record { to = h; note = Open D n } ∷ []) refl a b
+  spares : (i : ℕ) → (D == i) ≡ false → Spares i (Open D n)
+  unfolding opens shortens
+  spares i e = (e, λ g. refl)
 
   pub opened : StaysReady script honest w v s Opened
-  opened r = (opened_ready r, record { grows = opened_grows r; more = λ l. opened_more l; leading = opened_leads })
+  opened = let_go script honest w v h word D (Open D n) s spares (key_is_new s.number word s.drawn fresh) (key_in_last s.number word s.drawn)
+
+-- a gift is asked for, under a key of that draw
+module _ (script : Script) (honest : ℕ → Bool) (w : World) (v h word p c : ℕ) (n : Name) (s : Vat Name) (fresh : drawn_at zero word s.drawn ≡ None) where
+  abbrev Asked : Vat Name
+  Asked = record s { drawn = s.drawn ++ word ∷ []; outbox = s.outbox ++ record { to = h; note = Shorten n c (key p word) } ∷ [] }
+
+  spares_asked : (i : ℕ) → (key p word == i) ≡ false → Spares i (Shorten n c (key p word))
+  unfolding opens shortens
+  spares_asked i e = (refl, λ g. second_not (c == g) (key p word == i) e)
+    where
+      second_not : (a b : Bool) → b ≡ false → (a && b) ≡ false
+      second_not true b e = e
+      second_not false b e = refl
+
+  pub asked : StaysReady script honest w v s Asked
+  asked = let_go script honest w v h word (key p word) (Shorten n c (key p word)) s spares_asked (key_is_new p word s.drawn fresh) (key_in_last p word s.drawn)

@@ -1,29 +1,25 @@
--- As a note lets a gift go of a new draw the ways only grow.
+-- As a note is put that lets no gift go but that of a new draw, the ways only grow.
 use Rattle.std.proofs.Common.{arith, ◌≡◌, ℕ, suc, Bool, true, false, List, [], Option, Some, None, refl, sym, ap, subst, ◌∙◌, ◌⊎◌, inl, inr, eqb-true}
 use Rattle.std.proofs.lemmas.Bool.{ne_eqb}
 use Rattle.std.specs.Prelude.{slice_get, not, ◌==◌, ◌&&◌}
 use Rattle.def_machine.specs.Values.{Ref, Name, Root, Object, Promise, Answer, Gift, Sent}
-use Rattle.def_machine.specs.State.{Standing, Unsettled, WaitsOn, Viewed, Settled, Vat, GiftEntry, Open}
+use Rattle.def_machine.specs.State.{Standing, Unsettled, WaitsOn, Viewed, Settled, Vat, GiftEntry, Note}
 use Rattle.def_machine.specs.Refs as refs
 use Rattle.def_run.specs.World.{Script, Link, names}
 use Rattle.def_run.specs.World as world
 use Rattle.law_order.specs.Ways.{Lane, Queue, Held, Way, Item, Place, Nowhere, Free, IsIn, IsOneWay}
 use Rattle.law_order.specs.Changes.{Grows}
 use Rattle.law_order.specs.Turns.{Within}
-use Rattle.law_order.specs.Places.{delivered, opens, shortens, opened_there, is_honest, gift_place, leads, unsettled, released, released_at, stands_at, over, onward_at, ways_of}
+use Rattle.law_order.specs.Places.{delivered, opened_there, is_honest, gift_place, leads, unsettled, released, released_at, stands_at, over, onward_at, ways_of}
 use Rattle.law_order.proofs.Noted.{Spares, LinkGrows, AllGrow, LinkAlike, with_grows, link_alike, gift_more}
 use Rattle.law_order.proofs.Below.{LinksLack, nothing_said}
 
-module _ (script : Script) (honest : ℕ → Bool) (vs : List (Vat Name)) (ls : List Link) (v h d : ℕ) (n : Name) (new : LinksLack d ls) where
+module _ (script : Script) (honest : ℕ → Bool) (vs : List (Vat Name)) (ls : List Link) (v h d : ℕ) (note : Note Name) (spares : (i : ℕ) → (d == i) ≡ false → Spares i note) (new : LinksLack d ls) where
   abbrev Then : List Link
-  Then = world.with_link (world.pushed (Open d n)) v h ls
-
-  spares : (i : ℕ) → (d == i) ≡ false → Spares i (Open d n)
-  unfolding opens shortens
-  spares i e = (e, λ g. refl)
+  Then = world.with_link (world.pushed note) v h ls
 
   grow : (i : ℕ) → (d == i) ≡ false → AllGrow i ls Then
-  grow i e = with_grows i (Open d n) v h ls (spares i e)
+  grow i e = with_grows i note v h ls (spares i e)
 
   grow_any : AllGrow (suc d) ls Then
   grow_any = grow (suc d) (ne_eqb d (suc d) (λ e. omega arith))

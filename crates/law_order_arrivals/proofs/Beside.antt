@@ -1,13 +1,13 @@
 -- As a vat is told of a name of another vat, names that notes bring keep their order.
-use Rattle.std.proofs.Common.{◌≡◌, ℕ, Bool, true, false, List, [], ◌∷◌, Option, Some, None, refl, sym, ap, subst, ◌∙◌, ◌⊎◌, inl, inr, eqb-true}
-use Rattle.std.specs.Prelude.{slice_get, ◌==◌, ◌&&◌}
+use Rattle.std.proofs.Common.{◌≡◌, ℕ, Bool, true, false, List, Option, Some, None, refl, sym, ap, subst, ◌∙◌, eqb-true}
+use Rattle.std.specs.Prelude.{slice_get, ◌==◌}
 use Rattle.std.proofs.lemmas.Bool.{eqb-false}
 use Rattle.def_machine.specs.Values.{Value, Ref, Name, host_of}
 use Rattle.def_machine.specs.State.{Vat}
 use Rattle.def_run.specs.World.{Script, Link, World, names}
 use Rattle.def_run.specs.World as world
-use Rattle.law_order.specs.Ways.{Lane, Queue, Held, Way, Item, Place, Nowhere, Free, End, Mid, Ways, IsIn, IsOneWay, Doom, nowhere, by_end, by_mid, Follows, doomed, one_way, alike, beside, Ahead, doomed_there, in_mid, past_mid}
-use Rattle.law_order.specs.Turns.{Reroutes, stays_so}
+use Rattle.law_order.specs.Ways.{Lane, Queue, Held, Way, Item, Place, Nowhere, Free, End, Mid, Ways, IsIn, Doom, nowhere, by_end, by_mid, Follows, doomed, one_way, alike, beside, Ahead, doomed_there, in_mid, past_mid}
+use Rattle.law_order.specs.Turns.{Reroutes}
 use Rattle.law_order.specs.Messages.{StaysBehind}
 use Rattle.law_order.specs.Places.{is_honest, leads_at, leads, over, onward_at, amid}
 use Rattle.law_order.specs.Settle.{aimed_at}
@@ -15,7 +15,7 @@ use Rattle.law_order.specs.Steps.{WaysAmid, LeadsAmid}
 use Rattle.law_order.proofs.Named.{Test, test_is}
 use Rattle.law_order.proofs.Kept.{doom_free, behind_free}
 use Rattle.law_order.proofs.OrderPassing.{Found, here, apart, none, found}
-use Rattle.law_order_arrivals.specs.Tellings.{owned, told_by, IsTidy, IsToldOf, KeepsPassings, ToldPassingsKeep}
+use Rattle.law_order_arrivals.specs.Tellings.{owned, told_by, IsTidy, IsToldOf, ToldPassingsKeep}
 use Rattle.law_order_arrivals.proofs.Retold.{retelling_keeps, follows_kept}
 use Rattle.law_order_arrivals.proofs.Tidy.{IsGood, leads_good, onward_good}
 use Rattle.law_order_arrivals.proofs.Telling.{hosts, bring, leads_told, leads_own, onward_is, onward_then, hosts_then, onward_turns, retold}

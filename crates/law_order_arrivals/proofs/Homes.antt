@@ -1,14 +1,14 @@
 -- Objects lead to the queue of their vat, at home; and where a link leads by each name.
 use Rattle.std.proofs.Common.{◌≡◌, ℕ, suc, Bool, true, false, List, [], Option, Some, None, length, refl, sym, ap, subst, ◌∙◌, ◌⊎◌, inl, inr, eq-eqb}
-use Rattle.std.specs.Prelude.{slice_get, ◌==◌, ◌&&◌}
+use Rattle.std.specs.Prelude.{◌==◌}
 use Rattle.def_machine.specs.Values.{Ref, Name, Root, Object, Promise, Answer, Gift, Sent, Naming, Own, Foreign, host_of, spot_of, naming}
 use Rattle.def_machine.specs.State.{Vat}
 use Rattle.def_machine.specs.Refs as refs
 use Rattle.def_machine.specs.Refs.{Near}
-use Rattle.def_run.specs.World.{Script, Link, World, names}
+use Rattle.def_run.specs.World.{Script, Link, names}
 use Rattle.def_run.specs.World as world
 use Rattle.law_order.specs.Ways.{Place, Nowhere, Free, End, Queue, Way}
-use Rattle.law_order.specs.Places.{is_honest, aimed, by_follow, of_name, leads_in, leads_at, leads, over, onward_at}
+use Rattle.law_order.specs.Places.{is_honest, aimed, by_follow, of_name, leads_in, leads, over, onward_at}
 use Rattle.law_order.specs.Worlds.{IsObject}
 use Rattle.law_order.proofs.Brought.{honest_link}
 use Rattle.law_order.proofs.Sends.{found_ends}

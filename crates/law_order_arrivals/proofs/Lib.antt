@@ -7,3 +7,5 @@ pub mod Beside
 pub mod Homes
 pub mod TrueNotes
 pub mod Wholes
+pub mod Asked
+pub mod Views

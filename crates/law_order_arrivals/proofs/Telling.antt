@@ -1,17 +1,17 @@
 -- As a vat is told of a name of another vat, each thing keeps its order.
-use Rattle.std.proofs.Common.{◌≡◌, ℕ, suc, Bool, true, false, List, [], ◌∷◌, ◌++◌, Option, Some, None, length, refl, sym, ap, subst, ◌∙◌, ◌⊎◌, inl, inr, eqb-true}
+use Rattle.std.proofs.Common.{◌≡◌, ℕ, suc, Bool, true, false, List, [], Option, Some, None, length, refl, sym, ap, subst, ◌∙◌, ◌⊎◌, inl, inr, eqb-true}
 use Rattle.std.proofs.lemmas.List.{append-nil}
 use Rattle.std.proofs.lemmas.Bool.{ne_eqb}
-use Rattle.std.specs.Prelude.{slice_get, not, ◌==◌, ◌&&◌}
-use Rattle.def_machine.specs.Values.{Value, Null, Flag, Number, Letter, Text, Prim, Broken, Items, Ref, Name, Root, Object, Promise, Answer, Gift, Sent, Naming, host_of, same_name}
+use Rattle.std.specs.Prelude.{slice_get, not, ◌&&◌}
+use Rattle.def_machine.specs.Values.{Value, Ref, Name, Root, Object, Promise, Answer, Gift, Sent, Naming, host_of}
 use Rattle.def_machine.specs.State.{Standing, Unsettled, WaitsOn, Viewed, Settled, Known, GiftEntry, Vat}
 use Rattle.def_machine.specs.Refs as refs
 use Rattle.def_run.specs.World.{Script, Link, World, names}
 use Rattle.def_run.specs.World as world
-use Rattle.law_order.specs.Ways.{Lane, Queue, Held, Way, Item, Place, Nowhere, Free, End, Mid, Ways, IsIn, IsOneWay}
+use Rattle.law_order.specs.Ways.{Lane, Queue, Held, Way, Place, Nowhere, Free, End, Mid, Ways, IsIn, IsOneWay}
 use Rattle.law_order.specs.Turns.{Reroutes, stays_so, said_now}
-use Rattle.law_order.specs.Messages.{More, StandsAt, StaysBehind}
-use Rattle.law_order.specs.Places.{queued, held_on, held_in, opened_there, is_honest, gift_place, by_host, by_follow, of_name, leads_in, leads_at, leads, unsettled, released, released_at, stands_at, over, onward_at, ways_of, ways, amid}
+use Rattle.law_order.specs.Messages.{More, StaysBehind}
+use Rattle.law_order.specs.Places.{queued, held_on, held_in, opened_there, is_honest, gift_place, by_follow, of_name, leads_in, leads_at, leads, unsettled, released, released_at, stands_at, over, onward_at, ways_of, ways, amid}
 use Rattle.law_order.specs.Worlds.{IsObject}
 use Rattle.law_order.specs.Settle.{aimed_at}
 use Rattle.law_order.specs.Steps.{WaysAmid, LeadsAmid}
@@ -22,7 +22,7 @@ use Rattle.law_order.proofs.Sends.{some_same, none_some, get_put}
 use Rattle.law_order.proofs.Settled.{is_object}
 use Rattle.law_order.proofs.Settled as old
 use Rattle.law_order.proofs.Standing.{stands_more, queue_more, held_more, way_more}
-use Rattle.law_order_arrivals.specs.Tellings.{owned, LinksBring, HostsAreTold, IsOwnEnd, IsTidy, IsRetold, told_by, StandsSo, IsTold, IsToldOf, KeepsTold, ToldNamesLead, ToldNamesKeep}
+use Rattle.law_order_arrivals.specs.Tellings.{owned, LinksBring, HostsAreTold, IsOwnEnd, IsTidy, IsRetold, told_by, StandsSo, IsToldOf, KeepsTold, ToldNamesLead, ToldNamesKeep}
 use Rattle.law_order_arrivals.proofs.Retold.{retelling_keeps}
 use Rattle.law_order_arrivals.proofs.Told.{tells_nowhere, is_name, others_stand, stood, value_stays, unknown_stays, of_some, of_object, of_none, object_there, leads_on, far_stays}
 use Rattle.law_order_arrivals.proofs.Tidy.{IsGood, leads_good, onward_good, items_good}

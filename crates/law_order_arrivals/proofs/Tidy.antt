@@ -1,12 +1,12 @@
 -- Where all vats have names with the hosts that the names tell, and links bring what is the receiver's own, every lane leads to such places.
-use Rattle.std.proofs.Common.{◌≡◌, ℕ, Bool, true, false, List, [], ◌∷◌, ◌++◌, Option, Some, None, refl, sym, ap, subst, ◌∙◌, ◌⊎◌, inl, inr, eq-eqb}
+use Rattle.std.proofs.Common.{◌≡◌, ℕ, Bool, true, false, List, [], ◌∷◌, ◌++◌, Option, Some, None, refl, sym, subst, ◌⊎◌, inl, inr, eq-eqb}
 use Rattle.std.specs.Prelude.{slice_get, not, ◌==◌, ◌&&◌}
 use Rattle.def_machine.specs.Values.{Value, Ref, Name, Root, Object, Promise, Answer, Gift, Sent, host_of}
 use Rattle.def_machine.specs.State.{Standing, Unsettled, WaitsOn, Viewed, Settled, Note, Deliver, Open, Ask, SettledTo, Elsewhere, Shorten, GiftEntry, Vat}
 use Rattle.def_machine.specs.Refs as refs
 use Rattle.def_run.specs.World.{Script, Link, names}
 use Rattle.def_run.specs.World as world
-use Rattle.law_order.specs.Ways.{Lane, Queue, Held, Way, Item, Place, Nowhere, Free, End, Mid, IsIn}
+use Rattle.law_order.specs.Ways.{Lane, Queue, Held, Way, Item, Place, Nowhere, Free, IsIn}
 use Rattle.law_order.specs.Arrivals.{IsGoodPlace}
 use Rattle.law_order.specs.Places.{delivered, opens, shortens, subject, in_lane, note_place, first_place, opened_there, is_honest, open_place, shorten_place, was_put, or_never, gift_place, leads_at, leads, unsettled, released, released_at, stands_at, over, onward_at}
 use Rattle.law_order.proofs.Sends.{some_same, none_some, found_ends}

@@ -1,7 +1,7 @@
 -- As a vat is told of a name of another vat, each reference leads where it led, or to where the name leads on.
-use Rattle.std.proofs.Common.{◌≡◌, ℕ, zero, suc, Bool, true, false, Option, Some, None, length, refl, sym, ap, subst, ◌∙◌, ◌⊎◌, inl, inr, eq-eqb, eqb-true}
+use Rattle.std.proofs.Common.{◌≡◌, ℕ, zero, suc, Bool, true, false, Option, Some, None, length, refl, sym, ap, subst, ◌∙◌, ◌⊎◌, inl, inr}
 use Rattle.std.proofs.lemmas.Bool.{ne_eqb}
-use Rattle.std.specs.Prelude.{codes, ◌==◌, ◌&&◌}
+use Rattle.std.specs.Prelude.{codes, ◌==◌}
 use Rattle.def_machine.specs.Values.{Value, Null, Flag, Number, Letter, Text, Prim, Broken, Items, Ref, Name, Root, Object, Promise, Answer, Gift, Sent, Naming, Spot, Own, Foreign, NoObject, host_of, spot_of, naming, same_name}
 use Rattle.def_machine.specs.State.{Standing, Unsettled, WaitsOn, Viewed, Settled, Known, Vat, is_in}
 use Rattle.def_machine.specs.Refs as refs
@@ -9,12 +9,12 @@ use Rattle.def_machine.specs.Refs.{Mine, Away}
 use Rattle.def_run.specs.World.{Script, names}
 use Rattle.law_order.specs.Ways.{Lane, Place, Nowhere, Free, End, Mid, Queue, Held, Way}
 use Rattle.law_order.specs.Places.{aimed, by_host, by_follow, of_name, leads_in}
-use Rattle.law_order.specs.Worlds.{IsWaiting, IsObject, IsFixed, FollowsEnd}
+use Rattle.law_order.specs.Worlds.{IsWaiting, IsObject, IsFixed}
 use Rattle.law_order.specs.Settle.{aimed_at}
-use Rattle.law_order.proofs.Sends.{some_same, none_some}
+use Rattle.law_order.proofs.Sends.{some_same}
 use Rattle.law_order.proofs.Named.{Test, test_self, test_is, same_is, same_self, false_true}
 use Rattle.law_order.proofs.Settled.{ref_same, is_object}
-use Rattle.law_order_arrivals.specs.Tellings.{HostsAreTold, told_by, LeadsOnTo, StandsSo, IsTold, IsToldOf}
+use Rattle.law_order_arrivals.specs.Tellings.{HostsAreTold, told_by, LeadsOnTo, StandsSo, IsToldOf}
 use Rattle.law_order_arrivals.proofs.Reaching.{severed_has, by_host_has, leads_has}
 
 -- ---- what becomes of places

@@ -1,21 +1,20 @@
 -- A vat is told by notes that are true: each thing keeps its order.
-use Rattle.std.proofs.Common.{◌≡◌, ℕ, suc, Bool, true, false, List, [], ◌∷◌, Option, Some, None, length, refl, sym, ap, subst, ◌∙◌, ◌⊎◌, inl, inr, eqb-true}
+use Rattle.std.proofs.Common.{◌≡◌, ℕ, suc, Bool, true, false, List, Option, Some, None, length, refl, sym, ap, subst, ◌∙◌, ◌⊎◌, inl, inr, eqb-true}
 use Rattle.std.proofs.lemmas.Bool.{ne_eqb}
-use Rattle.std.specs.Prelude.{slice_get, ◌==◌, ◌&&◌}
+use Rattle.std.specs.Prelude.{slice_get}
 use Rattle.def_machine.specs.Values.{Value, Ref, Name, Naming, host_of}
 use Rattle.def_machine.specs.State.{Known, Vat, is_in}
 use Rattle.def_machine.specs.Refs as refs
 use Rattle.def_run.specs.World.{Script, Link, World, names}
 use Rattle.def_run.specs.World as world
-use Rattle.law_order.specs.Ways.{Lane, Queue, Held, Way, Item, Place, Nowhere, Free, End, Mid, Ways, IsIn, IsOneWay, Doom, nowhere, by_end, by_mid, Follows, doomed, one_way, alike, beside}
+use Rattle.law_order.specs.Ways.{Lane, Queue, Held, Way, Item, Place, Nowhere, Free, End, Mid, Ways, Doom, nowhere, by_end, Follows, doomed, one_way, alike, beside}
 use Rattle.law_order.specs.Turns.{Within, Comes, Reroutes, ends_now, renamed_so, behind_all, IsDefinite}
 use Rattle.law_order.specs.Places.{leads_in, leads_at, leads, by_host, by_follow, of_name, onward_at, amid}
 use Rattle.law_order.specs.Worlds.{IsObject}
 use Rattle.law_order.specs.Settle.{aimed_at}
-use Rattle.law_order.specs.Steps.{WaysAmid, LeadsAmid}
+use Rattle.law_order.specs.Steps.{WaysAmid}
 use Rattle.law_order.proofs.Far.{far_aimed}
 use Rattle.law_order.proofs.Kept.{doom_end, follows_self}
-use Rattle.law_order.proofs.Named.{false_true}
 use Rattle.law_order.proofs.Sends.{get_put}
 use Rattle.law_order.proofs.Settled.{is_object}
 use Rattle.law_order_arrivals.specs.Tellings.{owned, told_by, HostsAreTold, IsOwnEnd, IsTidy, IsRetold, IsToldOf}
@@ -25,7 +24,7 @@ use Rattle.law_order_arrivals.proofs.Homes.{object_leads, object_far, link_leads
 use Rattle.law_order_arrivals.proofs.Reaching.{severed_has, by_host_has}
 use Rattle.law_order_arrivals.proofs.Retold.{retelling_keeps, aside, follows_kept}
 use Rattle.law_order_arrivals.proofs.Tidy.{IsGood, owned_way, owned_queue, owned_held, leads_good, onward_good}
-use Rattle.law_order_arrivals.proofs.Told.{tells_here, of_some, of_object, of_none}
+use Rattle.law_order_arrivals.proofs.Told.{tells_here, of_some, of_none}
 use Rattle.law_order_arrivals.proofs.Telling.{hosts, bring, mine, own_stays, leads_told, onward_is, onward_then, hosts_then, retold, kept}
 
 abbrev IsEnd : Place → Type 0

@@ -1,14 +1,13 @@
 -- Order is kept through a whole settling of a name of another vat.
-use Rattle.std.proofs.Common.{◌≡◌, ℕ, zero, suc, Bool, true, false, List, [], ◌∷◌, ◌++◌, Option, Some, None, length, refl, sym, ap, subst, ◌∙◌, ◌⊎◌, inl, inr, eq-eqb}
+use Rattle.std.proofs.Common.{◌≡◌, ℕ, suc, Bool, true, List, [], ◌∷◌, ◌++◌, Some, length, refl, sym, ap, subst, ◌∙◌, inl, inr, eq-eqb}
 use Rattle.std.specs.Prelude.{slice_get, codes, if◌then◌else◌}
 use Rattle.def_machine.specs.Values.{Value, Null, Flag, Number, Letter, Text, Prim, Broken, Items, Ref, Name, Naming, host_of}
-use Rattle.def_machine.specs.State.{Message, Known, Unsettled, Settles, Vat, Done}
+use Rattle.def_machine.specs.State.{Message, Known, Settles, Vat, Done}
 use Rattle.def_machine.specs.State as state
 use Rattle.def_machine.specs.Refs as refs
 use Rattle.def_machine.specs.Arrive as arriving
 use Rattle.def_run.specs.World.{Script, World, names}
-use Rattle.law_order.specs.Ways.{Lane, Queue, Held, Item, End, Mid, Ways, IsIn}
-use Rattle.law_order.specs.Messages.{StandsAt, StaysBehind}
+use Rattle.law_order.specs.Ways.{Queue, Held, Item, End, Mid, Ways}
 use Rattle.law_order.specs.Worlds.{IfGives, IsObject}
 use Rattle.law_order.specs.Settle.{settled_to}
 use Rattle.law_order.specs.Settlings.{with_line, IsPlain, IsHonestTo, SettlesWell, WaitsWell}
@@ -18,7 +17,7 @@ use Rattle.law_order.proofs.Messages.{behind_then}
 use Rattle.law_order.proofs.Remaining.{order_then}
 use Rattle.law_order.proofs.Sends.{if_map, if_both, chain}
 use Rattle.law_order.proofs.Whole.{kept_adds, settlings_keep}
-use Rattle.law_order_arrivals.specs.Tellings.{owned, IsTidy, IsToldOf}
+use Rattle.law_order_arrivals.specs.Tellings.{IsTidy, IsToldOf}
 use Rattle.law_order_arrivals.specs.Notes.{KeepsAll}
 use Rattle.law_order_arrivals.specs.Wholes.{KeepsOwnOrder, IsIdle, SettledSo, CanSettleAway, known_value, AwaySettlingsKeep, SettledArrivalsKeep, BrokenArrivalsKeep, NoticedNamesKeep}
 use Rattle.law_order_arrivals.proofs.Tidy.{owned_held}

@@ -1,14 +1,14 @@
 -- A run in which a vat is told of two names of other vats: by a note that one settled, and by one that one settled elsewhere.
-use Rattle.std.specs.Prelude.{◌≡◌, ℕ, Bool, true, List, [], ◌∷◌, Option, Some, None, length, codes}
+use Rattle.std.specs.Prelude.{◌≡◌, ℕ, true, List, [], ◌∷◌, Some, None, codes}
 use Rattle.def_machine.specs.Values.{Ref, Name, Root, Gift, key}
 use Rattle.def_machine.specs.Values as values
 use Rattle.def_machine.specs.State.{Plain, Note, SettledTo, Elsewhere}
-use Rattle.def_run.specs.World.{Entry, Carry, Script, Link, World, link_at}
+use Rattle.def_run.specs.World.{Entry, Carry, Script, link_at}
 use Rattle.def_run.specs.Draws.{draw_word}
 use Rattle.def_kernel.specs.declared.node.Literal.TheVariants as literal
 use Rattle.def_kernel.specs.declared.node.Node.{Node}
 use Rattle.def_kernel.specs.declared.node.Node.TheVariants.{Lit, Noun, Call}
-use Rattle.law_order.specs.Ways.{Queue, Held, Way, Item, Place, End, Mid, Ways}
+use Rattle.law_order.specs.Ways.{Queue, Held, Way, Place, End, Mid, Ways}
 use Rattle.law_order.specs.Places.{item, ways, leads}
 use Rattle.law_order.specs.Example.{tree_e, message, world_after, opened_example}
 

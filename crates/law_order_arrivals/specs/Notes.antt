@@ -1,7 +1,7 @@
 -- What notes tell of names is so at their senders, and what is ahead as a vat is told by them.
 use Rattle.std.specs.Prelude.{◌≡◌, ℕ, Bool, true, List, [], ◌∷◌, Some, slice_get, ◌⊎◌}
 use Rattle.def_machine.specs.Values.{Value, Ref, Name, host_of}
-use Rattle.def_machine.specs.State.{Passed, Plain, AGift, Many, Note, Deliver, Open, Ask, SettledTo, Elsewhere, Shorten, Vat}
+use Rattle.def_machine.specs.State.{Passed, Plain, Note, Deliver, Open, Ask, SettledTo, Elsewhere, Shorten, Vat}
 use Rattle.def_run.specs.World.{Script, Link, World}
 use Rattle.law_order.specs.Ways.{Queue, Way, Item, Place, Nowhere, End, Mid, Doom}
 use Rattle.law_order.specs.Turns.{Within, Comes}

@@ -7,7 +7,7 @@ use Rattle.def_run.specs.World.{Script, Link, World, names}
 use Rattle.law_order.specs.Ways.{Lane, Queue, Held, Way, Item, Place, Nowhere, Free, End, Mid, Ways, IsIn, IsOneWay, Follows}
 use Rattle.law_order.specs.Turns.{Within, Reroutes}
 use Rattle.law_order.specs.Messages.{StandsAt, StaysBehind}
-use Rattle.law_order.specs.Places.{leads, ways, amid}
+use Rattle.law_order.specs.Places.{amid}
 use Rattle.law_order.specs.Worlds.{IsObject, FollowsEnd}
 use Rattle.law_order.specs.Settle.{aimed_at}
 use Rattle.law_order.specs.Steps.{WaysAmid, LeadsAmid}

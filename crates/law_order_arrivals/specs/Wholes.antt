@@ -1,5 +1,5 @@
 -- A whole settling by the machine of a name of another vat.
-use Rattle.std.specs.Prelude.{◌≡◌, ℕ, suc, Bool, true, List, [], Option, Some, length, slice_get, codes, ◌⊎◌}
+use Rattle.std.specs.Prelude.{◌≡◌, ℕ, suc, Bool, true, List, [], Some, length, slice_get, codes, ◌⊎◌}
 use Rattle.def_machine.specs.Values.{Value, Null, Flag, Number, Letter, Text, Prim, Broken, Items, Ref, Name, Naming, host_of}
 use Rattle.def_machine.specs.State.{Plain, SettledTo, Elsewhere, Unsettled, Settles, Known, Vat, is_in}
 use Rattle.def_machine.specs.Arrive.{Incoming, Old, arrive, notice_name}

@@ -3,4 +3,5 @@
 
 pub mod example;
 pub mod tell;
+pub mod view;
 pub mod whole;
