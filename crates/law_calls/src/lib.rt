@@ -1,0 +1,4 @@
+//! Calls that call again.
+#![tactic(auto)]
+
+pub mod levels;
