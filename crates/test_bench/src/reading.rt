@@ -12,7 +12,7 @@ use std::str;
 
 /// A kind of work.
 #[derive(Clone, Copy)]
-pub enum Kind {
+pub(crate) enum Kind {
     /// The text is taken apart into tokens.
     Lex,
     /// It is taken apart once, and its tokens are parsed so often.
@@ -25,7 +25,7 @@ pub enum Kind {
     Script,
 }
 
-pub fn kind_of(word: &str) -> Option<Kind> {
+pub(crate) fn kind_of(word: &str) -> Option<Kind> {
     match word {
         "lex" => Some(Kind::Lex),
         "parse" => Some(Kind::Parse),
@@ -121,7 +121,7 @@ fn work_on_text(alloc: Global, kind: Kind, text: &str, times: u32) -> bool {
 }
 
 /// It is done where memory sufficed, the text of the first three has tokens, and that of `expand` spells a tree.
-pub fn work(alloc: Global, kind: Kind, bytes: &[u8], times: u32) -> bool {
+pub(crate) fn work(alloc: Global, kind: Kind, bytes: &[u8], times: u32) -> bool {
     match str::from_utf8(bytes) {
         Ok(text) => work_on_text(alloc, kind, text, times),
         Err(_) => false,

@@ -13,13 +13,13 @@ use std::alloc::Global;
 
 /// What is settled: names of which each waits on the next, one name that holds messages, or both at once.
 #[derive(Clone, Copy)]
-pub enum Kind {
+pub(crate) enum Kind {
     Chain,
     Held,
     Both,
 }
 
-pub fn kind_of(word: &str) -> Option<Kind> {
+pub(crate) fn kind_of(word: &str) -> Option<Kind> {
     match word {
         "chain" => Some(Kind::Chain),
         "held" => Some(Kind::Held),
@@ -69,7 +69,7 @@ fn holding(inside: &mut Interior, verb: &Word, count: u64) -> Result<u64, Stop> 
 }
 
 /// How many events are told.
-pub fn settled(alloc: Global, kind: Kind, count: u64) -> Result<usize, Stop> {
+pub(crate) fn settled(alloc: Global, kind: Kind, count: u64) -> Result<usize, Stop> {
     let mut inside = inside(alloc)?;
     let verb = Word::run();
     let last = match kind {

@@ -31,7 +31,7 @@ fn encode_often(alloc: Global, bytes: &[u8], times: u32) -> bool {
 }
 
 /// Works on the operation that these bytes are.
-pub fn work(alloc: Global, kind: &str, bytes: &[u8], times: u32) -> bool {
+pub(crate) fn work(alloc: Global, kind: &str, bytes: &[u8], times: u32) -> bool {
     match kind {
         "decode" => decode_often(alloc, bytes, times),
         "encode" => encode_often(alloc, bytes, times),
@@ -50,7 +50,7 @@ fn connection_of(alloc: Global, size: u32) -> Option<Connection> {
 }
 
 /// The numbers are the size of the table and how often it is looked into, for what was exported last.
-pub fn look_up_positions(alloc: Global, numbers: Numbers) -> bool {
+pub(crate) fn look_up_positions(alloc: Global, numbers: Numbers) -> bool {
     let Some(connection) = connection_of(alloc, numbers.first) else {
         return false;
     };
@@ -78,7 +78,7 @@ fn gifts_of(alloc: Global, size: u32) -> Option<GiftTable> {
 }
 
 /// The numbers are the size of the table and how often it is looked into, for the gift that was provided last.
-pub fn look_up_gifts(alloc: Global, numbers: Numbers) -> bool {
+pub(crate) fn look_up_gifts(alloc: Global, numbers: Numbers) -> bool {
     let Some(gifts) = gifts_of(alloc, numbers.first) else {
         return false;
     };

@@ -12,7 +12,7 @@ use std::str;
 const KEY: [u8; 32] = [0; 32];
 
 #[derive(Clone, Copy)]
-pub struct Ran {
+pub(crate) struct Ran {
     pub how: &'static str,
     /// The fuel that is left.
     pub fuel: u32,
@@ -50,7 +50,7 @@ fn opened(alloc: Global, program: &Kernel, depth: u32, fuel: u32) -> Result<Ran,
 }
 
 /// The numbers are the greatest depth and the fuel.
-pub fn run_form(alloc: Global, bytes: &[u8], numbers: Numbers) -> Option<Ran> {
+pub(crate) fn run_form(alloc: Global, bytes: &[u8], numbers: Numbers) -> Option<Ran> {
     let Ok(text) = str::from_utf8(bytes) else {
         return None;
     };
