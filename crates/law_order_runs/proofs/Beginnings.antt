@@ -35,7 +35,7 @@ pub reached_is : (P : World → Type 0) (r : Run) (w : World) → r ≡ Goes w �
 reached_is P (Goes x) w e h = subst P (goes_is x w e) h
 reached_is P (Stopped c k x) w e h = cc
 
-each_all : {A : Type 0} (P : A → Type 0) (xs : List A) → Each P xs → AllOf P xs
+pub each_all : {A : Type 0} (P : A → Type 0) (xs : List A) → Each P xs → AllOf P xs
 each_all P [] h = tt
 each_all P (x ∷ xs) h = (h.0, each_all P xs h.1)
 
@@ -70,7 +70,7 @@ object_apart (Answer h m) o e = o
 object_apart (Gift h i) o e = o
 object_apart (Sent m) o e = o
 
-all_eventual : (ks : List (Known Name)) (n : Name) → AllOf IsEventual (names_in ks) → IsAmong n (names_in ks) → IsEventual n
+pub all_eventual : (ks : List (Known Name)) (n : Name) → AllOf IsEventual (names_in ks) → IsAmong n (names_in ks) → IsEventual n
 all_eventual [] n h a = absurd a
 all_eventual (k ∷ ks) n h (inl e) = subst IsEventual (sym e) h.0
 all_eventual (k ∷ ks) n h (inr a) = all_eventual ks n h.1 a
@@ -94,7 +94,7 @@ module _ (script : Script) (v : ℕ) where
       go r true f g = let h : j ≡ k = cc in same h f
       go r false f g = r g
 
-  none_found : (ks : List (Known Name)) (n : Name) → (IsAmong n (names_in ks) → ⊥) → entry_of K ks n ≡ None
+  pub none_found : (ks : List (Known Name)) (n : Name) → (IsAmong n (names_in ks) → ⊥) → entry_of K ks n ≡ None
   unfolding names word
   none_found ks n f = unknown word v ks n f
 
@@ -112,7 +112,7 @@ module _ (script : Script) (v : ℕ) where
   Had ks (Broken p) = Unit {0}
   Had ks (Items k) = Unit {0}
 
-  named_object : (n : Name) → NamesObject n → IsObject n
+  pub named_object : (n : Name) → NamesObject n → IsObject n
   named_object (Object w i) h = tt
   named_object (Root w) h = h
   named_object (Promise w i) h = h

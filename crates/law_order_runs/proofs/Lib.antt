@@ -1,2 +1,4 @@
 pub mod Beginnings
 pub mod Once
+pub mod Truths
+pub mod ToldRuns
