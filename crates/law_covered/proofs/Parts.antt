@@ -73,83 +73,138 @@ module _ (tree : List Node) where
 -- ---- the parts of a node of whatever kind
 
 module _ (P : Kind → ℕ → Type 0) where
-  pub set_parts : (kind : Kind) (x : List ℕ) (e : ℕ) → FormedBy P kind (Set x e) → P Expression e
+  set_parts : (kind : Kind) (x : List ℕ) (e : ℕ) → FormedBy P kind (Set x e) → P Expression e
   set_parts Expression x e h = h
   set_parts _ x e h = absurd h
 
-  pub def_parts : (kind : Kind) (p : ℕ) (exit : Option ℕ) (e : ℕ) → FormedBy P kind (Def p exit e) → P Pattern p × WhereSome (P Expression) exit × P Expression e
+  def_parts : (kind : Kind) (p : ℕ) (exit : Option ℕ) (e : ℕ) → FormedBy P kind (Def p exit e) → P Pattern p × WhereSome (P Expression) exit × P Expression e
   def_parts Expression p exit e h = h
   def_parts _ p exit e h = absurd h
 
-  pub call_parts : (kind : Kind) (r : ℕ) (verb args : List ℕ) → FormedBy P kind (Call r verb args) → P Expression r × AllOf (P Expression) args
+  call_parts : (kind : Kind) (r : ℕ) (verb args : List ℕ) → FormedBy P kind (Call r verb args) → P Expression r × AllOf (P Expression) args
   call_parts Expression r verb args h = h
   call_parts _ r verb args h = absurd h
 
-  pub sequence_parts : (kind : Kind) (parts : List ℕ) → FormedBy P kind (Sequence parts) → AllOf (P Expression) parts
+  sequence_parts : (kind : Kind) (parts : List ℕ) → FormedBy P kind (Sequence parts) → AllOf (P Expression) parts
   sequence_parts Expression parts h = h
   sequence_parts _ parts h = absurd h
 
-  pub choice_parts : (kind : Kind) (a b c : ℕ) → FormedBy P kind (If a b c) → P Expression a × P Expression b × P Expression c
+  choice_parts : (kind : Kind) (a b c : ℕ) → FormedBy P kind (If a b c) → P Expression a × P Expression b × P Expression c
   choice_parts Expression a b c h = h
   choice_parts _ a b c h = absurd h
 
-  pub escape_parts : (kind : Kind) (p b : ℕ) (c : Option (ℕ × ℕ)) → FormedBy P kind (Escape p b c) → P Pattern p × P Expression b × WhereSome (λ (caught : ℕ × ℕ). P Pattern caught.0 × P Expression caught.1) c
+  escape_parts : (kind : Kind) (p b : ℕ) (c : Option (ℕ × ℕ)) → FormedBy P kind (Escape p b c) → P Pattern p × P Expression b × WhereSome (λ (caught : ℕ × ℕ). P Pattern caught.0 × P Expression caught.1) c
   escape_parts Expression p b c h = h
   escape_parts _ p b c h = absurd h
 
-  pub try_parts : (kind : Kind) (b p t : ℕ) → FormedBy P kind (Try b p t) → P Expression b × P Pattern p × P Expression t
+  try_parts : (kind : Kind) (b p t : ℕ) → FormedBy P kind (Try b p t) → P Expression b × P Pattern p × P Expression t
   try_parts Expression b p t h = h
   try_parts _ b p t h = absurd h
 
-  pub finally_parts : (kind : Kind) (a b : ℕ) → FormedBy P kind (Finally a b) → P Expression a × P Expression b
+  finally_parts : (kind : Kind) (a b : ℕ) → FormedBy P kind (Finally a b) → P Expression a × P Expression b
   finally_parts Expression a b h = h
   finally_parts _ a b h = absurd h
 
-  pub hide_parts : (kind : Kind) (e : ℕ) → FormedBy P kind (Hide e) → P Expression e
+  hide_parts : (kind : Kind) (e : ℕ) → FormedBy P kind (Hide e) → P Expression e
   hide_parts Expression e h = h
   hide_parts _ e h = absurd h
 
-  pub match_parts : (kind : Kind) (e p : ℕ) → FormedBy P kind (MatchBind e p) → P Expression e × P Pattern p
+  match_parts : (kind : Kind) (e p : ℕ) → FormedBy P kind (MatchBind e p) → P Expression e × P Pattern p
   match_parts Expression e p h = h
   match_parts _ e p h = absurd h
 
-  pub object_parts : (kind : Kind) (p : ℕ) (auditors members : List ℕ) → FormedBy P kind (Object p auditors members) → P Naming p × AllOf (P Expression) auditors × AllOf (P Member) members
+  object_parts : (kind : Kind) (p : ℕ) (auditors members : List ℕ) → FormedBy P kind (Object p auditors members) → P Naming p × AllOf (P Expression) auditors × AllOf (P Member) members
   object_parts Expression p auditors members h = h
   object_parts _ p auditors members h = absurd h
 
-  pub method_parts : (kind : Kind) (verb patterns : List ℕ) (b : ℕ) → FormedBy P kind (Method verb patterns b) → AllOf (P Pattern) patterns × P Expression b
+  method_parts : (kind : Kind) (verb patterns : List ℕ) (b : ℕ) → FormedBy P kind (Method verb patterns b) → AllOf (P Pattern) patterns × P Expression b
   method_parts Member verb patterns b h = h
   method_parts _ verb patterns b h = absurd h
 
-  pub matcher_parts : (kind : Kind) (p b : ℕ) → FormedBy P kind (Matcher p b) → P Pattern p × P Expression b
+  matcher_parts : (kind : Kind) (p b : ℕ) → FormedBy P kind (Matcher p b) → P Pattern p × P Expression b
   matcher_parts Member p b h = h
   matcher_parts _ p b h = absurd h
 
-  pub final_parts : (kind : Kind) (x : List ℕ) (g : Option ℕ) → FormedBy P kind (Final x g) → WhereSome (P Expression) g
+  final_parts : (kind : Kind) (x : List ℕ) (g : Option ℕ) → FormedBy P kind (Final x g) → WhereSome (P Expression) g
   final_parts Pattern x g h = h
   final_parts Naming x None h = tt
   final_parts Naming x (Some g) h = absurd h
   final_parts Expression x g h = absurd h
   final_parts Member x g h = absurd h
 
-  pub var_parts : (kind : Kind) (x : List ℕ) (g : Option ℕ) → FormedBy P kind (Var x g) → WhereSome (P Expression) g
+  var_parts : (kind : Kind) (x : List ℕ) (g : Option ℕ) → FormedBy P kind (Var x g) → WhereSome (P Expression) g
   var_parts Pattern x g h = h
   var_parts _ x g h = absurd h
 
-  pub any_parts : (kind : Kind) (g : Option ℕ) → FormedBy P kind (Any g) → WhereSome (P Expression) g
+  any_parts : (kind : Kind) (g : Option ℕ) → FormedBy P kind (Any g) → WhereSome (P Expression) g
   any_parts Pattern g h = h
   any_parts Naming None h = tt
   any_parts Naming (Some g) h = absurd h
   any_parts Expression g h = absurd h
   any_parts Member g h = absurd h
 
-  pub list_parts : (kind : Kind) (patterns : List ℕ) → FormedBy P kind (ListPattern patterns) → AllOf (P Pattern) patterns
+  list_parts : (kind : Kind) (patterns : List ℕ) → FormedBy P kind (ListPattern patterns) → AllOf (P Pattern) patterns
   list_parts Pattern patterns h = h
   list_parts _ patterns h = absurd h
 
-  pub via_parts : (kind : Kind) (e p : ℕ) → FormedBy P kind (Via e p) → P Expression e × P Pattern p
+  via_parts : (kind : Kind) (e p : ℕ) → FormedBy P kind (Via e p) → P Expression e × P Pattern p
   via_parts Pattern e p h = h
   via_parts _ e p h = absurd h
+
+module _ (tree : List Node) where
+  pub of_set : (h : ℕ) (kind : Kind) (n : ℕ) {x : List ℕ} {e : ℕ} → FormedWithin tree (suc h) kind n → Has tree n (Set x e) → FormedWithin tree h Expression e
+  of_set h kind n {x = x} {e = e} formed there = set_parts (FormedWithin tree h) kind x e (within_parts tree h kind n _ formed there)
+
+  pub of_def : (h : ℕ) (kind : Kind) (n : ℕ) {p : ℕ} {exit : Option ℕ} {e : ℕ} → FormedWithin tree (suc h) kind n → Has tree n (Def p exit e) → FormedWithin tree h Pattern p × WhereSome (FormedWithin tree h Expression) exit × FormedWithin tree h Expression e
+  of_def h kind n {p = p} {exit = exit} {e = e} formed there = def_parts (FormedWithin tree h) kind p exit e (within_parts tree h kind n _ formed there)
+
+  pub of_call : (h : ℕ) (kind : Kind) (n : ℕ) {r : ℕ} {verb args : List ℕ} → FormedWithin tree (suc h) kind n → Has tree n (Call r verb args) → FormedWithin tree h Expression r × AllOf (FormedWithin tree h Expression) args
+  of_call h kind n {r = r} {verb = verb} {args = args} formed there = call_parts (FormedWithin tree h) kind r verb args (within_parts tree h kind n _ formed there)
+
+  pub of_sequence : (h : ℕ) (kind : Kind) (n : ℕ) {parts : List ℕ} → FormedWithin tree (suc h) kind n → Has tree n (Sequence parts) → AllOf (FormedWithin tree h Expression) parts
+  of_sequence h kind n {parts = parts} formed there = sequence_parts (FormedWithin tree h) kind parts (within_parts tree h kind n _ formed there)
+
+  pub of_choice : (h : ℕ) (kind : Kind) (n : ℕ) {a b c : ℕ} → FormedWithin tree (suc h) kind n → Has tree n (If a b c) → FormedWithin tree h Expression a × FormedWithin tree h Expression b × FormedWithin tree h Expression c
+  of_choice h kind n {a = a} {b = b} {c = c} formed there = choice_parts (FormedWithin tree h) kind a b c (within_parts tree h kind n _ formed there)
+
+  pub of_escape : (h : ℕ) (kind : Kind) (n : ℕ) {p b : ℕ} {c : Option (ℕ × ℕ)} → FormedWithin tree (suc h) kind n → Has tree n (Escape p b c) → FormedWithin tree h Pattern p × FormedWithin tree h Expression b × WhereSome (λ (caught : ℕ × ℕ). FormedWithin tree h Pattern caught.0 × FormedWithin tree h Expression caught.1) c
+  of_escape h kind n {p = p} {b = b} {c = c} formed there = escape_parts (FormedWithin tree h) kind p b c (within_parts tree h kind n _ formed there)
+
+  pub of_try : (h : ℕ) (kind : Kind) (n : ℕ) {b p t : ℕ} → FormedWithin tree (suc h) kind n → Has tree n (Try b p t) → FormedWithin tree h Expression b × FormedWithin tree h Pattern p × FormedWithin tree h Expression t
+  of_try h kind n {b = b} {p = p} {t = t} formed there = try_parts (FormedWithin tree h) kind b p t (within_parts tree h kind n _ formed there)
+
+  pub of_finally : (h : ℕ) (kind : Kind) (n : ℕ) {a b : ℕ} → FormedWithin tree (suc h) kind n → Has tree n (Finally a b) → FormedWithin tree h Expression a × FormedWithin tree h Expression b
+  of_finally h kind n {a = a} {b = b} formed there = finally_parts (FormedWithin tree h) kind a b (within_parts tree h kind n _ formed there)
+
+  pub of_hide : (h : ℕ) (kind : Kind) (n : ℕ) {e : ℕ} → FormedWithin tree (suc h) kind n → Has tree n (Hide e) → FormedWithin tree h Expression e
+  of_hide h kind n {e = e} formed there = hide_parts (FormedWithin tree h) kind e (within_parts tree h kind n _ formed there)
+
+  pub of_match : (h : ℕ) (kind : Kind) (n : ℕ) {e p : ℕ} → FormedWithin tree (suc h) kind n → Has tree n (MatchBind e p) → FormedWithin tree h Expression e × FormedWithin tree h Pattern p
+  of_match h kind n {e = e} {p = p} formed there = match_parts (FormedWithin tree h) kind e p (within_parts tree h kind n _ formed there)
+
+  pub of_object : (h : ℕ) (kind : Kind) (n : ℕ) {p : ℕ} {auditors members : List ℕ} → FormedWithin tree (suc h) kind n → Has tree n (Object p auditors members) → FormedWithin tree h Naming p × AllOf (FormedWithin tree h Expression) auditors × AllOf (FormedWithin tree h Member) members
+  of_object h kind n {p = p} {auditors = auditors} {members = members} formed there = object_parts (FormedWithin tree h) kind p auditors members (within_parts tree h kind n _ formed there)
+
+  pub of_method : (h : ℕ) (kind : Kind) (n : ℕ) {verb patterns : List ℕ} {b : ℕ} → FormedWithin tree (suc h) kind n → Has tree n (Method verb patterns b) → AllOf (FormedWithin tree h Pattern) patterns × FormedWithin tree h Expression b
+  of_method h kind n {verb = verb} {patterns = patterns} {b = b} formed there = method_parts (FormedWithin tree h) kind verb patterns b (within_parts tree h kind n _ formed there)
+
+  pub of_matcher : (h : ℕ) (kind : Kind) (n : ℕ) {p b : ℕ} → FormedWithin tree (suc h) kind n → Has tree n (Matcher p b) → FormedWithin tree h Pattern p × FormedWithin tree h Expression b
+  of_matcher h kind n {p = p} {b = b} formed there = matcher_parts (FormedWithin tree h) kind p b (within_parts tree h kind n _ formed there)
+
+  pub of_final : (h : ℕ) (kind : Kind) (n : ℕ) {x : List ℕ} {g : Option ℕ} → FormedWithin tree (suc h) kind n → Has tree n (Final x g) → WhereSome (FormedWithin tree h Expression) g
+  of_final h kind n {x = x} {g = g} formed there = final_parts (FormedWithin tree h) kind x g (within_parts tree h kind n _ formed there)
+
+  pub of_var : (h : ℕ) (kind : Kind) (n : ℕ) {x : List ℕ} {g : Option ℕ} → FormedWithin tree (suc h) kind n → Has tree n (Var x g) → WhereSome (FormedWithin tree h Expression) g
+  of_var h kind n {x = x} {g = g} formed there = var_parts (FormedWithin tree h) kind x g (within_parts tree h kind n _ formed there)
+
+  pub of_any : (h : ℕ) (kind : Kind) (n : ℕ) {g : Option ℕ} → FormedWithin tree (suc h) kind n → Has tree n (Any g) → WhereSome (FormedWithin tree h Expression) g
+  of_any h kind n {g = g} formed there = any_parts (FormedWithin tree h) kind g (within_parts tree h kind n _ formed there)
+
+  pub of_list : (h : ℕ) (kind : Kind) (n : ℕ) {patterns : List ℕ} → FormedWithin tree (suc h) kind n → Has tree n (ListPattern patterns) → AllOf (FormedWithin tree h Pattern) patterns
+  of_list h kind n {patterns = patterns} formed there = list_parts (FormedWithin tree h) kind patterns (within_parts tree h kind n _ formed there)
+
+  pub of_via : (h : ℕ) (kind : Kind) (n : ℕ) {e p : ℕ} → FormedWithin tree (suc h) kind n → Has tree n (Via e p) → FormedWithin tree h Expression e × FormedWithin tree h Pattern p
+  of_via h kind n {e = e} {p = p} formed there = via_parts (FormedWithin tree h) kind e p (within_parts tree h kind n _ formed there)
 
 -- ---- trees
 

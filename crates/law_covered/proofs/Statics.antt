@@ -32,7 +32,7 @@ bound_is x (scope ∷ scopes) = go (static.bound_in x scope)
 
 -- ---- one scope
 
-in_more : (x : List ℕ) (b : Binding) (bs : List Binding) (t : Bool) → bytes_eq x b.name ≡ t → static.bound_in x (b ∷ bs) ≡ cond t (Some b.is_var) (static.bound_in x bs)
+pub in_more : (x : List ℕ) (b : Binding) (bs : List Binding) (t : Bool) → bytes_eq x b.name ≡ t → static.bound_in x (b ∷ bs) ≡ cond t (Some b.is_var) (static.bound_in x bs)
 in_more x b bs true e = rw e refl
 in_more x b bs false e = rw e refl
 

@@ -67,9 +67,9 @@ has_first x ys = go (same_words x x) (is_same x x refl)
     go true e = refl
     go false e = absurd (both_ways false refl e)
 
-pub has_one : (x y : Words) (ys : List Words) → has_words x (y ∷ ys) ≡ true → (x ≡ y) ⊎ (has_words x ys ≡ true)
+pub has_either : (x y : Words) (ys : List Words) → has_words x (y ∷ ys) ≡ true → (x ≡ y) ⊎ (has_words x ys ≡ true)
 unfolding has_words
-has_one x y ys h = go (same_words x y) refl h
+has_either x y ys h = go (same_words x y) refl h
   where
     go : (t : Bool) → same_words x y ≡ t → ◌≡◌ {A = Bool} (elim t [ true ↦ true | false ↦ has_words x ys ]) true → (x ≡ y) ⊎ (has_words x ys ≡ true)
     go true e g = inl (same_is x y e)
@@ -78,7 +78,7 @@ has_one x y ys h = go (same_words x y) refl h
 pub has_left : (x : Words) (ys zs : List Words) → has_words x ys ≡ true → has_words x (ys ++ zs) ≡ true
 unfolding has_words
 has_left x [] zs h = absurd (both_ways false refl h)
-has_left x (y ∷ ys) zs h = go (has_one x y ys h) (has_left x ys zs)
+has_left x (y ∷ ys) zs h = go (has_either x y ys h) (has_left x ys zs)
   where
     go : (x ≡ y) ⊎ (has_words x ys ≡ true) → (has_words x ys ≡ true → has_words x (ys ++ zs) ≡ true) → has_words x (y ∷ (ys ++ zs)) ≡ true
     go (inl e) k = rw e (has_first y (ys ++ zs))
