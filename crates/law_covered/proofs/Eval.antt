@@ -1,5 +1,5 @@
 -- Evaluation in an environment that covers the scopes of a node gives one that covers the scopes after it.
-use Rattle.std.proofs.Common.{◌≡◌, ℕ, zero, suc, ◌≤◌, ◌<◌, Bool, true, false, List, [], ◌∷◌, Option, Some, None, if◌then◌else◌, ◌==◌, refl, sym, ap, subst, ◌∙◌, length, codes, arith}
+use Rattle.std.proofs.Common.{◌≡◌, ℕ, zero, suc, ◌≤◌, ◌<◌, Bool, true, false, List, [], ◌∷◌, Option, Some, None, if◌then◌else◌, ◌==◌, refl, sym, ap, subst, ◌∙◌, ◌⊎◌, inl, inr, length, codes, arith}
 use Rattle.std.specs.Prelude.{slice_get}
 use Rattle.std.proofs.lemmas.Bool.{eqb-true}
 use Rattle.def_machine.specs.Values.{Words, Value, Null, Flag, Number, Letter, Text, Prim, Broken, Items, Ref, Naming, Spot, Own, Foreign, NoObject}
@@ -173,9 +173,18 @@ module _ {N W : Type 0} (K : Naming N W) (tree : List Node) (F : AtStops N) (may
     unfolding calls.turn_spot calls.turn_thing stop
     lead_turn_spot h many act i verb args = lead_look_thing tree F i _ (λ s e. may.lost s i e) (λ k t l c. lead_turn_thing h k act i t c verb args)
 
-    pub lead_turn_value : GoodCaller tree F (calls.call K tree rec) → (many act : ℕ) (x : Value N) → ((n : N) → x ≡ Ref n → (i : ℕ) × (K.spot n ≡ Own i)) → (verb : Words) (args : List (Value N)) → Leads tree F many Nothing (calls.turn_value K tree rec act x verb args)
+    -- where it is of another vat, of a stop
+    lead_aimed : GoodCaller tree F (calls.call K tree rec) → (many act : ℕ) (p : Spot) → ((i : ℕ) × (p ≡ Own i)) ⊎ ((s : Vat N) → F Astray s) → (verb : Words) (args : List (Value N)) → Leads tree F many Nothing (calls.turn_spot K tree rec act p verb args)
+    unfolding calls.turn_spot
+    lead_aimed h many act (Own i) o verb args = lead_turn_spot h many act i verb args
+    lead_aimed h many act (Foreign w) (inl o) verb args = let e = o.1 in cc
+    lead_aimed h many act (Foreign w) (inr o) verb args = lead_stop tree F Astray o
+    lead_aimed h many act NoObject (inl o) verb args = let e = o.1 in cc
+    lead_aimed h many act NoObject (inr o) verb args = lead_stop tree F Astray o
+
+    pub lead_turn_value : GoodCaller tree F (calls.call K tree rec) → (many act : ℕ) (x : Value N) → ((n : N) → x ≡ Ref n → ((i : ℕ) × (K.spot n ≡ Own i)) ⊎ ((s : Vat N) → F Astray s)) → (verb : Words) (args : List (Value N)) → Leads tree F many Nothing (calls.turn_value K tree rec act x verb args)
     unfolding calls.turn_value
-    lead_turn_value h many act (Ref n) own verb args = let o = own n refl in subst (λ p. Leads tree F many Nothing (calls.turn_spot K tree rec act p verb args)) (sym o.1) (lead_turn_spot h many act o.0 verb args)
+    lead_turn_value h many act (Ref n) own verb args = lead_aimed h many act (K.spot n) (own n refl) verb args
     lead_turn_value h many act (Broken p) own verb args = lead_throw tree F p
     lead_turn_value h many act (Prim n) own verb args = lead_perform K tree F may refs many (calls.call K tree rec) h act _
     lead_turn_value h many act y own verb args = lead_data_answer K tree F may refs many (calls.call K tree rec) h act y verb args

@@ -12,3 +12,5 @@ mod Eval
 mod Nodes
 mod Settled
 mod Depths
+mod Laws
+mod Worlds

@@ -178,7 +178,7 @@ module _ {N W : Type 0} (K : Naming N W) (tree : List Node) (F : AtStops N) (may
   at_node : {H : ℕ → Answer N → Type 0} (many n : ℕ) (node : Node) (here : Scope N) → Has tree n node → Leads tree F many H (eval.step_found K tree rec n (Some node) here) → Leads tree F many H (eval.step_found K tree rec n (slice_get tree n) here)
   at_node {H = H} many n node here e h = subst (λ o. Leads tree F many H (eval.step_found K tree rec n o here)) (sym e) h
 
-  lead_expression : (many : ℕ) (s t : Scopes) (n : ℕ) (here : Scope N) → IsOpen s → Formed tree Expression n → Scoped tree s n t → Covers many here.nouns s → Leads tree F many (answer t) (eval.step_found K tree rec n (slice_get tree n) here)
+  pub lead_expression : (many : ℕ) (s t : Scopes) (n : ℕ) (here : Scope N) → IsOpen s → Formed tree Expression n → Scoped tree s n t → Covers many here.nouns s → Leads tree F many (answer t) (eval.step_found K tree rec n (slice_get tree n) here)
   unfolding eval.step_found eval.step
   lead_expression many s t n here o f (is_literal e) c = at_node many n _ here e (lead_answered K tree F may refs many s here _ c)
   lead_expression many s t n here o f (is_noun {name = x} {is_var = v} e b) c = at_node many n _ here e (lead_next tree F (lead_read many here.act v x (bound_in here.nouns x) (c x v b)) (λ y. lead_answered K tree F may refs many s here y c))
@@ -234,7 +234,7 @@ module _ {N W : Type 0} (K : Naming N W) (tree : List Node) (F : AtStops N) (may
   at_pattern : (many : ℕ) (t : Scopes) (n : ℕ) (node : Node) (v j : Value N) (here : Scope N) → Has tree n node → Leads tree F many (environment t) (eval.bind_found K tree rec (Some node) v j here) → Leads tree F many (environment t) (eval.bind_found K tree rec (slice_get tree n) v j here)
   at_pattern many t n node v j here e h = subst (λ o. Leads tree F many (environment t) (eval.bind_found K tree rec o v j here)) (sym e) h
 
-  lead_pattern : (many : ℕ) (s t : Scopes) (n : ℕ) (v j : Value N) (here : Scope N) → IsOpen s → Formed tree Pattern n → Scoped tree s n t → Covers many here.nouns s → Leads tree F many (environment t) (eval.bind_found K tree rec (slice_get tree n) v j here)
+  pub lead_pattern : (many : ℕ) (s t : Scopes) (n : ℕ) (v j : Value N) (here : Scope N) → IsOpen s → Formed tree Pattern n → Scoped tree s n t → Covers many here.nouns s → Leads tree F many (environment t) (eval.bind_found K tree rec (slice_get tree n) v j here)
   unfolding eval.bind_found eval.bind_step with_noun
   lead_pattern many s t n v j here o f (is_final {t = r} {name = x} {guard = g} e a b) c = at_pattern many t n _ v j here e (lead_bind tree F (answer r) (lead_guard many s r g here o (formed_parts tree Pattern n _ f e) a c)
       (λ k y l h. lead_next tree F (lead_coerce K tree F may refs k (calls.call K tree rec) again here.act y.value j v) (λ w. lead_gives tree F (environment t) _ (λ i m. covers_named i y.scope.nouns x (Fixed w y.value) false r b tt (covers_up k i m y.scope.nouns r h)))))

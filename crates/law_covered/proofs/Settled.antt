@@ -1,13 +1,15 @@
 -- What evaluation does with references keeps what things carry, where nothing is said of stops.
 use Rattle.std.proofs.Common.{◌≡◌, ℕ, zero, suc, Bool, true, false, List, [], ◌∷◌, Option, Some, None, length, arith}
-use Rattle.def_machine.specs.Values.{Words, Value, Broken, Naming, Coming}
-use Rattle.def_machine.specs.State.{Message, Note, Happened, Sends, Reacts, Settles, Settle, Change, Vat, Stop, Repeated, Act, ◌>>=◌, ◌>>◌, enqueue, send_out, alter, come, draw, draws, new_promise, new_message, new_lone_message}
+use Rattle.def_machine.specs.Values.{Words, Value, Broken, Naming, Coming, Mailing}
+use Rattle.def_machine.specs.State.{Message, Note, Ask, Shorten, Happened, Sends, Reacts, Settles, Views, ListCame, Settle, See, Change, Vat, Stop, Repeated, Act, ◌>>=◌, ◌>>◌, enqueue, send_out, new_gift, open_gift, mark, alter, come, mail, draw, draws, new_promise, new_message, new_lone_message}
 use Rattle.def_machine.specs.Refs.{settle, resolve, send, send_only, react}
+use Rattle.def_machine.specs.Arrive.{Incoming, arrive, notice}
 use Rattle.def_kernel.specs.declared.node.Node.{Node}
-use Rattle.law_machine.proofs.Walks.{Property, Holds, IsClosed, InRefs, InRefsUnder, InSettling, InSending, walk_then}
+use Rattle.law_machine.proofs.Walks.{Property, Holds, IsClosed, InRefs, InRefsUnder, InSettling, InSending, InArrive, InArriveUnder, walk_then}
+use Rattle.law_machine.proofs.ArriveWalk.{lists_by_line, walk_arrive, walk_notice}
 use Rattle.law_machine.proofs.RefsWalk.{settles_by_lines, walk_settle, walk_resolve, walk_send, walk_send_only, walk_react}
 use Rattle.law_covered.specs.Covered.{Carries}
-use Rattle.law_covered.proofs.Leads.{AtStops, Ends, Leads, Nothing, Refers, lead_less, lead_next, lead_give, lead_look, lead_stop, lead_tell, lead_spend}
+use Rattle.law_covered.proofs.Leads.{AtStops, Ends, Leads, Nothing, Refers, lead_less, lead_next, lead_give, lead_look, lead_stop, lead_tell, lead_spend, lead_list}
 
 abbrev LeadsBy : {N : Type 0} → List Node → AtStops N → Property N
 LeadsBy tree F A m = Leads tree F zero Nothing m
@@ -85,3 +87,43 @@ module _ {N W : Type 0} (K : Naming N W) (tree : List Node) (F : AtStops N) (any
     sends_only = λ n act x verb args. let h = walk_send_only (LeadsBy tree F) K closed in_refs in_refs_under settling sending act x verb args in lead_less tree F zero n (omega arith) h.after;
     reacts = λ n act x o near. let h = walk_react (LeadsBy tree F) K closed in_refs in_refs_under settling sending act x o near in lead_less tree F zero n (omega arith) h.after;
   }
+
+  -- ---- what arrives and what is noticed
+
+  by_gift : (n : N) (p i : ℕ) → Leads tree F zero Nothing (new_gift n p i)
+  unfolding new_gift
+  by_gift n p i = record { after = λ s c. ((omega arith, c.1), tt) }
+
+  by_open : (p i : ℕ) → Leads tree F zero Nothing (open_gift p i)
+  unfolding open_gift
+  by_open p i = record { after = λ s c. ((omega arith, c.1), tt) }
+
+  by_mark : (w : ℕ) → Leads tree F zero Nothing (mark w)
+  unfolding mark
+  by_mark w = record { after = λ s c. ((omega arith, c.1), tt) }
+
+  by_mail : (c : Mailing W) → Leads tree F zero Nothing (mail K c)
+  unfolding mail
+  by_mail d = record { after = λ s c. ((omega arith, c.1), tt) }
+
+  in_arrive : InArrive (LeadsBy tree F)
+  in_arrive = record {
+    asks = λ to p i n. record { after = by_out to (Ask p i n) };
+    shortens = λ to n c i. record { after = by_out to (Shorten n c i) };
+    gifts = λ n p i. record { after = by_gift n p i };
+    opens = λ p i. record { after = by_open p i };
+    marks = λ w. record { after = by_mark w };
+  }
+
+  in_arrive_under : InArriveUnder (LeadsBy tree F) K
+  in_arrive_under = record {
+    mails = λ c. record { after = by_mail c };
+    lists = λ vs. lists_by_line (LeadsBy tree F) K closed vs (record { after = lead_list tree F vs }) (λ k. record { after = lead_tell tree F (ListCame k vs) });
+    views = λ p q m h. walk_then (LeadsBy tree F) closed (record { after = lead_tell tree F (Views p q) }) (walk_then (LeadsBy tree F) closed (record { after = by_alter (See q) p }) h);
+  }
+
+  pub lead_arrive : (from : ℕ) (n : Note (Incoming N W)) → Leads tree F zero Nothing (arrive K from n)
+  lead_arrive from n = let h = walk_arrive (LeadsBy tree F) K closed in_refs in_refs_under settling in_arrive in_arrive_under from n in h.after
+
+  pub lead_notice : (w : ℕ) → Leads tree F zero Nothing (notice K w)
+  lead_notice w = let h = walk_notice (LeadsBy tree F) K closed in_refs in_refs_under settling in_arrive in_arrive_under w in h.after
