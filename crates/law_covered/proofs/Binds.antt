@@ -4,13 +4,12 @@ use Rattle.std.specs.Prelude.{slice_get, drop}
 use Rattle.def_machine.specs.State.{WhereSome}
 use Rattle.def_machine.specs.Free.{BoundNoun, of_all, of_option, of_node, of_found, bound_at}
 use Rattle.def_kernel.specs.declared.node.Node.{Node}
-use Rattle.def_kernel.specs.declared.node.Node.TheVariants.{Lit, Noun, Set, Def, Call, Sequence, If, Escape, Try, Finally, Hide, MatchBind, Object, Method, Matcher, Final, Var, Any, ListPattern, Via}
 use Rattle.def_kernel_form.specs.declared.shape.Kind.{Kind}
 use Rattle.def_kernel_form.specs.declared.shape.Kind.TheVariants.{Expression, Pattern, Member, Naming}
 use Rattle.law_kernel_form.specs.Trees.{Has}
 use Rattle.ev_scope.specs.Scopes.{is_bound_here, with_name_here}
 use Rattle.law_scoped.specs.Scoped.{Scopes, Scoped, MayScoped, AllScoped, is_literal, is_noun, is_set, is_def, is_call, is_sequence, is_choice, is_escape, is_escape_catch, is_try, is_finally, is_hide, is_match, is_object, is_method, is_matcher, is_final, is_var, is_any, is_list, is_via, has_none, has_one, no_more, one_more}
-use Rattle.law_covered.specs.Formed.{AllOf, FormedBy, FormedWithin}
+use Rattle.law_covered.specs.Formed.{AllOf, FormedWithin}
 use Rattle.law_covered.proofs.Parts.{within_parts, of_set, of_def, of_call, of_sequence, of_match, of_object, of_final, of_var, of_any, of_list, of_via}
 use Rattle.law_covered.proofs.Statics.{IsOpen, here, not_here, here_new, here_other, open_named, outer_named}
 
@@ -90,6 +89,7 @@ module _ (tree : List Node) where
 
   mutual
     unfolding of_node of_option of_all
+
     pub node_binds : (s t : Scopes) (n : ℕ) → Scoped tree s n t → IsOpen s → (h : ℕ) (kind : Kind) → FormedWithin tree h kind n → Binds s (bound_at tree h n) t
     node_binds s t n d o zero kind f = absurd f
     node_binds s t n (is_literal e) o (suc h) kind f = at_node h n _ s t e (binds_none s o)
@@ -98,7 +98,7 @@ module _ (tree : List Node) where
     node_binds s t n (is_def {p = i} {e = c} {exit = k} e j a p) o (suc h) kind f = let g = of_def tree h kind n f e in
         let x = may_binds s _ _ j o h g.1 in let y = node_binds _ _ _ a x.opened h Expression g.2 in let z = node_binds _ t _ p y.opened h Pattern g.0 in
         at_node h n _ s t e (subst (λ bs. Binds s bs t) (sym (append_assoc (bound_at tree h i) (of_option (λ e. bound_at tree h e) k) (bound_at tree h c)))
-            (binds_turned s t (of_option (λ e. bound_at tree h e) k ++ bound_at tree h c) (bound_at tree h i) (binds_both s _ t _ _ (binds_both s _ _ _ _ x y) z)))
+        (binds_turned s t (of_option (λ e. bound_at tree h e) k ++ bound_at tree h c) (bound_at tree h i) (binds_both s _ t _ _ (binds_both s _ _ _ _ x y) z)))
     node_binds s t n (is_call e r as') o (suc h) kind f = let g = of_call tree h kind n f e in
         let x = node_binds s _ _ r o h Expression g.0 in at_node h n _ s t e (binds_both s _ t _ _ x (all_binds _ t _ as' x.opened h Expression g.1))
     node_binds s t n (is_sequence e a) o (suc h) kind f = at_node h n _ s t e (all_binds s t _ a o h Expression (of_sequence tree h kind n f e))
@@ -113,7 +113,7 @@ module _ (tree : List Node) where
     node_binds s t n (is_object {p = i} {auditors = c} e a p m) o (suc h) kind f = let g = of_object tree h kind n f e in
         let x = all_binds s _ _ a o h Expression g.1 in let y = node_binds _ _ _ p x.opened h Naming g.0 in
         at_node h n _ s t e (subst (λ u. Binds s (bound_at tree h i ++ of_all (λ e. bound_at tree h e) c) u) (members_stay _ t _ m h g.2)
-            (binds_turned s _ (of_all (λ e. bound_at tree h e) c) (bound_at tree h i) (binds_both s _ _ _ _ x y)))
+        (binds_turned s _ (of_all (λ e. bound_at tree h e) c) (bound_at tree h i) (binds_both s _ _ _ _ x y)))
     node_binds s t n (is_method e a b) o (suc h) kind f = at_node h n _ s t e (binds_none s o)
     node_binds s t n (is_matcher e p b) o (suc h) kind f = at_node h n _ s t e (binds_none s o)
     node_binds s t n (is_final e g i) o (suc h) kind f = at_node h n _ s t e (binds_named s _ _ false _ (may_binds s _ _ g o h (of_final tree h kind n f e)) i)

@@ -1,22 +1,20 @@
 -- What covers scopes: environments with one noun more, and the captures of an object.
-use Rattle.std.proofs.Common.{◌≡◌, ℕ, ◌≤◌, ◌<◌, Bool, true, false, List, [], ◌∷◌, ◌++◌, Option, Some, None, refl, sym, ap, subst, ◌∙◌, ◌⊎◌, inl, inr, cond, length}
-use Rattle.std.specs.Prelude.{bytes_eq, drop, slice_get}
+use Rattle.std.proofs.Common.{◌≡◌, ℕ, Bool, true, false, List, [], ◌∷◌, Option, Some, None, refl, sym, ap, subst, ◌∙◌, ◌⊎◌, inl, inr, cond, length}
+use Rattle.std.specs.Prelude.{bytes_eq, drop}
 use Rattle.std.proofs.lemmas.Bool.{both_ways}
-use Rattle.def_machine.specs.Values.{Words, Value}
+use Rattle.def_machine.specs.Values.{Words}
 use Rattle.def_machine.specs.State.{Bound, Fixed, Slot, Binding, Scope}
 use Rattle.def_machine.specs.Free.{BoundNoun, same_words, has_words, Walk, walk, walk_all, free_nouns}
-use Rattle.def_machine.specs.Scopes.{bound_in, with_noun, captures, named, any_guard}
+use Rattle.def_machine.specs.Scopes.{bound_in, captures}
 use Rattle.def_kernel.specs.declared.node.Node.{Node}
-use Rattle.def_kernel.specs.declared.node.Node.TheVariants.{Final, Any}
-use Rattle.def_kernel_form.specs.declared.shape.Kind.TheVariants.{Member, Naming}
-use Rattle.law_kernel_form.specs.Trees.{Has}
+use Rattle.def_kernel_form.specs.declared.shape.Kind.TheVariants.{Member}
 use Rattle.ev_scope.specs.declared.scope.Binding.{Binding as Named}
 use Rattle.ev_scope.specs.Scopes as static
 use Rattle.ev_scope.specs.Scopes.{bound, is_bound_here, with_name_here}
-use Rattle.law_scoped.specs.Scoped.{Scopes, Scoped, AllScoped}
+use Rattle.law_scoped.specs.Scoped.{Scopes, AllScoped}
 use Rattle.law_covered.specs.Formed.{AllOf, Formed}
 use Rattle.law_covered.specs.Covered.{Stands, Covers}
-use Rattle.law_covered.proofs.Words.{same_is, is_same, other_not, has_more, has_either, bytes_is}
+use Rattle.law_covered.proofs.Words.{same_is, is_same, other_not, has_either, bytes_is}
 use Rattle.law_covered.proofs.Statics.{IsOpen, here, first_of, bound_is, in_more, bound_either}
 use Rattle.law_covered.proofs.Binds.{Told, Binds}
 use Rattle.law_covered.proofs.Frees.{Like, all_narrow}

@@ -1,13 +1,12 @@
 -- The evaluator of every depth.
-use Rattle.std.proofs.Common.{◌≡◌, ℕ, zero, suc, List, [], ◌∷◌, Option, Some, None, arith}
-use Rattle.std.specs.Prelude.{slice_get}
-use Rattle.def_machine.specs.Values.{Words, Value, Naming}
-use Rattle.def_machine.specs.State.{Stop, Deep, Astray, Vat, Act, ◌>>=◌, ◌>>◌}
+use Rattle.std.proofs.Common.{ℕ, zero, suc, List}
+use Rattle.def_machine.specs.Values.{Naming}
+use Rattle.def_machine.specs.State.{Deep, Astray, Vat}
 use Rattle.def_machine.specs.Calls as calls
 use Rattle.def_machine.specs.Eval as eval
 use Rattle.def_machine.specs.Scopes.{Evaluator}
 use Rattle.def_kernel.specs.declared.node.Node.{Node}
-use Rattle.law_covered.proofs.Leads.{AtStops, Leads, Nothing, Refers, MayStop, lead_next, lead_then, lead_look, lead_stop, lead_spend}
+use Rattle.law_covered.proofs.Leads.{AtStops, Refers, MayStop, lead_next, lead_then, lead_look, lead_stop, lead_spend}
 use Rattle.law_covered.proofs.Natives.{GoodCaller}
 use Rattle.law_covered.proofs.Eval.{GoodEvaluator, lead_call_one}
 use Rattle.law_covered.proofs.Nodes.{lead_expression, lead_pattern}

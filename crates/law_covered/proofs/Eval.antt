@@ -1,30 +1,23 @@
 -- Evaluation in an environment that covers the scopes of a node gives one that covers the scopes after it.
-use Rattle.std.proofs.Common.{◌≡◌, ℕ, zero, suc, ◌≤◌, ◌<◌, Bool, true, false, List, [], ◌∷◌, Option, Some, None, if◌then◌else◌, ◌==◌, refl, sym, ap, subst, ◌∙◌, ◌⊎◌, inl, inr, length, codes, arith}
+use Rattle.std.proofs.Common.{◌≡◌, ℕ, Bool, true, false, List, [], ◌∷◌, Option, Some, None, if◌then◌else◌, ◌==◌, refl, ◌⊎◌, inl, inr, length, arith}
 use Rattle.std.specs.Prelude.{slice_get}
-use Rattle.std.proofs.lemmas.Bool.{eqb-true}
-use Rattle.def_machine.specs.Values.{Words, Value, Null, Flag, Number, Letter, Text, Prim, Broken, Items, Ref, Naming, Spot, Own, Foreign, NoObject}
-use Rattle.def_machine.specs.State.{Bound, Fixed, Slot, Scope, Binding, Cell, View, Thing, Made, Ejector, Audition, Resolver, Vat, Stop, Fuel, Deep, Astray, Act, ◌>>=◌, ◌>>◌, for_some, give, throw, stop, eject}
-use Rattle.def_machine.specs.Free.{BoundNoun, bound_nouns, free_nouns}
+use Rattle.def_machine.specs.Values.{Words, Value, Null, Flag, Prim, Broken, Ref, Naming, Spot, Own, Foreign, NoObject}
+use Rattle.def_machine.specs.State.{Scope, View, Thing, Made, Ejector, Audition, Resolver, Vat, Astray, Act, ◌>>=◌, stop, eject}
 use Rattle.def_machine.specs.Scopes as scopes
-use Rattle.def_machine.specs.Perform as perform
 use Rattle.def_machine.specs.Calls as calls
 use Rattle.def_machine.specs.Eval as eval
 use Rattle.def_machine.specs.Scopes.{Answer, Answers, Evaluator, Caller, Body, Case, AuditionAsk, GetsForm, GetsGuard, Asks, NoAuditionAsk, bound_in, with_noun, named, members_of, method_of, matchers_of}
 use Rattle.def_kernel.specs.declared.node.Node.{Node}
-use Rattle.def_kernel.specs.declared.node.Node.TheVariants.{Object, Final, Any}
 use Rattle.def_kernel_form.specs.declared.shape.Kind.{Kind}
-use Rattle.def_kernel_form.specs.declared.shape.Kind.TheVariants.{Expression, Pattern, Member, Naming as AName}
-use Rattle.law_kernel_form.specs.Trees.{Has}
-use Rattle.law_scoped.specs.Scoped.{Scopes, Scoped, MayScoped, AllScoped, is_literal, is_noun, is_set, is_def, is_call, is_sequence, is_choice, is_escape, is_escape_catch, is_try, is_finally, is_hide, is_match, is_object, is_method, is_matcher, is_final, is_var, is_any, is_list, is_via, has_none, has_one, no_more, one_more}
+use Rattle.def_kernel_form.specs.declared.shape.Kind.TheVariants.{Expression, Pattern, Member}
+use Rattle.law_scoped.specs.Scoped.{Scopes, Scoped, AllScoped, no_more, one_more}
 use Rattle.law_covered.specs.Formed.{AllOf, Formed}
-use Rattle.law_covered.specs.Covered.{Stands, Covers, ThingCarries, Carries}
+use Rattle.law_covered.specs.Covered.{Covers, ThingCarries}
 use Rattle.law_covered.proofs.Statics.{IsOpen}
-use Rattle.law_covered.proofs.Parts.{formed_parts}
-use Rattle.law_covered.proofs.Binds.{node_binds, may_binds, all_binds, members_stay}
-use Rattle.law_covered.proofs.Captures.{covers_named, members_carry, Extends, covers_extended, extends_none, extends_more}
-use Rattle.law_covered.proofs.Members.{BodyStands, CaseStands, body_stands, cases_stand}
-use Rattle.law_covered.proofs.Leads.{AtStops, Leads, Nothing, Refers, MayStop, covers_up, stands_up, lead_bind, lead_next, lead_then, lead_give, lead_gives, lead_look, lead_throw, lead_eject, lead_stop, lead_some, lead_if, lead_ending, lead_ends, lead_more, lead_forget, lead_tell, lead_activation, lead_spend, lead_slot, lead_write, lead_thing, lead_kill, lead_look_thing, lead_look_slot}
-use Rattle.law_covered.proofs.Natives.{GoodCaller, IsSeen, lead_ended, lead_with_lines, lead_failed, lead_handed, lead_coerce, lead_make_list, lead_data_answer, lead_reply, lead_perform, lead_verdict, lead_ask_all, lead_ejector_answer, lead_resolver_answer}
+use Rattle.law_covered.proofs.Binds.{node_binds, all_binds}
+use Rattle.law_covered.proofs.Members.{CaseStands, body_stands, cases_stand}
+use Rattle.law_covered.proofs.Leads.{AtStops, Leads, Nothing, Refers, MayStop, covers_up, lead_bind, lead_next, lead_then, lead_give, lead_gives, lead_look, lead_throw, lead_eject, lead_stop, lead_if, lead_ending, lead_tell, lead_activation, lead_thing, lead_kill, lead_look_thing}
+use Rattle.law_covered.proofs.Natives.{GoodCaller, IsSeen, lead_ended, lead_with_lines, lead_make_list, lead_data_answer, lead_reply, lead_perform, lead_verdict, lead_ejector_answer, lead_resolver_answer}
 use Rattle.law_covered.proofs.Forms.{lead_form}
 
 abbrev pub answer : {N : Type 0} → Scopes → ℕ → Answer N → Type 0
@@ -68,7 +61,7 @@ module _ {N W : Type 0} (K : Naming N W) (tree : List Node) (F : AtStops N) (may
 
   lead_audition_live : (many : ℕ) (again : Caller N) → GoodCaller tree F again → (act : ℕ) (view : View N) → IsSeen tree view → (ask : AuditionAsk N) → Leads tree F many Nothing (calls.audition_live K tree again act view ask)
   unfolding calls.audition_live
-  lead_audition_live many again h act view seen GetsForm = lead_form K tree F may refs many act view.node seen.0 seen.1
+  lead_audition_live many again h act view seen GetsForm = lead_form K tree F may.fuel many act view.node seen.0 seen.1
   lead_audition_live many again h act view seen (GetsGuard x) = lead_next tree F (lead_look tree F _) (λ r. lead_reply K tree F may refs many again h act r)
   lead_audition_live many again h act view seen (Asks a) = lead_next tree F (lead_look tree F _) (λ y. lead_next tree F (lead_verdict K tree F may refs many again h act view seen a y) (λ b. lead_give tree F (Flag b)))
   lead_audition_live many again h act view seen NoAuditionAsk = lead_throw tree F _
@@ -113,8 +106,8 @@ module _ {N W : Type 0} (K : Naming N W) (tree : List Node) (F : AtStops N) (may
     lead_match_all many s [] v here f c = lead_throw tree F _
     lead_match_all many s (m ∷ ms) v here f c = let rest = lead_match_all many s ms v here f.1 c in
         lead_next tree F (lead_ejector many here.act) (λ j. lead_ending tree F (environment f.0.inner) (good.pattern many ([] ∷ s) f.0.inner m.pattern v (Ref (K.object j)) here tt f.0.is_pattern f.0.pattern c)
-            (λ k inner l g. lead_leave j (lead_bind tree F (answer f.0.end) (good.expression k f.0.inner f.0.end m.body inner (opened tree ([] ∷ s) f.0.inner Pattern m.pattern tt f.0.is_pattern f.0.pattern) f.0.is_expression f.0.body g) (λ i x m' h. lead_give tree F x.value)))
-            (λ p. lead_leave j (lead_throw tree F p)) (λ n w. lead_leave j (lead_unless (n == j) n w (lead_then tree F (lead_tell tree F _) rest))))
+        (λ k inner l g. lead_leave j (lead_bind tree F (answer f.0.end) (good.expression k f.0.inner f.0.end m.body inner (opened tree ([] ∷ s) f.0.inner Pattern m.pattern tt f.0.is_pattern f.0.pattern) f.0.is_expression f.0.body g) (λ i x m' h. lead_give tree F x.value)))
+        (λ p. lead_leave j (lead_throw tree F p)) (λ n w. lead_leave j (lead_unless (n == j) n w (lead_then tree F (lead_tell tree F _) rest))))
 
     lead_try_matchers : (many : ℕ) (s : Scopes) (ms : List Case) (verb : Words) (args : List (Value N)) (here : Scope N) → AllOf (CaseStands tree s) ms → Covers many here.nouns s → Leads tree F many Nothing (calls.try_matchers K tree rec ms verb args here)
     unfolding calls.try_matchers

@@ -2,18 +2,17 @@
 use Rattle.std.proofs.Common.{◌≡◌, ℕ, zero, suc, List, [], ◌∷◌, ◌++◌, Option, Some, None, refl, sym, subst, length, append_assoc}
 use Rattle.std.specs.Prelude.{slice_get}
 use Rattle.def_machine.specs.Values.{Words, Value, Text, Naming}
-use Rattle.def_machine.specs.State.{Act, ◌>>=◌}
-use Rattle.def_machine.specs.Form.{Item, Begin, End, Word, Fact, literal_value, group, headed, forms, form_option, exit_form, caught_form, node_form, form_found, form_at, items_of}
-use Rattle.def_machine.specs.Perform as perform
+use Rattle.def_machine.specs.State.{Vat, Fuel}
+use Rattle.def_machine.specs.Form.{Item, End, Word, Fact, literal_value, group, headed, forms, form_option, exit_form, caught_form, node_form, form_found, form_at, items_of}
 use Rattle.def_machine.specs.Calls as calls
 use Rattle.def_kernel.specs.declared.node.Literal.{Literal}
 use Rattle.def_kernel.specs.declared.node.Node.{Node}
 use Rattle.def_kernel.specs.declared.node.Node.TheVariants.{Lit, Noun, Set, Def, Call, Sequence, If, Escape, Try, Finally, Hide, MatchBind, Object, Method, Matcher, Final, Var, Any, ListPattern, Via}
 use Rattle.law_kernel_form.specs.Trees.{Has}
-use Rattle.law_covered.proofs.Leads.{AtStops, Leads, Nothing, Refers, MayStop, lead_next}
-use Rattle.law_covered.proofs.Natives.{lead_make_list}
+use Rattle.law_covered.proofs.Leads.{AtStops, Leads, Nothing, lead_next}
+use Rattle.law_covered.proofs.Natives.{list_leads}
 
-module _ {N W : Type 0} (K : Naming N W) (tree : List Node) (F : AtStops N) (may : MayStop F) (refs : Refers K tree F) (many act : ℕ) where
+module _ {N W : Type 0} (K : Naming N W) (tree : List Node) (F : AtStops N) (fuel : (s : Vat N) → F Fuel s) (many act : ℕ) where
   abbrev Built : List Item → List (List (Value N)) → Type 0
   Built is fs = Leads tree F many Nothing (calls.build K tree act is fs)
 
@@ -37,8 +36,8 @@ module _ {N W : Type 0} (K : Naming N W) (tree : List Node) (F : AtStops N) (may
 
   built_end : (rest : List Item) (fs : List (List (Value N))) (f g : List (Value N)) → ((x : List (Value N)) → Built rest (x ∷ fs)) → Built (End ∷ rest) (g ∷ f ∷ fs)
   unfolding calls.build calls.with_item
-  built_end [] fs f g h = lead_make_list K tree F may refs many act g
-  built_end (i ∷ rest) fs f g h = lead_next tree F (lead_make_list K tree F may refs many act g) (λ v. h (f ++ v ∷ []))
+  built_end [] fs f g h = list_leads K tree F fuel many act g
+  built_end (i ∷ rest) fs f g h = lead_next tree F (list_leads K tree F fuel many act g) (λ v. h (f ++ v ∷ []))
 
   fits_group : {is : List Item} → Fits is → Fits (group is)
   unfolding group calls.build
@@ -113,7 +112,7 @@ module _ {N W : Type 0} (K : Naming N W) (tree : List Node) (F : AtStops N) (may
 
   built_group : (is : List Item) → Fits is → Built (group is) []
   unfolding group calls.build
-  built_group is h = h.goes (End ∷ []) [] (λ g. lead_make_list K tree F may refs many act g) []
+  built_group is h = h.goes (End ∷ []) [] (λ g. list_leads K tree F fuel many act g) []
 
   built_bracketed : (is : List Item) → Bracketed is → Built is []
   built_bracketed is b = subst (λ x. Built x []) (sym b.is_group) (built_group b.inside b.fits)

@@ -1,7 +1,6 @@
 -- What stands in scopes stands in those of its free nouns alone.
-use Rattle.std.proofs.Common.{◌≡◌, ℕ, zero, suc, Bool, true, false, ◌||◌, List, [], ◌∷◌, ◌++◌, Option, Some, None, refl, sym, ap, subst, ◌∙◌, ◌⊎◌, inl, inr}
+use Rattle.std.proofs.Common.{◌≡◌, ℕ, zero, suc, Bool, true, false, ◌||◌, List, [], ◌∷◌, ◌++◌, Option, Some, None, refl, sym, subst, ◌∙◌, ◌⊎◌, inl, inr}
 use Rattle.std.specs.Prelude.{slice_get}
-use Rattle.std.proofs.lemmas.Bool.{both_ways}
 use Rattle.def_machine.specs.Values.{Words}
 use Rattle.def_machine.specs.State.{WhereSome}
 use Rattle.def_machine.specs.Free.{has_words, Walk, uses, binds, walk_all, walk_option, inside, walk_object, walk_node, walk_found, walk}
@@ -12,10 +11,10 @@ use Rattle.def_kernel_form.specs.declared.shape.Kind.TheVariants.{Expression, Pa
 use Rattle.law_kernel_form.specs.Trees.{Has}
 use Rattle.ev_scope.specs.Scopes.{bound, is_bound_here, with_name_here}
 use Rattle.law_scoped.specs.Scoped.{Scopes, Scoped, MayScoped, AllScoped, is_literal, is_noun, is_set, is_def, is_call, is_sequence, is_choice, is_escape, is_escape_catch, is_try, is_finally, is_hide, is_match, is_object, is_method, is_matcher, is_final, is_var, is_any, is_list, is_via, has_none, has_one, no_more, one_more}
-use Rattle.law_covered.specs.Formed.{AllOf, FormedBy, FormedWithin}
+use Rattle.law_covered.specs.Formed.{AllOf, FormedWithin}
 use Rattle.law_covered.proofs.Parts.{of_set, of_def, of_call, of_sequence, of_choice, of_escape, of_try, of_finally, of_hide, of_match, of_object, of_method, of_matcher, of_final, of_var, of_any, of_list, of_via}
 use Rattle.law_covered.proofs.Statics.{IsOpen, here, not_here, here_not, here_new, here_other, bound_new, bound_other, open_named}
-use Rattle.law_covered.proofs.Words.{has_more, has_first, has_either, has_left, has_end, same_or_not}
+use Rattle.law_covered.proofs.Words.{has_more, has_either, has_left, has_end, same_or_not}
 
 -- ---- what was bound or used stays so
 
@@ -179,6 +178,7 @@ module _ (tree : List Node) (F : List Words) where
 
   mutual
     unfolding walk_node walk_object walk_all walk_option inside binds
+
     node_narrow : (s t : Scopes) (n : ℕ) → Scoped tree s n t → (d : ℕ) (kind : Kind) → FormedWithin tree d kind n → (w : Walk) (r : Scopes) → Like F w.bound s r → Within F (walk tree d n w) → Narrowed (λ u. Scoped tree r n u) F (walk tree d n w).bound t
     node_narrow s t n k zero kind f w r l = absurd f
     node_narrow s t n (is_literal e) (suc d) kind f w r l = found (λ u. Scoped tree r n u) t d n _ w e (λ i. record { scopes = r; stands = is_literal e; like = l })

@@ -1,8 +1,8 @@
 -- Evaluation of an accepted tree keeps what the objects of a vat carry.
-use Rattle.std.proofs.Common.{◌≡◌, ℕ, zero, Bool, true, false, List, [], ◌∷◌, Option, Some, None, refl, sym, ap, subst, ◌∙◌, ◌⊎◌, inl, inr, length, arith}
+use Rattle.std.proofs.Common.{◌≡◌, ℕ, zero, Bool, true, false, List, [], ◌∷◌, Some, None, refl, sym, subst, ◌⊎◌, inl, inr, length, arith}
 use Rattle.std.specs.Prelude.{is_some}
-use Rattle.def_machine.specs.Values.{Words, Value, Ref, Name, Naming, Spot, Own, Foreign, NoObject, naming, numbering}
-use Rattle.def_machine.specs.State.{Binding, Vat, Stop, Done, Gives, Throws, Ejects, Stops}
+use Rattle.def_machine.specs.Values.{Words, Value, Naming, Spot, Own, Foreign, NoObject, naming, numbering}
+use Rattle.def_machine.specs.State.{Binding, Vat, Done, Gives, Throws, Ejects, Stops}
 use Rattle.def_machine.specs.Scopes.{Evaluator, bound_in}
 use Rattle.def_machine.specs.Calls as calls
 use Rattle.def_machine.specs.Eval.{evaluator}
@@ -14,7 +14,7 @@ use Rattle.ev_scope.specs.Scopes as static
 use Rattle.ev_scope.specs.Scopes.{bound, with_name, with_given, first_fault}
 use Rattle.law_scoped.proofs.Accepted.{accepted_scoped}
 use Rattle.law_covered.specs.Formed.{AllOf}
-use Rattle.law_covered.specs.Covered.{Stands, Covers, Carries}
+use Rattle.law_covered.specs.Covered.{Stands, Covers}
 use Rattle.law_covered.specs.Laws.{AreGiven, EndsCarrying, EvaluationCarries, EvaluationsCarry}
 use Rattle.law_covered.proofs.Parts.{tree_formed}
 use Rattle.law_covered.proofs.Statics.{bound_either}

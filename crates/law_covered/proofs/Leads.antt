@@ -1,11 +1,10 @@
 -- What a vat does from a state whose things carry their captures ends in such a state, with no fewer var slots.
-use Rattle.std.proofs.Common.{◌≡◌, ℕ, zero, suc, ◌+◌, ◌≤◌, ◌<◌, Bool, true, false, List, [], ◌∷◌, ◌++◌, Option, Some, None, if◌then◌else◌, refl, sym, subst, ◌∙◌, length, arith, length-append}
+use Rattle.std.proofs.Common.{◌≡◌, ℕ, zero, suc, ◌≤◌, ◌<◌, Bool, true, false, List, [], ◌∷◌, ◌++◌, Option, Some, None, if◌then◌else◌, refl, sym, subst, length, arith}
 use Rattle.std.specs.Prelude.{slice_get, nat_le}
 use Rattle.def_machine.specs.Values.{Words, Value, Naming, Broken}
-use Rattle.def_machine.specs.State.{Bound, Fixed, Slot, Binding, Cell, Thing, Made, Ejector, Audition, Resolver, Happened, Vat, Stop, Fuel, Deep, Repeated, Astray, Done, Gives, Throws, Ejects, Stops, Act, ◌>>=◌, ◌>>◌, and_then, end_by, ending, for_some, give, throw, stop, eject, look, tell, spend, spent, new_activation, new_thing, change, dead, kill, new_slot, holding, write_slot, new_list, new_promise}
+use Rattle.def_machine.specs.State.{Bound, Fixed, Slot, Binding, Cell, Thing, Made, Ejector, Audition, Resolver, Happened, Vat, Stop, Fuel, Deep, Astray, Done, Gives, Throws, Ejects, Stops, Act, ◌>>=◌, ◌>>◌, and_then, end_by, ending, for_some, give, throw, stop, eject, look, tell, spend, spent, new_activation, new_thing, change, dead, kill, new_slot, holding, write_slot, new_list, new_promise}
 use Rattle.def_machine.specs.Refs.{settle, resolve, send, send_only, react}
 use Rattle.def_machine.specs.Scopes.{bound_in}
-use Rattle.def_machine.specs.Calls.{leave}
 use Rattle.def_kernel.specs.declared.node.Node.{Node}
 use Rattle.law_scoped.specs.Scoped.{Scopes}
 use Rattle.law_covered.specs.Formed.{AllOf}
@@ -91,6 +90,11 @@ length_change f (suc n) (x ∷ xs) = let e = length_change f n xs in grind (arit
 one_longer : {A : Type 0} (xs : List A) (x : A) → length (xs ++ x ∷ []) ≡ suc (length xs)
 one_longer [] x = refl
 one_longer (y ∷ xs) x = let e = one_longer xs x in grind (arith, e)
+
+pub slot_there : {A : Type 0} (xs : List A) (i : ℕ) → slice_get xs i ≡ None → i < length xs → ⊥
+slot_there [] i e l = omega arith
+slot_there (x ∷ xs) zero e l = cc
+slot_there (x ∷ xs) (suc i) e l = slot_there xs i e (omega arith)
 
 -- ---- one thing after another
 
@@ -242,11 +246,6 @@ module _ {N : Type 0} (tree : List Node) (F : AtStops N) where
       go : (s : Vat N) → Kept tree n s → (o : Option (Thing N)) → slice_get s.things i ≡ o → Ends tree F (length s.slots) H (f o s)
       go s c None e = x s e
       go s c (Some t) e = (y (length s.slots) t c.0 (all_at _ s.things i t c.1 e)).after s (omega arith, c.1)
-
-  slot_there : {A : Type 0} (xs : List A) (i : ℕ) → slice_get xs i ≡ None → i < length xs → ⊥
-  slot_there [] i e l = omega arith
-  slot_there (x ∷ xs) zero e l = cc
-  slot_there (x ∷ xs) (suc i) e l = slot_there xs i e (omega arith)
 
   -- a slot whose number is one of so many is there
   pub lead_look_slot : {B : Type 0} {n : ℕ} {H : ℕ → B → Type 0} (i : ℕ) (f : Option (Cell N) → Act N B) → i < n → ((c : Cell N) → Leads tree F n H (f (Some c))) → Leads tree F n H (look (λ s. slice_get s.slots i) >>= f)

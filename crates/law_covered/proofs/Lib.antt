@@ -14,3 +14,4 @@ mod Settled
 mod Depths
 mod Laws
 mod Worlds
+mod Finds

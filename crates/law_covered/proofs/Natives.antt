@@ -1,7 +1,7 @@
 -- What guards, data, primitives and auditors do.
 use Rattle.std.proofs.Common.{ℕ, zero, suc, Bool, true, false, List, [], ◌∷◌, Option, Some, None}
-use Rattle.def_machine.specs.Values.{Words, Value, Null, Flag, Text, Prim, Broken, Items, Ref, Naming}
-use Rattle.def_machine.specs.State.{View, Thing, Audition, Standing, Unsettled, Stop, Fuel, Astray, Act, ◌>>=◌, ◌>>◌, give, throw, stop, spend, new_thing}
+use Rattle.def_machine.specs.Values.{Words, Value, Flag, Text, Prim, Items, Ref, Naming}
+use Rattle.def_machine.specs.State.{View, Audition, Standing, Unsettled, Vat, Fuel, Act, spend, new_thing}
 use Rattle.def_machine.specs.Refs.{Place, Near}
 use Rattle.def_machine.specs.Native.{Reply, Says, Writes, Lists, Iterates, Fails, Guard, Asked, MakesList, Ranges, Same, Compares, Loops, SendsTo, CallsTo, MakesPromise, Breaks, Tells, Whens, ThrowsIt, IsStamped, Coerces, AddsNull, NoMethod}
 use Rattle.def_machine.specs.Scopes as scopes
@@ -36,9 +36,32 @@ module _ {N : Type 0} (tree : List Node) (F : AtStops N) where
   unfolding scopes.with_lines
   lead_with_lines act x verb args m h = search (leads, lead_ended) depth 14
 
-module _ {N W : Type 0} (K : Naming N W) (tree : List Node) (F : AtStops N) (may : MayStop F) (refs : Refers K tree F) where
+module _ {N W : Type 0} (K : Naming N W) (tree : List Node) (F : AtStops N) (fuel : (s : Vat N) → F Fuel s) where
   spends : {n : ℕ} (i : ℕ) → Leads tree F n Nothing (spend i)
-  spends i = lead_spend tree F i may.fuel
+  spends i = lead_spend tree F i fuel
+
+  store_leads : (many act : ℕ) (vs : List (Value N)) → Leads tree F many Nothing (perform.store K tree act vs)
+  unfolding perform.store
+  store_leads many act vs = search (leads, spends) depth 14
+
+  pub list_leads : (many act : ℕ) (vs : List (Value N)) → Leads tree F many Nothing (perform.make_list K tree act vs)
+  unfolding perform.make_list
+  list_leads many act vs = search (leads, store_leads) depth 14
+
+  spell_leads : (many : ℕ) (t : Words) → Leads tree F many Nothing (perform.spell K tree t)
+  unfolding perform.spell
+  spell_leads many t = search (leads, spends) depth 14
+
+  text_leads : (many : ℕ) (t : Words) → Leads tree F many Nothing (perform.write_text K tree t)
+  unfolding perform.write_text
+  text_leads many t = search (leads, spell_leads) depth 14
+
+module _ {N W : Type 0} (K : Naming N W) (tree : List Node) (F : AtStops N) (may : MayStop F) (refs : Refers K tree F) where
+  pub lead_make_list : (many act : ℕ) (vs : List (Value N)) → Leads tree F many Nothing (perform.make_list K tree act vs)
+  lead_make_list many act vs = list_leads K tree F may.fuel many act vs
+
+  lead_write_text : (many : ℕ) (t : Words) → Leads tree F many Nothing (perform.write_text K tree t)
+  lead_write_text many t = text_leads K tree F may.fuel many t
 
   pub lead_fail_by : (many : ℕ) → {A : Type 0} → {H : ℕ → A → Type 0} → (x1 : Caller N) → GoodCaller tree F x1 → (x2 : ℕ) → (x3 : Value N) → (x4 : Words) → (x5 : Bool) → Leads tree F many H (perform.fail_by K tree {A = A} x1 x2 x3 x4 x5)
   unfolding perform.fail_by
@@ -72,22 +95,6 @@ module _ {N W : Type 0} (K : Naming N W) (tree : List Node) (F : AtStops N) (may
   lead_coerce many again h1 act (Prim n) j x = search (leads, lead_coerce_native) depth 14
   lead_coerce many again h1 act (Ref n) j x = search (leads, lead_coerce_near) depth 14
   lead_coerce many again h1 act _ j x = search (leads) depth 14
-
-  pub lead_store : (many : ℕ) → (x1 : ℕ) → (x2 : List (Value N)) → Leads tree F many Nothing (perform.store K tree x1 x2)
-  unfolding perform.store
-  lead_store many act vs = search (leads, spends) depth 14
-
-  pub lead_make_list : (many : ℕ) → (x1 : ℕ) → (x2 : List (Value N)) → Leads tree F many Nothing (perform.make_list K tree x1 x2)
-  unfolding perform.make_list
-  lead_make_list many act vs = search (leads, lead_store) depth 14
-
-  pub lead_spell : (many : ℕ) → (x1 : Words) → Leads tree F many Nothing (perform.spell K tree x1)
-  unfolding perform.spell
-  lead_spell many t = search (leads, spends) depth 14
-
-  pub lead_write_text : (many : ℕ) → (x1 : Words) → Leads tree F many Nothing (perform.write_text K tree x1)
-  unfolding perform.write_text
-  lead_write_text many t = search (leads, lead_spell) depth 14
 
   pub lead_iterate : (many : ℕ) → (x1 : Caller N) → GoodCaller tree F x1 → (x2 : ℕ) → (x3 : Value N) → (x4 : ℕ) → (x5 : List (Value N)) → Leads tree F many Nothing (perform.iterate K tree x1 x2 x3 x4 x5)
   unfolding perform.iterate
@@ -212,4 +219,3 @@ module _ {N W : Type 0} (K : Naming N W) (tree : List Node) (F : AtStops N) (may
   lead_resolver_answer many p (Resolves x) = search (leads, lead_where_unresolved, refs.resolves) depth 14
   lead_resolver_answer many p (Smashes x) = search (leads, lead_smash) depth 14
   lead_resolver_answer many p NoResolverAsk = search (leads) depth 14
-

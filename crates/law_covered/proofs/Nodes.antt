@@ -1,9 +1,9 @@
 -- Each node, in an environment that covers the scopes in which it stands.
-use Rattle.std.proofs.Common.{◌≡◌, ℕ, zero, suc, ◌≤◌, ◌<◌, Bool, true, false, List, [], ◌∷◌, Option, Some, None, if◌then◌else◌, ◌==◌, refl, sym, ap, subst, ◌∙◌, length, codes, arith}
+use Rattle.std.proofs.Common.{◌≡◌, ℕ, ◌<◌, Bool, true, false, List, [], ◌∷◌, Option, Some, None, if◌then◌else◌, ◌==◌, refl, sym, subst, length, codes, arith}
 use Rattle.std.specs.Prelude.{slice_get}
 use Rattle.std.proofs.lemmas.Bool.{eqb-true}
 use Rattle.def_machine.specs.Values.{Words, Value, Null, Flag, Text, Items, Ref, Naming}
-use Rattle.def_machine.specs.State.{Bound, Fixed, Slot, Scope, Binding, Made, Act, ◌>>=◌, ◌>>◌, for_some, give, stop, Astray}
+use Rattle.def_machine.specs.State.{Bound, Fixed, Slot, Scope, Made, Act, ◌>>=◌, for_some, give, stop, Astray}
 use Rattle.def_machine.specs.Free.{BoundNoun, bound_nouns, free_nouns}
 use Rattle.def_machine.specs.Scopes as scopes
 use Rattle.def_machine.specs.Perform as perform
@@ -11,11 +11,10 @@ use Rattle.def_machine.specs.Calls as calls
 use Rattle.def_machine.specs.Eval as eval
 use Rattle.def_machine.specs.Scopes.{Answer, Answers, Evaluator, bound_in, with_noun, named, members_of}
 use Rattle.def_kernel.specs.declared.node.Node.{Node}
-use Rattle.def_kernel.specs.declared.node.Node.TheVariants.{Object, Final, Any}
-use Rattle.def_kernel_form.specs.declared.shape.Kind.{Kind}
+use Rattle.def_kernel.specs.declared.node.Node.TheVariants.{Object}
 use Rattle.def_kernel_form.specs.declared.shape.Kind.TheVariants.{Expression, Pattern, Member, Naming as AName}
 use Rattle.law_kernel_form.specs.Trees.{Has}
-use Rattle.law_scoped.specs.Scoped.{Scopes, Scoped, MayScoped, AllScoped, is_literal, is_noun, is_set, is_def, is_call, is_sequence, is_choice, is_escape, is_escape_catch, is_try, is_finally, is_hide, is_match, is_object, is_method, is_matcher, is_final, is_var, is_any, is_list, is_via, has_none, has_one, no_more, one_more}
+use Rattle.law_scoped.specs.Scoped.{Scopes, Scoped, MayScoped, AllScoped, is_literal, is_noun, is_set, is_def, is_call, is_sequence, is_choice, is_escape, is_escape_catch, is_try, is_finally, is_hide, is_match, is_object, is_method, is_matcher, is_final, is_var, is_any, is_list, is_via, has_none, has_one}
 use Rattle.def_machine.specs.State.{WhereSome}
 use Rattle.law_covered.specs.Formed.{AllOf, Formed}
 use Rattle.law_covered.specs.Covered.{Stands, Covers, ThingCarries}
@@ -24,7 +23,7 @@ use Rattle.law_covered.proofs.Parts.{formed_parts}
 use Rattle.law_covered.proofs.Binds.{node_binds, may_binds, members_stay}
 use Rattle.law_covered.proofs.Captures.{covers_named, members_carry, Extends, covers_extended, extends_none, extends_more}
 use Rattle.law_covered.proofs.Leads.{AtStops, Leads, Nothing, Refers, MayStop, covers_up, stands_up, lead_bind, lead_next, lead_then, lead_give, lead_gives, lead_look, lead_throw, lead_eject, lead_ending, lead_ends, lead_more, lead_forget, lead_tell, lead_slot, lead_write, lead_thing, lead_look_slot}
-use Rattle.law_covered.proofs.Natives.{GoodCaller, IsSeen, lead_failed, lead_handed, lead_coerce, lead_ask_all}
+use Rattle.law_covered.proofs.Natives.{GoodCaller, lead_failed, lead_handed, lead_coerce, lead_ask_all}
 use Rattle.law_covered.proofs.Eval.{answer, answers, environment, GoodEvaluator, opened, opened_all, lead_answered, lead_ejector, lead_leave, lead_unless, lead_all, lead_last, lead_bind_all, lead_inside}
 
 module _ (tree : List Node) where
@@ -151,7 +150,7 @@ module _ {N W : Type 0} (K : Naming N W) (tree : List Node) (F : AtStops N) (may
   lead_unmatched many [] here = lead_gives tree F _ here (λ k l. extends_none k here.nouns)
   lead_unmatched many (b ∷ bs) here = lead_bind tree F (λ k o. Stands k b.is_var b.noun (Some o)) (lead_unmatched_noun many here.act b.is_var b.noun)
       (λ k o l g. lead_more tree F (λ i (after : Scope N). Extends i bs (record { noun = b.noun; bound = o } ∷ here.nouns) after.nouns) (λ i after m e. extends_more i b o bs here.nouns after.nouns (stands_up k i m b.is_var b.noun (Some o) g) e)
-          (lead_unmatched k bs (with_noun b.noun o here)))
+      (lead_unmatched k bs (with_noun b.noun o here)))
 
   lead_not_matched : (many : ℕ) (s t : Scopes) (p : ℕ) (here : Scope N) (v : Value N) → IsOpen s → Formed tree Pattern p → Scoped tree s p t → Covers many here.nouns s → Leads tree F many (answer t) (eval.not_matched K tree p here v)
   unfolding eval.not_matched bound_nouns
@@ -170,8 +169,8 @@ module _ {N W : Type 0} (K : Naming N W) (tree : List Node) (F : AtStops N) (may
   unfolding calls.make_object calls.object_as calls.object_in calls.object_made calls.view_of
   lead_make_object many s u t id p auditors members vs here o e f g d a c = lead_next tree F (lead_ask_all K tree F may refs many (calls.call K tree rec) again here.act _ (_, e) vs)
       (λ stamps. lead_next tree F (lead_look tree F _) (λ n. let after : Scope N = named (slice_get tree p) (Ref (K.object n)) here in let cu : Covers many after.nouns u = named_covers tree many s u p (Ref (K.object n)) here f d c in
-          lead_then tree F (lead_thing tree F (Made id (scopes.captures after (free_nouns tree members)) stamps) (λ k l. object_carries tree k u t id p auditors members after stamps (opened tree s u AName p o f d) e g a (covers_up many k l after.nouns u cu)))
-          (lead_then tree F (lead_tell tree F _) (lead_answered K tree F may refs many t after (Ref (K.object n)) (subst (λ z. Covers many after.nouns z) (members_stay tree u t members a (length tree) g) cu)))))
+      lead_then tree F (lead_thing tree F (Made id (scopes.captures after (free_nouns tree members)) stamps) (λ k l. object_carries tree k u t id p auditors members after stamps (opened tree s u AName p o f d) e g a (covers_up many k l after.nouns u cu)))
+      (lead_then tree F (lead_tell tree F _) (lead_answered K tree F may refs many t after (Ref (K.object n)) (subst (λ z. Covers many after.nouns z) (members_stay tree u t members a (length tree) g) cu)))))
 
   -- ---- expressions
 

@@ -1,11 +1,10 @@
 -- What evaluation does with references keeps what things carry, where nothing is said of stops.
-use Rattle.std.proofs.Common.{◌≡◌, ℕ, zero, suc, Bool, true, false, List, [], ◌∷◌, Option, Some, None, length, arith}
-use Rattle.def_machine.specs.Values.{Words, Value, Broken, Naming, Coming, Mailing}
-use Rattle.def_machine.specs.State.{Message, Note, Ask, Shorten, Happened, Sends, Reacts, Settles, Views, ListCame, Settle, See, Change, Vat, Stop, Repeated, Act, ◌>>=◌, ◌>>◌, enqueue, send_out, new_gift, open_gift, mark, alter, come, mail, draw, draws, new_promise, new_message, new_lone_message}
-use Rattle.def_machine.specs.Refs.{settle, resolve, send, send_only, react}
+use Rattle.std.proofs.Common.{ℕ, zero, List, Option, Some, None, length, arith}
+use Rattle.def_machine.specs.Values.{Broken, Naming, Coming, Mailing}
+use Rattle.def_machine.specs.State.{Message, Note, Ask, Shorten, Sends, Reacts, Settles, Views, ListCame, Settle, See, Change, Vat, Stop, Repeated, enqueue, send_out, new_gift, open_gift, mark, alter, come, mail, draw, draws, new_promise, new_message, new_lone_message}
 use Rattle.def_machine.specs.Arrive.{Incoming, arrive, notice}
 use Rattle.def_kernel.specs.declared.node.Node.{Node}
-use Rattle.law_machine.proofs.Walks.{Property, Holds, IsClosed, InRefs, InRefsUnder, InSettling, InSending, InArrive, InArriveUnder, walk_then}
+use Rattle.law_machine.proofs.Walks.{Property, IsClosed, InRefs, InRefsUnder, InSettling, InSending, InArrive, InArriveUnder, walk_then}
 use Rattle.law_machine.proofs.ArriveWalk.{lists_by_line, walk_arrive, walk_notice}
 use Rattle.law_machine.proofs.RefsWalk.{settles_by_lines, walk_settle, walk_resolve, walk_send, walk_send_only, walk_react}
 use Rattle.law_covered.specs.Covered.{Carries}

@@ -1,9 +1,8 @@
 -- In every world of a run of accepted programs the objects of each vat carry their captures.
-use Rattle.std.proofs.Common.{◌≡◌, ℕ, zero, suc, List, [], ◌∷◌, ◌++◌, Option, Some, None, refl, sym, ap, subst, ◌∙◌, length, arith}
+use Rattle.std.proofs.Common.{◌≡◌, ℕ, zero, suc, List, [], ◌∷◌, Option, Some, None, sym, ap, subst, ◌∙◌, length, arith}
 use Rattle.std.specs.Prelude.{slice_get}
-use Rattle.def_machine.specs.Values.{Words, Value, Name, Root, Broken, Naming}
-use Rattle.def_machine.specs.State.{Binding, Message, Finished, Threw, Took, Vat, Done, Gives, Act, ◌>>=◌, ◌>>◌, for_some, give, tell}
-use Rattle.def_machine.specs.Refs.{settle, resolve}
+use Rattle.def_machine.specs.Values.{Words, Value, Name, Naming}
+use Rattle.def_machine.specs.State.{Binding, Message, Vat, Gives, Act}
 use Rattle.def_machine.specs.Eval as eval
 use Rattle.def_kernel.specs.declared.node.Node.{Node}
 use Rattle.law_machine.specs.Steps.{Step, Opens as Starts, Takes, Receives, Notices, does}
@@ -17,7 +16,7 @@ use Rattle.ev_scope.specs.Scopes.{first_fault}
 use Rattle.law_covered.specs.Covered.{Carries}
 use Rattle.law_covered.specs.Laws.{AreGiven, EndsCarrying}
 use Rattle.law_covered.specs.Runs.{IsAccepted, AllCarry, AllCarryInRuns}
-use Rattle.law_covered.proofs.Leads.{Leads, Nothing, Refers, lead_next, lead_then, lead_some, lead_give, lead_ends, lead_stop, lead_tell, lead_activation}
+use Rattle.law_covered.proofs.Leads.{Leads, Nothing, lead_next, lead_then, lead_some, lead_give, lead_ends, lead_stop, lead_tell, lead_activation}
 use Rattle.law_covered.proofs.Settled.{lead_arrive, lead_notice}
 use Rattle.law_covered.proofs.Laws.{Whatever, ends_carrying, refs, program_leads, turn_leads}
 

@@ -1,5 +1,5 @@
 -- The environments of the machine that have what the scopes of a tree have.
-use Rattle.std.specs.Prelude.{◌≡◌, ℕ, ◌<◌, ◌≤◌, Bool, true, false, List, [], ◌∷◌, Option, Some, None, length, slice_get}
+use Rattle.std.specs.Prelude.{◌≡◌, ℕ, ◌<◌, Bool, true, false, List, Option, Some, None, length, slice_get}
 use Rattle.def_machine.specs.Values.{Words, Value}
 use Rattle.def_machine.specs.State.{Bound, Fixed, Slot, Binding, Thing, Made, Ejector, Audition, Resolver, Vat}
 use Rattle.def_machine.specs.Native.{safe_value}
