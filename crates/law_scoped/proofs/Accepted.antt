@@ -14,7 +14,7 @@ use Rattle.law_scoped.proofs.Faults.{IsClean, used, assigned, binding_new, bound
 -- ---- where trees end
 
 mutual
-  tree_ends : (nodes : List Node) (kind : Kind) (n m : ℕ) → Tree nodes kind n m → n < m
+  pub tree_ends : (nodes : List Node) (kind : Kind) (n m : ℕ) → Tree nodes kind n m → n < m
   tree_ends nodes kind n m (literal e l) = omega arith
   tree_ends nodes kind n m (noun e i) = omega arith
   tree_ends nodes kind n m (set e i a) = let x = tree_ends nodes _ _ _ a in omega arith
@@ -43,7 +43,7 @@ mutual
   tree_ends nodes kind n m (named e i) = omega arith
   tree_ends nodes kind n m (unnamed e) = omega arith
 
-  row_ends : (nodes : List Node) (kind : Kind) (starts : List ℕ) (n m : ℕ) → Row nodes kind starts n m → n ≤ m
+  pub row_ends : (nodes : List Node) (kind : Kind) (starts : List ℕ) (n m : ℕ) → Row nodes kind starts n m → n ≤ m
   row_ends nodes kind starts n m none = omega arith
   row_ends nodes kind starts n m (trees.one_more a r) = let x = tree_ends nodes _ _ _ a in let y = row_ends nodes _ _ _ _ r in omega arith
 

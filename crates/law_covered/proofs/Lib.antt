@@ -1,0 +1,17 @@
+mod Words
+mod Statics
+mod Parts
+mod Binds
+mod Frees
+mod Captures
+mod Leads
+mod Natives
+mod Forms
+mod Members
+mod Eval
+mod Nodes
+mod Settled
+mod Depths
+mod Laws
+mod Worlds
+mod Finds

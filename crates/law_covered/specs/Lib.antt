@@ -1,0 +1,4 @@
+pub mod Formed
+pub mod Covered
+pub mod Laws
+pub mod Runs
