@@ -33,9 +33,8 @@ use def_kernel::Kernel;
 use ev_base::{Limits, Memory, Msg, VatId};
 use ev_event::History;
 use ev_intro::Words;
-use ev_member::{Arrival, Member, Sending};
+use ev_member::{Arrival, Member, Sending, VatStop};
 use ev_naming::{Told, VatNames};
-use ev_member::VatStop;
 use ev_word::Word;
 use std::alloc::Global;
 

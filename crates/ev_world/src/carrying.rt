@@ -15,11 +15,9 @@ use crate::world::World;
 use def_event::{Boxed, Event};
 use ev_base::{Memory, VatId};
 use ev_event::History;
-use ev_resident::Arrival;
 use ev_naming::Told;
 use ev_read::News;
-use ev_resident::{Resident, told_of};
-use ev_resident::VatStop;
+use ev_resident::{Arrival, Resident, VatStop, told_of};
 use ev_ways::Frame;
 use std::alloc::Global;
 

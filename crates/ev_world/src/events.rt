@@ -11,9 +11,9 @@ use crate::run::RunEnd;
 use crate::world::World;
 use ev_base::{Limits, Memory};
 use ev_event::History;
+use ev_resident::VatStop;
 use ev_scope::Scoped;
 use ev_script::Script;
-use ev_resident::VatStop;
 use std::alloc::Global;
 
 /// How a run ended, and its events. One that stopped has those of the steps before.

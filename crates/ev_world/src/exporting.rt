@@ -5,9 +5,8 @@ ghost use Rattle.ev_resident.specs.declared.resident.Resident.{Resident as Their
 ghost use Rattle.ev_world.specs.Exporting.{AreCounted, AreTold, object_of, objects_for, told_by, with_imports};
 
 use ev_base::{Memory, Value, VatId};
-use ev_resident::Member;
 use ev_naming::VatNames;
-use ev_resident::Resident;
+use ev_resident::{Member, Resident};
 use std::alloc::Global;
 
 /// The number of an object, and 0 of what is none.

@@ -14,8 +14,8 @@ use crate::exporting::tell_exports;
 use crate::pushing::push_out;
 use crate::world::World;
 use ev_base::{Memory, Msg, VatId};
-use ev_resident::Sending;
 use ev_naming::Told;
+use ev_resident::Sending;
 use std::alloc::Global;
 
 impl World {

@@ -6,8 +6,8 @@ ghost use Rattle.ev_world.specs.Ends.{StoppedAs};
 
 use ev_base::{Memory, Seq, Str};
 use ev_event::History;
-use ev_script::VatScript;
 use ev_resident::VatStop;
+use ev_script::VatScript;
 use std::alloc::Global;
 
 /// How a run ended. A step is told by its number: the opening turns from 0, and then the entries of the schedule.
