@@ -43,12 +43,7 @@ impl Kept {
 
     /// Whether a line at a place uses and gives back only what is known by the lines before it.
     /// What is found to be known is kept.
-    pub fn is_of_known(
-        &mut self,
-        alloc: Global,
-        at: u64,
-        event: &Event,
-    ) -> Result<bool, Memory>
+    pub fn is_of_known(&mut self, alloc: Global, at: u64, event: &Event) -> Result<bool, Memory>
         ensures { (past : List Line) → KeptStand self.old past → IfOk result (λ known. (IsTrue known ↔ IsOfKnown past (record { at = at; event = event.now })) × KeptStand self.new past) }
     {
         if !uses_known(&mut self.knowledge, alloc, at, event)? {

@@ -10,7 +10,7 @@ returns-in_default c past h g =
     let a = c.args.activation in
     let known = c.in_ok-known.ensures past h in (
       none_inside past a.at a.number c.args.name.now (open_calls past a.at a.number) (stack c.args.calls.now a) c.in_ok-known.known (g.each (record { at = a.at; number = a.number }))
-      (sym c.innermost.ensures ∙ c.in_default.is) known.0,
+          (sym c.innermost.ensures ∙ c.in_default.is) known.0,
       known.1,
     )
 
@@ -31,6 +31,6 @@ returns c past h g =
     let answer = c.in_ok-known-2.ensures past h in
     let known : (c.in_ok-known-2.known ≡ true) ↔ KnowsName past a.at c.number_or-number.result c.args.name.now = answer.0 in (
       begun_inside past a.at a.number c.args.name.now (open_calls past a.at a.number) (stack c.args.calls.now a) c.in-Some.call c.in_ok-known-2.known (g.each (record { at = a.at; number = a.number }))
-      (sym c.innermost.ensures ∙ c.in-Some.is) c.if-call.false (subst (λ (n : ℕ). (c.in_ok-known-2.known ≡ true) ↔ KnowsName past a.at n c.args.name.now) c.number_or-number.ensures known),
+          (sym c.innermost.ensures ∙ c.in-Some.is) c.if-call.false (subst (λ (n : ℕ). (c.in_ok-known-2.known ≡ true) ↔ KnowsName past a.at n c.args.name.now) c.number_or-number.ensures known),
       answer.1,
     )
