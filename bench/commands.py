@@ -52,9 +52,92 @@ def trace(front: str, line, size: int) -> bytes:
     return repeated(front, line, size - 4) + b"end\n"
 
 
+def chain_then(front: str, line, size: int) -> bytes:
+    """A trace of a chain of promises, as long as half of it, and then of lines by their numbers and the number of the last promise."""
+    built = repeated(front, lambda n: f"settle a~{n} a~{n + 1}\n", size // 2)
+    last = built.count(b"settle")
+    return trace(built.decode(), lambda n: line(n, last), size)
+
+
+PROMISE = "open a\n!0 made a.0 o\n!0 promise a~0 a.1\n"
+
+
+def used_back(number: int, last: int) -> str:
+    """The promises of a chain are used from the last one back."""
+    return f"!0 call 1 add a~{last - number % last}\n"
+
+
+def end_used(number: int, last: int) -> str:
+    """One activation after the other is given the first promise of a chain, and gives back the last one."""
+    k = number // 3 + 1
+    return [f"!0 call a.0 f a~0 as !{k}\n", f"!{k} done a~{last}\n", "!0 back null\n"][number % 3]
+
+
+def later_end_used(number: int, last: int) -> str:
+    """The same, each given another promise of the chain."""
+    k = number // 3 + 1
+    return [f"!0 call a.0 f a~{k % last} as !{k}\n", f"!{k} done a~{last}\n", "!0 back null\n"][number % 3]
+
+
+def start_called(number: int, last: int) -> str:
+    """One activation after the other runs the object to which the first promise of a chain leads."""
+    k = number // 2 + 1
+    return [f"!0 call a~0 f as !{k}\n", "!0 back null\n"][number % 2]
+
+
+def end_called(size: int) -> bytes:
+    """The same, where the chain comes to an object."""
+    built = repeated(PROMISE, lambda n: f"settle a~{n} a~{n + 1}\n", size // 2).decode()
+    return trace(built + f"settle a~{built.count('settle')} a.0\n", lambda n: start_called(n, 0), size)
+
+
+def start_carried(size: int) -> bytes:
+    """One message after the other carries the second promise of a chain, where the first was sent."""
+    built = repeated("open a\n!0 promise a~0 a.1\n", lambda n: f"settle a~{n} a~{n + 1}\n", size // 2).decode()
+    count = (size - len(built)) // 85
+    sends = "".join(f"!0 send a/{k} @b f a~0 -> b?a/{k}\n" for k in range(count))
+    return trace(built + sends + "!0 done null\nopen b\n", lambda k: f"{k + 1} carry a b deliver a/{k} @b f a~1\n", size)
+
+
+def list_sent(number: int) -> str:
+    """One message after the other is taken with the same long list."""
+    k = number // 3
+    return [f"{k + 1} turn a\n", f"!{k + 1} take a/{k} a.0 f a%0\n", f"!{k + 1} done null\n"][number % 3]
+
+
+def long_list(size: int) -> bytes:
+    """A list of half of a trace is sent and taken often."""
+    promises = repeated(PROMISE, lambda n: f"!0 promise a~{n + 1} a.{n + 2}\n", size // 4).decode()
+    members = " ".join(f"a~{n}" for n in range(promises.count("promise")))
+    count = (size - len(promises) - len(members)) // 90
+    sends = "".join(f"!0 send a/{k} a.0 f a%0 -> a?a/{k}\n" for k in range(count))
+    return trace(promises + f"!0 list a%0 {members}\n" + sends + "!0 done null\n", list_sent, size)
+
+
+def lists_in_lists(size: int) -> bytes:
+    """An activation is given a list in which a list stands, and so on, and uses what stands in each of them, the innermost first."""
+    front = repeated(PROMISE + "!0 list a%0 a.0\n", lambda n: f"!0 promise a~{n + 1} a.{n + 2}\n!0 list a%{n + 1} a%{n} a~{n + 1}\n", 2 * size // 3).decode()
+    last = front.count("list") - 1
+    return trace(front + f"!0 call a.0 f a%{last} as !1\n", lambda n: f"!1 call 1 add a~{n % last + 1}\n", size)
+
+
+def settled_to_one(number: int) -> str:
+    """One promise after the other settles to the same object, and an activation that is given it uses that object."""
+    k = number // 5 + 1
+    return [f"!0 promise a~{k} a.1\n", f"settle a~{k} a.2\n", f"!0 call a.0 f a~{k} as !{k}\n", f"!{k} done a.2\n", "!0 back null\n"][number % 5]
+
+
 INPUTS = {
     ("check", "messages of two vats"): lambda size: trace(TWO_VATS, sent, size),
     ("check", "promises in a chain"): lambda size: trace("open a\n!0 promise a~0 a.0\n", settled, size),
+    ("check", "a chain used from its end"): lambda size: chain_then(PROMISE, used_back, size),
+    ("check", "a chain's end, by many"): lambda size: chain_then(PROMISE, end_used, size),
+    ("check", "its end, from many places"): lambda size: chain_then(PROMISE, later_end_used, size),
+    ("check", "calls on a chain's start"): end_called,
+    ("check", "a chain's start carried"): start_carried,
+    ("check", "a list taken often"): long_list,
+    ("check", "lists in lists"): lists_in_lists,
+    ("check", "many settle to one"): lambda size: trace(PROMISE, settled_to_one, size),
     ("sturdy", "register"): lambda size: repeated(KEY, lambda n: f"register {n % 10000}\n", size),
     ("sturdy", "connect, cut, notice"): lambda size: repeated(
         KEY, lambda n: ["connect\n", "use 1 0\n", "cut\n", "notice host\n", "notice guest\n"][n % 5], size

@@ -1,6 +1,6 @@
 -- The tables tell what activations know.
-use Rattle.std.proofs.Common.{◌≡◌, ℕ, Bool, true, false, List, [], ◌∷◌, Option, Some, None, refl, sym, ap, subst, ◌∙◌, inl, inr, eq-eqb}
-use Rattle.std.specs.Prelude.{◌⊎◌, ◌↔◌, ◌&&◌, if◌then◌else◌}
+use Rattle.std.proofs.Common.{◌≡◌, ℕ, Bool, true, false, List, [], ◌∷◌, reverse, Option, Some, None, refl, sym, ap, subst, ◌∙◌, inl, inr, eq-eqb}
+use Rattle.std.specs.Prelude.{◌⊎◌, ◌&&◌, if◌then◌else◌}
 use Rattle.std.proofs.lemmas.Bool.{eqb-true}
 use Rattle.ev_base.specs.declared.names.Name.{Name}
 use Rattle.ev_base.specs.declared.names.Name.TheVariants.{Object, Own, Answer, Gift, Root}
@@ -9,31 +9,44 @@ use Rattle.def_trace.specs.Uses.{IsAmong, Thing, AName, AList, Line, Lead, Has, 
 use Rattle.ev_known.specs.declared.facts.Activation.{Activation}
 use Rattle.ev_known.specs.declared.facts.Fact.{Fact}
 use Rattle.ev_known.specs.declared.facts.Fact.TheVariants as fact
+use Rattle.ev_known.specs.declared.found.Finding.{Finding}
 use Rattle.ev_known.specs.declared.label.Label.{Label}
 use Rattle.ev_known.specs.declared.links.Link.{Link}
 use Rattle.ev_known.specs.declared.links.Scope.TheVariants.{Place}
 use Rattle.ev_known.specs.Label.{label}
 use Rattle.ev_known.specs.Leads.{LinksStand, backward, way_of}
-use Rattle.ev_known.specs.Links.{AreReached, IsReached, start, onward, is_open, with_label}
+use Rattle.ev_known.specs.Links.{IsReached, start, onward, is_open, row, with_label}
+use Rattle.ev_known.specs.Found.{FoundStand, is_found, with_found}
 use Rattle.ev_known.specs.Following.{FollowedAs, Tables, TablesStand}
 use Rattle.ev_known.specs.Runs.{RunsAs, RunsStand, runner}
 use Rattle.ev_known.specs.Telling.{StandsFor, activation, is_told, key}
-use Rattle.ev_known.specs.Knowing.{Known, KnownStand, LeadsToAudition, any_has, has_captured, has_in, is_root_label}
+use Rattle.ev_known.specs.Knowing.{Known, KnownStand, LeadsToAudition, Searched, has_captured, has_in, is_led, is_root_label, knows_in, leads_from}
+use Rattle.ev_known.proofs.Among.{among_reverse, any_so, any_there}
+use Rattle.ev_known.proofs.Growing.{among_more, found_among, none_found}
 use Rattle.ev_known.proofs.Keys.{label_same}
 use Rattle.ev_known.proofs.Told.{among_is_told}
 use Rattle.ev_known.proofs.Running.{told_is}
 use Rattle.ev_known.proofs.Leading.{none_lead}
 
-pub none_known : (facts : List Fact) (following : Tables) (runs : List (Activation × Label)) (links : List (Label × List Link)) → StandsFor facts [] → TablesStand following [] → RunsStand runs [] → links ≡ []
-    → KnownStand (record { facts = facts; following = following; runs = runs; links = links }) []
-none_known facts following runs links f g r l = record {
+pub none_known : (facts : List Fact) (following : Tables) (runs : List (Activation × Label)) (links : List (Label × List Link)) (found : List Finding)
+    → StandsFor facts [] → TablesStand following [] → RunsStand runs [] → links ≡ [] → found ≡ [] → KnownStand (record { facts = facts; following = following; runs = runs; links = links; found = found }) []
+none_known facts following runs links found f g r l n = record {
   facts = f;
   following = g;
   runs = r;
   links = subst (λ (ls : List (Label × List Link)). LinksStand ls []) (sym l) none_lead;
+  found = subst (λ (ks : List Finding). FoundStand ks []) (sym n) none_found;
 }
 
--- ---- tests of three
+-- ---- tests of two and three
+
+two_true : (a b : Bool) → (if a then true else b) ≡ true → (a ≡ true) ⊎ (b ≡ true)
+two_true true b h = inl refl
+two_true false b h = inr h
+
+second_so : (a b : Bool) → b ≡ true → (if a then true else b) ≡ true
+second_so true b h = refl
+second_so false b h = h
 
 three_true : (a b c : Bool) → (if a then true else if b then true else c) ≡ true → (a ≡ true) ⊎ ((b ≡ true) ⊎ (c ≡ true))
 three_true true b c h = inl refl
@@ -128,10 +141,42 @@ module _ (k : Known) (past : List Line) (h : KnownStand k past) (a : uses.Activa
   open_back uses.Listed e = tt
   open_back (uses.Settled v) e = eqb-true v a.at e
 
-  knows_there : (starts : List Label) (t : Thing) → Knows past a t → IsReached k.links (Place a.at) starts (label t) → (l : Label) × IsReached k.links (Place a.at) starts l × (has_in k (activation a) l ≡ true)
-  knows_there starts t (uses.start has) r = (label t, r, has_back t has)
+  knows_of : (t : Thing) → knows_in k (activation a) (label t) ≡ true → Knows past a t
+  knows_of t e = elim (two_true (is_found k.found (record { by = activation a; thing = label t })) (has_in k (activation a) (label t)) e) [
+    | inl x ↦ h.found.each a t (found_among k.found (record { by = activation a; thing = label t }) x)
+    | inr x ↦ uses.start (has_there t x)
+  ]
+
+  has_known : (l : Label) → has_in k (activation a) l ≡ true → knows_in k (activation a) l ≡ true
+  has_known l e = second_so (is_found k.found (record { by = activation a; thing = l })) (has_in k (activation a) l) e
+
+  -- a known thing leads there by one link
+  led_so : (l : Label) (x : Link) → IsAmong x (row k.links l) → is_open (Place a.at) x.way ≡ true → knows_in k (activation a) x.other ≡ true → is_led k (activation a) l ≡ true
+  led_so l x i o e =
+      any_so (leads_from k (activation a)) x (reverse (row k.links l)) ((among_reverse x (row k.links l)).1 i)
+      (both_so (is_open (Place a.at) x.way) (knows_in k (activation a) x.other) o e)
+
+  pub led_known : (t : Thing) (l : Label) → label t ≡ l → is_led k (activation a) l ≡ true → Knows past a t
+  led_known t l is e =
+      let x = any_there (leads_from k (activation a)) (reverse (row k.links l)) e in
+      let p = both (is_open (Place a.at) x.0.way) (knows_in k (activation a) x.0.other) x.2 in
+      let d = (h.links.each l x.0).0 ((among_reverse x.0 (row k.links l)).0 x.1) in
+      let same : d.0.to ≡ t = label_same d.0.to t (d.2 ∙ sym is) in
+      let open_way : IsOpenAt a.at d.0.way = open_back d.0.way (ap (λ (y : Link). is_open (Place a.at) y.way) d.3 ∙ p.0) in
+      let from : Knows past a d.0.from = knows_of d.0.from (ap (λ (y : Link). knows_in k (activation a) y.other) d.3 ∙ p.1) in
+      subst (Knows past a) same (uses.onward d.0 d.1 open_way from)
+
+  -- what is known is so already, or going back from it one comes to what a known thing leads to
+  knows_there : (starts : List Label) (t : Thing) → Knows past a t → IsReached k.links (Place a.at) starts (label t)
+      → (knows_in k (activation a) (label t) ≡ true) ⊎ ((l : Label) × IsReached k.links (Place a.at) starts l × (is_led k (activation a) l ≡ true))
+  knows_there starts t (uses.start has) r = inl (has_known (label t) (has_back t has))
   knows_there starts t (uses.onward d lead gone rest) r =
-      knows_there starts d.from rest (onward (label d.to) (backward d) ((h.links.each (label d.to) (backward d)).1 (d, lead, refl, refl)) (open_there d.way gone) r)
+      let link = (h.links.each (label d.to) (backward d)).1 (d, lead, refl, refl) in
+      let way = open_there d.way gone in
+      elim (knows_there starts d.from rest (onward (label d.to) (backward d) link way r)) [
+        | inl x ↦ inr (label d.to, r, led_so (label d.to) (backward d) link way x)
+        | inr y ↦ inr y
+      ]
 
   knows_back : (t : Thing) (l : Label) → IsReached k.links (Place a.at) (label t ∷ []) l → (s : Thing) × (label s ≡ l) × (Knows past a s → Knows past a t)
   knows_back t l (start e) = (t, elim e [ inl x ↦ x | inr n ↦ absurd n ], λ x. x)
@@ -142,46 +187,44 @@ module _ (k : Known) (past : List Line) (h : KnownStand k past) (a : uses.Activa
       let open_way : IsOpenAt a.at d.0.way = open_back d.0.way (ap (λ (x : Link). is_open (Place a.at) x.way) d.3 ∙ gone) in
       (d.0.from, ap (λ (x : Link). x.other) d.3, λ x. s.2 (subst (Knows past a) same (uses.onward d.0 d.1 open_way x)))
 
-  any_there_if : (b : Bool) (l : Label) (ls : List Label) → has_in k (activation a) l ≡ b
-      → (any_has k (activation a) ls ≡ true → (m : Label) × IsAmong m ls × (has_in k (activation a) m ≡ true))
-      → (if b then true else any_has k (activation a) ls) ≡ true → (m : Label) × IsAmong m (l ∷ ls) × (has_in k (activation a) m ≡ true)
-  any_there_if true l ls f rest g = (l, inl refl, f)
-  any_there_if false l ls f rest g = let r = rest g in (r.0, inr r.1, r.2)
+  -- ---- the answers
 
-  any_there : (ls : List Label) → any_has k (activation a) ls ≡ true → (l : Label) × IsAmong l ls × (has_in k (activation a) l ≡ true)
-  any_there [] e = absurd cc
-  any_there (l ∷ ls) e = any_there_if (has_in k (activation a) l) l ls refl (λ g. any_there ls g) e
+  pub had_known : (t : Thing) (l : Label) → l ≡ label t → knows_in k (activation a) l ≡ true → Knows past a t
+  had_known t l is e = knows_of t (ap (knows_in k (activation a)) (sym is) ∙ e)
 
-  any_if : (b c : Bool) → c ≡ true → (if b then true else c) ≡ true
-  any_if true c e = refl
-  any_if false c e = e
-
-  any_now : (b c : Bool) → b ≡ true → (if b then true else c) ≡ true
-  any_now true c e = refl
-  any_now false c e = absurd cc
-
-  any_back : (l : Label) (ls : List Label) → IsAmong l ls → has_in k (activation a) l ≡ true → any_has k (activation a) ls ≡ true
-  any_back l [] i e = absurd i
-  any_back l (m ∷ ls) (inl s) e = any_now (has_in k (activation a) m) (any_has k (activation a) ls) (ap (has_in k (activation a)) s ∙ e)
-  any_back l (m ∷ ls) (inr i) e = any_if (has_in k (activation a) m) (any_has k (activation a) ls) (any_back l ls i e)
-
-  pub had_known : (t : Thing) (l : Label) → l ≡ label t → has_in k (activation a) l ≡ true → Knows past a t
-  had_known t l is e = uses.start (has_there t (ap (has_in k (activation a)) (sym is) ∙ e))
-
-  pub known_by : (t : Thing) (l : Label) (old labels : List Label) → l ≡ label t → old ≡ with_label [] l → AreReached k.links (Place a.at) old labels
-      → (any_has k (activation a) labels ≡ true) ↔ Knows past a t
+  one_start : (t : Thing) (l : Label) (starts : List Label) → l ≡ label t → starts ≡ with_label [] l → starts ≡ label t ∷ []
   unfolding with_label
-  known_by t l old labels is one reached =
-      let starts : old ≡ label t ∷ [] = one ∙ ap (λ (x : Label). x ∷ []) is in
-      let all : AreReached k.links (Place a.at) (label t ∷ []) labels = subst (λ (ls : List Label). AreReached k.links (Place a.at) ls labels) starts reached in (
-        λ e.
-            let found = any_there labels e in
-            let back = knows_back t found.0 ((all found.0).0 found.1) in
-            back.2 (uses.start (has_there back.0 (ap (has_in k (activation a)) back.1 ∙ found.2))),
-        λ known.
-            let found = knows_there (label t ∷ []) t known (start (inl refl)) in
-            any_back found.0 labels ((all found.0).1 found.1) found.2,
-      )
+  one_start t l starts is one = one ∙ ap (λ (x : Label). x ∷ []) is
+
+  pub found_known : (t : Thing) (l : Label) (starts seen : List Label) (i : ℕ) → l ≡ label t → starts ≡ with_label [] l → Searched k (activation a) starts seen (Some i) → Knows past a t
+  found_known t l starts seen i is one s =
+      let back = knows_back t s.1 (subst (λ (ls : List Label). IsReached k.links (Place a.at) ls s.1) (one_start t l starts is one) s.2) in
+      back.2 (led_known back.0 s.1 back.1 s.3)
+
+  pub none_known_of : (t : Thing) (l : Label) (starts seen : List Label) → l ≡ label t → starts ≡ with_label [] l → Searched k (activation a) starts seen None
+      → knows_in k (activation a) l ≡ false → Knows past a t → ⊥
+  none_known_of t l starts seen is one s other known =
+      elim (knows_there starts t known (subst (λ (ls : List Label). IsReached k.links (Place a.at) ls (label t)) (sym (one_start t l starts is one)) (start (inl refl)))) [
+        | inl x ↦ (let bad : true ≡ false = sym x ∙ ap (knows_in k (activation a)) (sym is) ∙ other in absurd cc)
+        | inr y ↦ (let bad : true ≡ false = sym y.2 ∙ s y.0 y.1 in absurd cc)
+      ]
+
+-- ---- what was found is kept
+
+pub kept_stand : (k : Known) (past : List Line) (a : Activation) (l : Label) (found : List Finding) → KnownStand k past → is_led k a l ≡ true → found ≡ with_found k.found (record { by = a; thing = l })
+    → KnownStand (record k { found = found }) past
+kept_stand k past a l found h led is = record {
+  facts = h.facts;
+  following = h.following;
+  runs = h.runs;
+  links = h.links;
+  found = record {
+    each = λ b t i. elim ((among_more (record { by = activation b; thing = label t }) (record { by = a; thing = l }) k.found).0 (subst (IsAmong (record { by = activation b; thing = label t })) is i)) [
+      | inl x ↦ h.found.each b t x
+      | inr e ↦ led_known k past h b t l (sym (ap (λ (x : Finding). x.thing) e)) (subst (λ (x : Activation). is_led k x l ≡ true) (ap (λ (x : Finding). x.by) e) led)
+    ];
+  };
+}
 
 -- ---- auditions
 

@@ -5,6 +5,8 @@ pub mod Told
 pub mod Walking
 pub mod Followed
 pub mod Leading
+pub mod Growing
+pub mod Going
 pub mod Running
 pub mod Knowing
 pub mod Judging

@@ -124,17 +124,22 @@ take_more [] more i s e = absurd cc
 take_more (x ∷ ls) more zero s e = let same : x ≡ s = cc in ap (λ y. y ∷ []) same
 take_more (x ∷ ls) more (suc i) s e = ap (λ ys. x ∷ ys) (take_more ls more i s e)
 
-among_at : {A : Type 0} (ls : List A) (i : ℕ) (s : A) → slice_get ls i ≡ Some s → IsAmong s ls
+pub among_at : {A : Type 0} (ls : List A) (i : ℕ) (s : A) → slice_get ls i ≡ Some s → IsAmong s ls
 among_at [] i s e = absurd cc
 among_at (x ∷ ls) zero s e = let same : x ≡ s = cc in inl same
 among_at (x ∷ ls) (suc i) s e = inr (among_at ls i s e)
 
+-- one more was gone on from
+pub taken_more : (scope : Scope) (seen new : List Label) (ks : List Link) (i : ℕ) (s : Label) → slice_get seen i ≡ Some s → new ≡ with_others scope seen ks → take (i + 1) new ≡ take i seen ++ s ∷ []
+taken_more scope seen new ks i s at is =
+    let next : suc i ≡ i + 1 = omega arith in
+    let m = others_more scope seen ks in
+    ap (λ (n : ℕ). take n new) (sym next) ∙ ap (take (suc i)) (is ∙ m.1) ∙ take_more seen m.0 i s at
+
 pub searching_step : (rows : List (Label × List Link)) (scope : Scope) (starts seen new : List Label) (i : ℕ) (s : Label)
     → Searching rows scope starts seen i → slice_get seen i ≡ Some s → new ≡ with_others scope seen (row rows s) → Searching rows scope starts new (i + 1)
 searching_step rows scope starts seen new i s h at is =
-    let next : suc i ≡ i + 1 = omega arith in
-    let m = others_more scope seen (row rows s) in
-    let done : take (i + 1) new ≡ take i seen ++ s ∷ [] = ap (λ (n : ℕ). take n new) (sym next) ∙ ap (take (suc i)) (is ∙ m.1) ∙ take_more seen m.0 i s at in
+    let done = taken_more scope seen new (row rows s) i s at is in
     let kept = λ (t : Label) (a : IsAmong t seen). subst (IsAmong t) (sym is) (others_keep scope t seen (row rows s) a) in
     record {
       sound = λ t a. elim (others_from scope t seen (row rows s) (subst (IsAmong t) is a)) [
@@ -151,7 +156,7 @@ searching_step rows scope starts seen new i s h at is =
       ];
     }
 
-take_all : {A : Type 0} (ls : List A) (i : ℕ) → length ls ≤ i → take i ls ≡ ls
+pub take_all : {A : Type 0} (ls : List A) (i : ℕ) → length ls ≤ i → take i ls ≡ ls
 take_all [] zero h = refl
 take_all [] (suc i) h = refl
 take_all (x ∷ ls) zero h = absurd (omega arith)

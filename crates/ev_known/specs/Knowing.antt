@@ -1,16 +1,21 @@
 -- What activations know, in the terms of tables.
-use Rattle.std.specs.Prelude.{ℕ, Bool, true, false, ◌&&◌, if◌then◌else◌, List, [], ◌∷◌, Option, Some, None}
+use Rattle.std.specs.Prelude.{◌≡◌, ◌<◌, ℕ, Bool, true, false, ◌&&◌, if◌then◌else◌, List, length, reverse, Option, Some, None}
+use Rattle.std.specs.List.{list_any}
 use Rattle.ev_base.specs.declared.names.Name.{Name}
 use Rattle.def_trace.specs.Uses.{Audition, IsFollowed, IsTold, Line}
 use Rattle.ev_known.specs.declared.facts.Activation.{Activation}
 use Rattle.ev_known.specs.declared.facts.Fact.{Fact}
 use Rattle.ev_known.specs.declared.facts.Fact.TheVariants as fact
+use Rattle.ev_known.specs.declared.found.Finding.{Finding}
 use Rattle.ev_known.specs.declared.label.Label.{Label}
 use Rattle.ev_known.specs.declared.label.Kind.{Kind}
 use Rattle.ev_known.specs.declared.label.Kind.TheVariants as kind
 use Rattle.ev_known.specs.declared.links.Link.{Link}
+use Rattle.ev_known.specs.declared.links.Scope.TheVariants.{Place}
 use Rattle.ev_known.specs.Following.{Tables, TablesStand}
+use Rattle.ev_known.specs.Found.{FoundStand, is_found}
 use Rattle.ev_known.specs.Leads.{LinksStand}
+use Rattle.ev_known.specs.Links.{IsReached, is_open, row}
 use Rattle.ev_known.specs.Runs.{RunsStand, runner}
 use Rattle.ev_known.specs.Telling.{StandsFor, is_told}
 
@@ -19,6 +24,7 @@ pub record Known : Type 0 where
   pub following : Tables
   pub runs : List (Activation × Label)
   pub links : List (Label × List Link)
+  pub found : List Finding
 
 -- it stands for these lines
 pub record KnownStand (k : Known) (past : List Line) : Type 0 where
@@ -26,6 +32,7 @@ pub record KnownStand (k : Known) (past : List Line) : Type 0 where
   pub following : TablesStand k.following past
   pub runs : RunsStand k.runs past
   pub links : LinksStand k.links past
+  pub found : FoundStand k.found past
 
 abbrev pub is_root_kind : Kind → Bool
 is_root_kind kind.Root = true
@@ -44,9 +51,26 @@ has_in k a l =
     if is_root_label l && is_told k.facts (fact.Opened a) then true
     else if is_told k.facts (fact.Given a l) then true else has_captured k.facts (runner k.runs a) l
 
-abbrev pub any_has : Known → Activation → List Label → Bool
-any_has k a [] = false
-any_has k a (l ∷ ls) = if has_in k a l then true else any_has k a ls
+-- what it has, or was found to know
+abbrev pub knows_in : Known → Activation → Label → Bool
+knows_in k a l = if is_found k.found (record { by = a; thing = l }) then true else has_in k a l
+
+-- whether a link leads from there
+abbrev pub leads_from : Known → Activation → Link → Bool
+leads_from k a x = is_open (Place a.at) x.way && knows_in k a x.other
+
+-- whether one of the links does, of which the last is looked at first
+abbrev pub any_leads : Known → Activation → List Link → Bool
+any_leads k a links = list_any (leads_from k a) (reverse links)
+
+-- whether something known leads to the thing
+abbrev pub is_led : Known → Activation → Label → Bool
+is_led k a l = any_leads k a (row k.links l)
+
+-- Going back from these, all that was looked at: at that place stands one to which something known leads, or there is none such.
+abbrev pub Searched : Known → Activation → List Label → List Label → Option ℕ → Type 0
+Searched k a starts seen None = (l : Label) → IsReached k.links (Place a.at) starts l → is_led k a l ≡ false
+Searched k a starts seen (Some i) = (i < length seen) × (l : Label) × IsReached k.links (Place a.at) starts l × (is_led k a l ≡ true)
 
 -- the name is followed at the place to an audition
 abbrev pub LeadsToAudition : List Line → ℕ → Name → Type 0

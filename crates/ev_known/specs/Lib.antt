@@ -4,4 +4,5 @@ pub mod Telling
 pub mod Following
 pub mod Leads
 pub mod Runs
+pub mod Found
 pub mod Knowing

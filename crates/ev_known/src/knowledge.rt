@@ -1,16 +1,17 @@
 //! What activations know by the lines so far.
 
-ghost use Rattle.std.specs.Prelude.{◌≡◌, ◌↔◌, ◌∷◌, [], ◌&&◌, List, IfOk, IsTrue, OnOk};
+ghost use Rattle.std.specs.Prelude.{◌≡◌, ◌↔◌, ◌∷◌, ◌<◌, [], ◌&&◌, List, IfOk, IsTrue, OnOk, length};
 ghost use Rattle.def_trace.specs.Uses.{AName, Line, Knows};
-ghost use Rattle.ev_known.specs.Knowing.{KnownStand, LeadsToAudition, any_has, has_captured, has_in, is_root_label};
+ghost use Rattle.ev_known.specs.Knowing.{KnownStand, LeadsToAudition, Searched, any_leads, has_captured, has_in, is_led, is_root_label, knows_in, leads_from};
 ghost use Rattle.ev_known.specs.Telling.{is_told};
 ghost use Rattle.ev_known.specs.declared.facts.Fact.TheVariants.{Opened as OpenedFact};
 
 use crate::facts::{Activation, Fact, Facts};
 use crate::following::Following;
+use crate::found::{Finding, Found};
 use crate::label::{Kind, Label, name_label};
 use crate::leads::tell_leads;
-use crate::links::{Labels, Links, Scope};
+use crate::links::{Labels, Link, Links, Scope, is_open};
 use crate::runs::Runs;
 use def_event::Event;
 use ev_base::{Memory, Name};
@@ -24,6 +25,7 @@ pub struct Knowledge {
     following: Following,
     runs: Runs,
     links: Links,
+    found: Found,
 }
 
 impl Model for Knowledge {
@@ -31,7 +33,7 @@ impl Model for Knowledge {
 
     ghost Value = { Known };
 
-    ghost view = { λ k. record { facts = k.facts; following = k.following; runs = k.runs; links = k.links } };
+    ghost view = { λ k. record { facts = k.facts; following = k.following; runs = k.runs; links = k.links; found = k.found } };
 }
 
 /// Whether a label is of a root.
@@ -75,10 +77,12 @@ impl Knowledge {
             following: Following::new(alloc),
             runs: Runs::new(alloc),
             links: Links::new(alloc),
+            found: Found::new(alloc),
         }
     }
 
     /// A line at a place is told. What stands for the lines before it stands for these and the line.
+    #[tactic(auto, using(crate::proofs::Growing::found_grows))]
     pub fn tell_line(&mut self, alloc: Global, at: u64, event: &Event) -> Result<(), Memory>
         ensures { (past : List Line) → KnownStand self.old past → OnOk result (KnownStand self.new (record { at = at; event = event.now } ∷ past)) }
     {
@@ -103,30 +107,113 @@ impl Knowledge {
         has_captured(&self.facts, self.runs.find(activation), label)
     }
 
-    /// Whether an activation has one of these things by itself.
-    fn has_any(&self, activation: Activation, labels: &[Label]) -> bool
-        ensures { result ≡ any_has self.now activation labels.now }
+    /// Whether an activation has a thing, or was found to know it.
+    fn knows_already(&self, activation: Activation, thing: Label) -> bool
+        ensures { result ≡ knows_in self.now activation thing }
     {
-        for label in labels {
-            if self.has(activation, *label) {
-                return true;
-            }
+        let by = activation;
+        if self.found.has(Finding { by, thing }) {
+            return true;
         }
-        false
+        self.has(activation, thing)
     }
 
-    /// Whether an activation knows a name by the lines so far. Time grows with what leads to the name.
-    pub fn knows(&self, alloc: Global, activation: Activation, name: &Name) -> Result<bool, Memory>
-        ensures { (past : List Line) → KnownStand self.now past → IfOk result (λ known. IsTrue known ↔ Knows past (record { at = activation.at; number = activation.number }) (AName name.now)) }
+    /// Whether a link leads from what an activation knows already.
+    fn leads_from(&self, activation: Activation, link: &Link) -> bool
+        ensures { result ≡ leads_from self.now activation link.now }
+    {
+        is_open(&Scope::Place(activation.at), &link.way)
+            && self.knows_already(activation, link.other)
+    }
+
+    /// Whether one of these links leads from what an activation knows already. The last is looked at first.
+    fn any_leads(&self, activation: Activation, links: &[Link]) -> bool
+        ensures { result ≡ any_leads self.now activation links.now }
+    {
+        links
+            .iter()
+            .rev()
+            .any(|link| self.leads_from(activation, link))
+    }
+
+    /// Whether something that an activation knows already leads to a thing.
+    fn is_led(&self, activation: Activation, label: Label) -> bool
+        ensures { result ≡ is_led self.now activation label }
+    {
+        self.any_leads(activation, self.links.row(label))
+    }
+
+    /// Goes back from labels to what leads to them, the nearest first, up to one to which something leads that the activation
+    /// knows already. Answers its place among the labels, to which all that was looked at is added.
+    fn search(&self, activation: Activation, labels: &mut Labels) -> Result<Option<usize>, Memory>
+        ensures { IfOk result (λ found. Searched self.now activation labels.old labels.new found) }
+    {
+        let mut index = 0;
+        while index < labels.len() {
+            let label = labels.at(index);
+            if self.is_led(activation, label) {
+                return Ok(Some(index));
+            }
+            self.links
+                .go_on(&Scope::Place(activation.at), label, labels)?;
+            index += 1;
+        }
+        Ok(None)
+    }
+
+    /// Keeps that an activation knows a thing, where something that it knows already leads to it.
+    fn keep(&mut self, activation: Activation, label: Label) -> Result<(), Memory>
+        ensures { (past : List Line) → KnownStand self.old past → OnOk result (KnownStand self.new past) }
+    {
+        if !self.is_led(activation, label) {
+            return Ok(());
+        }
+        self.found.add(Finding {
+            by: activation,
+            thing: label,
+        })?;
+        Ok(())
+    }
+
+    /// The same for the labels up to a place, from there back to the first.
+    fn keep_back(
+        &mut self,
+        activation: Activation,
+        labels: &Labels,
+        last: usize,
+    ) -> Result<(), Memory>
+        requires { last < length labels.now }
+        ensures { (past : List Line) → KnownStand self.old past → OnOk result (KnownStand self.new past) }
+    {
+        for back in 0..=last {
+            self.keep(activation, labels.at(last - back))?;
+        }
+        Ok(())
+    }
+
+    /// Whether an activation knows a name by the lines so far. What is found on the way is kept.
+    ///
+    /// Time grows with what leads to the name, up to the nearest thing that the activation has or was found to know.
+    pub fn knows(
+        &mut self,
+        alloc: Global,
+        activation: Activation,
+        name: &Name,
+    ) -> Result<bool, Memory>
+        ensures { (past : List Line) → KnownStand self.old past
+            → IfOk result (λ known. (IsTrue known ↔ Knows past (record { at = activation.at; number = activation.number }) (AName name.now)) × KnownStand self.new past) }
     {
         let label = name_label(name);
-        if self.has(activation, label) {
+        if self.knows_already(activation, label) {
             return Ok(true);
         }
         let mut labels = Labels::new(alloc);
         labels.add(label)?;
-        self.links.reach(&Scope::Place(activation.at), &mut labels)?;
-        Ok(self.has_any(activation, labels.as_slice()))
+        let Some(place) = self.search(activation, &mut labels)? else {
+            return Ok(false);
+        };
+        self.keep_back(activation, &labels, place)?;
+        Ok(true)
     }
 
     /// Whether a name leads to an audition at a place by the lines so far. Time grows with the names on the way.

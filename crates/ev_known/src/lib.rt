@@ -3,6 +3,7 @@
 
 pub mod facts;
 pub mod following;
+pub mod found;
 pub mod knowledge;
 pub mod label;
 pub mod leads;
@@ -12,6 +13,7 @@ pub mod runs;
 
 pub use facts::{Activation, Fact, Facts};
 pub use following::{Firsts, Following, Goal, Spot};
+pub use found::{Finding, Found};
 pub use knowledge::Knowledge;
 pub use label::{Kind, Label, list_label, name_label};
 pub use leads::tell_leads;

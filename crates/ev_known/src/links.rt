@@ -37,7 +37,7 @@ pub enum Scope {
 }
 
 /// Whether a way is gone.
-fn is_open(scope: &Scope, way: &Way) -> bool
+pub fn is_open(scope: &Scope, way: &Way) -> bool
     ensures { result ≡ is_open scope.now way.now }
 {
     match way {
@@ -230,6 +230,14 @@ impl Labels {
     {
         self.set.len()
     }
+
+    /// The label at a place.
+    pub fn at(&self, index: usize) -> Label
+        requires { index < length self.now }
+        ensures { slice_get self.now index ≡ Some result }
+    {
+        label_at(&self.set, index)
+    }
 }
 
 impl Links {
@@ -247,6 +255,23 @@ impl Links {
         ensures { OnOk result (Adds label link self.old self.new) }
     {
         add_in(alloc, &mut self.rows, label, link)
+    }
+
+    /// The links of a thing, lent in the order in which they were added.
+    pub fn row(&self, label: Label) -> &[Link]
+        ensures { result.now ≡ row self.now label }
+    {
+        match row_of(&self.rows, label) {
+            Some(links) => links.as_slice(),
+            None => &[],
+        }
+    }
+
+    /// Adds to labels what the links of a thing lead to.
+    pub fn go_on(&self, scope: &Scope, label: Label, labels: &mut Labels) -> Result<(), Memory>
+        ensures { OnOk result (labels.new ≡ with_others scope.now labels.old (row self.now label)) }
+    {
+        add_row(&self.rows, scope, label, &mut labels.set)
     }
 
     /// Adds to labels all that is reached from them by the ways of a scope. Time grows with the links of what is reached.

@@ -29,7 +29,8 @@ fn earlier(first: Option<u64>, second: Option<u64>) -> Option<u64>
 /// Whether each line of a trace uses, gives back, takes and carries only what the lines before it give to who does so. None
 /// says that it is so. Else the answer is the first line of which it does not hold, counted from 1.
 ///
-/// Time grows with the trace, and with what leads to each name that an activation does not have by itself.
+/// Time grows with the trace, and with what leads to each name that an activation does not have by itself, up to the nearest that it
+/// has or was found to know.
 pub fn judge_uses(alloc: Global, trace: &Trace) -> Result<Option<u64>, Memory>
     ensures { IfOk result (λ answer. JudgesUses trace.now.history answer) }
 {

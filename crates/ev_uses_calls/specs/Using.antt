@@ -15,9 +15,10 @@ label_of (Some n) = Some (label (AName n))
 abbrev pub AllKnown : List Line → ℕ → ℕ → Option Name → List Name → Type 0
 AllKnown past at number made ns = (n : Name) → IsAmong n ns → (made ≡ Some n) ⊎ KnowsName past at number n
 
--- the answer tells so, of any lines for which the tables stand
-pub record DecidesAll (k : Known) (a : Activation) (made : Option Label) (ns : List Name) (b : Bool) : Type 0 where
-  pub each : (past : List Line) (o : Option Name) → KnownStand k past → made ≡ label_of o → (b ≡ true) ↔ AllKnown past a.at a.number o ns
+-- the answer tells so, of any lines for which the tables stood, and those of afterwards stand for the same lines
+pub record DecidesAll (old new : Known) (a : Activation) (made : Option Label) (ns : List Name) (b : Bool) : Type 0 where
+  pub each : (past : List Line) (o : Option Name) → KnownStand old past → made ≡ label_of o → (b ≡ true) ↔ AllKnown past a.at a.number o ns
+  pub stands : (past : List Line) → KnownStand old past → KnownStand new past
 
 -- what the line uses, and what it gives back, is known
 unfoldable pub IsOfKnown : List Line → Line → Type 0

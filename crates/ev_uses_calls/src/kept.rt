@@ -42,13 +42,14 @@ impl Kept {
     }
 
     /// Whether a line at a place uses and gives back only what is known by the lines before it.
-    pub fn is_of_known(&self, alloc: Global, at: u64, event: &Event) -> Result<bool, Memory>
-        ensures { (past : List Line) → KeptStand self.now past → IfOk result (λ known. IsTrue known ↔ IsOfKnown past (record { at = at; event = event.now })) }
+    /// What is found to be known is kept.
+    pub fn is_of_known(&mut self, alloc: Global, at: u64, event: &Event) -> Result<bool, Memory>
+        ensures { (past : List Line) → KeptStand self.old past → IfOk result (λ known. (IsTrue known ↔ IsOfKnown past (record { at = at; event = event.now })) × KeptStand self.new past) }
     {
-        if !uses_known(&self.knowledge, alloc, at, event)? {
+        if !uses_known(&mut self.knowledge, alloc, at, event)? {
             return Ok(false);
         }
-        let known = gives_back_known(&self.knowledge, &self.calls, alloc, at, event)?;
+        let known = gives_back_known(&mut self.knowledge, &self.calls, alloc, at, event)?;
         Ok(known)
     }
 

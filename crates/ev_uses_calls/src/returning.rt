@@ -24,13 +24,13 @@ fn number_or(number: Option<u64>, other: u64) -> u64
 /// Whether an activation may be given back a name: it is known to the activation that its innermost open call began, else to
 /// itself, or an audition gave it as a guard.
 fn is_name_given_back(
-    knowledge: &Knowledge,
+    knowledge: &mut Knowledge,
     calls: &Calls,
     alloc: Global,
     activation: Activation,
     name: &Name,
 ) -> Result<bool, Memory>
-    ensures { (past : List Line) → KnownStand knowledge.now past → CallsStand calls.now past → IfOk result (λ given. IsTrue given ↔ GivesBack past activation.at activation.number name.now (open_calls past activation.at activation.number)) }
+    ensures { (past : List Line) → KnownStand knowledge.old past → CallsStand calls.now past → IfOk result (λ given. (IsTrue given ↔ GivesBack past activation.at activation.number name.now (open_calls past activation.at activation.number)) × KnownStand knowledge.new past) }
 {
     let Some(call) = calls.innermost(activation) else {
         let known = knowledge.knows(alloc, activation, name)?;
@@ -47,13 +47,13 @@ fn is_name_given_back(
 
 /// Whether an activation may be given back a value.
 fn is_given_back(
-    knowledge: &Knowledge,
+    knowledge: &mut Knowledge,
     calls: &Calls,
     alloc: Global,
     activation: Activation,
     value: &Shown,
 ) -> Result<bool, Memory>
-    ensures { (past : List Line) → KnownStand knowledge.now past → CallsStand calls.now past → IfOk result (λ given. IsTrue given ↔ GivesBackValue past activation.at activation.number value.now) }
+    ensures { (past : List Line) → KnownStand knowledge.old past → CallsStand calls.now past → IfOk result (λ given. (IsTrue given ↔ GivesBackValue past activation.at activation.number value.now) × KnownStand knowledge.new past) }
 {
     match value {
         Shown::Name(name) => {
@@ -66,13 +66,13 @@ fn is_given_back(
 
 /// Whether a line at a place gives back only what is known by the lines before it.
 pub fn gives_back_known(
-    knowledge: &Knowledge,
+    knowledge: &mut Knowledge,
     calls: &Calls,
     alloc: Global,
     at: u64,
     event: &Event,
 ) -> Result<bool, Memory>
-    ensures { (past : List Line) → KnownStand knowledge.now past → CallsStand calls.now past → IfOk result (λ known. IsTrue known ↔ BackKnown past (record { at = at; event = event.now })) }
+    ensures { (past : List Line) → KnownStand knowledge.old past → CallsStand calls.now past → IfOk result (λ known. (IsTrue known ↔ BackKnown past (record { at = at; event = event.now })) × KnownStand knowledge.new past) }
 {
     match event {
         Event::Back(number, value) => {

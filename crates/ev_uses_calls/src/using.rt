@@ -22,13 +22,13 @@ fn is_made(made: Option<Label>, label: Label) -> bool
 
 /// Whether a name is known or made.
 fn is_name_known(
-    knowledge: &Knowledge,
+    knowledge: &mut Knowledge,
     alloc: Global,
     activation: Activation,
     made: Option<Label>,
     name: &Name,
 ) -> Result<bool, Memory>
-    ensures { IfOk result (λ known. DecidesAll knowledge.now activation made (name.now ∷ []) known) }
+    ensures { IfOk result (λ known. DecidesAll knowledge.old knowledge.new activation made (name.now ∷ []) known) }
 {
     if is_made(made, name_label(name)) {
         return Ok(true);
@@ -40,13 +40,13 @@ fn is_name_known(
 /// Whether what a value names is known or made.
 #[tactic(auto, using(crate::proofs::Deciding::decides_none), unfolding(def_trace::specs::Uses::names_of))]
 fn is_known(
-    knowledge: &Knowledge,
+    knowledge: &mut Knowledge,
     alloc: Global,
     activation: Activation,
     made: Option<Label>,
     value: &Shown,
 ) -> Result<bool, Memory>
-    ensures { IfOk result (λ known. DecidesAll knowledge.now activation made (names_of value.now) known) }
+    ensures { IfOk result (λ known. DecidesAll knowledge.old knowledge.new activation made (names_of value.now) known) }
 {
     match value {
         Shown::Name(name) => {
@@ -59,13 +59,13 @@ fn is_known(
 
 /// Whether what values name is known or made.
 fn are_known(
-    knowledge: &Knowledge,
+    knowledge: &mut Knowledge,
     alloc: Global,
     activation: Activation,
     made: Option<Label>,
     values: &[Shown],
 ) -> Result<bool, Memory>
-    ensures { IfOk result (λ known. DecidesAll knowledge.now activation made (names values.now) known) }
+    ensures { IfOk result (λ known. DecidesAll knowledge.old knowledge.new activation made (names values.now) known) }
 {
     for value in values {
         if !is_known(knowledge, alloc, activation, made, value)? {
@@ -77,14 +77,14 @@ fn are_known(
 
 /// Whether what a value and others name is known or made.
 fn are_all_known(
-    knowledge: &Knowledge,
+    knowledge: &mut Knowledge,
     alloc: Global,
     activation: Activation,
     made: Option<Label>,
     value: &Shown,
     values: &[Shown],
 ) -> Result<bool, Memory>
-    ensures { IfOk result (λ known. DecidesAll knowledge.now activation made (names_of value.now ++ names values.now) known) }
+    ensures { IfOk result (λ known. DecidesAll knowledge.old knowledge.new activation made (names_of value.now ++ names values.now) known) }
 {
     if !is_known(knowledge, alloc, activation, made, value)? {
         return Ok(false);
@@ -95,13 +95,13 @@ fn are_all_known(
 
 /// Whether what an object captured, and its auditors, are known or made.
 fn are_parts_known(
-    knowledge: &Knowledge,
+    knowledge: &mut Knowledge,
     alloc: Global,
     activation: Activation,
     made: Option<Label>,
     object: &MadeObject,
 ) -> Result<bool, Memory>
-    ensures { IfOk result (λ known. DecidesAll knowledge.now activation made (names object.now.caps ++ names object.now.stamps) known) }
+    ensures { IfOk result (λ known. DecidesAll knowledge.old knowledge.new activation made (names object.now.caps ++ names object.now.stamps) known) }
 {
     if !are_known(knowledge, alloc, activation, made, object.caps.as_slice())? {
         return Ok(false);
@@ -112,14 +112,14 @@ fn are_parts_known(
 
 /// Whether what two values name is known or made.
 fn are_both_known(
-    knowledge: &Knowledge,
+    knowledge: &mut Knowledge,
     alloc: Global,
     activation: Activation,
     made: Option<Label>,
     first: &Shown,
     second: &Shown,
 ) -> Result<bool, Memory>
-    ensures { IfOk result (λ known. DecidesAll knowledge.now activation made (names_of first.now ++ names_of second.now) known) }
+    ensures { IfOk result (λ known. DecidesAll knowledge.old knowledge.new activation made (names_of first.now ++ names_of second.now) known) }
 {
     if !is_known(knowledge, alloc, activation, made, first)? {
         return Ok(false);
@@ -139,13 +139,13 @@ fn is_guarding(called: &Called) -> bool
 
 /// Whether what a call uses is known.
 fn is_call_known(
-    knowledge: &Knowledge,
+    knowledge: &mut Knowledge,
     alloc: Global,
     activation: Activation,
     made: Option<Label>,
     called: &Called,
 ) -> Result<bool, Memory>
-    ensures { IfOk result (λ known. DecidesAll knowledge.now activation made (receivers called.now ++ names called.now.args) known) }
+    ensures { IfOk result (λ known. DecidesAll knowledge.old knowledge.new activation made (receivers called.now ++ names called.now.args) known) }
 {
     if is_guarding(called) {
         let known = are_known(knowledge, alloc, activation, made, called.args.as_slice())?;
@@ -207,13 +207,13 @@ fn user(event: &Event) -> u64
 /// Whether what a line uses is known to an activation, or made.
 #[tactic(auto, using(crate::proofs::Deciding::decides_none), unfolding(def_trace::specs::Uses::names_used))]
 fn is_event_known(
-    knowledge: &Knowledge,
+    knowledge: &mut Knowledge,
     alloc: Global,
     by: Activation,
     made: Option<Label>,
     event: &Event,
 ) -> Result<bool, Memory>
-    ensures { IfOk result (λ known. DecidesAll knowledge.now by made (names_used event.now) known) }
+    ensures { IfOk result (λ known. DecidesAll knowledge.old knowledge.new by made (names_used event.now) known) }
 {
     match event {
         Event::Call(called) => {
@@ -260,12 +260,12 @@ fn is_event_known(
 /// Whether a line at a place uses only what its activation knows by the lines before it, or what the line makes.
 #[tactic(auto, using(crate::proofs::Deciding::line_decided))]
 pub fn uses_known(
-    knowledge: &Knowledge,
+    knowledge: &mut Knowledge,
     alloc: Global,
     at: u64,
     event: &Event,
 ) -> Result<bool, Memory>
-    ensures { (past : List Line) → KnownStand knowledge.now past → IfOk result (λ known. IsTrue known ↔ UsesKnown past (record { at = at; event = event.now })) }
+    ensures { (past : List Line) → KnownStand knowledge.old past → IfOk result (λ known. (IsTrue known ↔ UsesKnown past (record { at = at; event = event.now })) × KnownStand knowledge.new past) }
 {
     let number = user(event);
     let by = Activation { at, number };

@@ -1,11 +1,12 @@
 -- Lines are decided by sets of labels.
-use Rattle.std.proofs.Common.{◌≡◌, Bool, true, false, List, [], Option, Some, None, refl, sym, ap, subst, ◌∙◌}
+use Rattle.std.proofs.Common.{◌≡◌, Bool, true, false, List, [], Option, Some, None, refl, sym, ap, subst, ◌∙◌, inl, inr}
 use Rattle.std.specs.Prelude.{◌↔◌}
 use Rattle.ev_base.specs.declared.names.Msg.{Msg}
 use Rattle.def_event.specs.declared.event.Addressed.{Addressed}
 use Rattle.def_event.specs.declared.event.Event.{Event}
 use Rattle.def_event.specs.declared.event.Event.TheVariants.{Take}
-use Rattle.def_trace.specs.Uses.{CarriesThese, IsAmong, IsListed, Line, Reaches, TakesSent, Thing, all_parts, arguments_in, line_before}
+use Rattle.def_trace.specs.Uses as uses
+use Rattle.def_trace.specs.Uses.{AName, CarriesThese, IsAmong, IsListed, Line, Reaches, TakesSent, Thing, all_parts, arguments_in, line_before}
 use Rattle.ev_known.specs.declared.label.Label.{Label}
 use Rattle.ev_known.specs.declared.links.Link.{Link}
 use Rattle.ev_known.specs.declared.links.Scope.TheVariants.{All, Lists}
@@ -15,7 +16,7 @@ use Rattle.ev_uses_messages.specs.Lines.{AddsThings, message_of, things_with}
 use Rattle.ev_uses_messages.specs.Onward.{OnwardStand}
 use Rattle.ev_uses_messages.specs.Sought.{has_sought}
 use Rattle.ev_uses_messages.proofs.Comparing.{no_gifts, other_names, same_names}
-use Rattle.ev_uses_messages.proofs.Reaching.{AreLabels, added_labels, all_open, lists_open, reached_labels}
+use Rattle.ev_uses_messages.proofs.Reaching.{AreLabels, added_labels, all_open, lists_open, reached_labels, reaches_more, same_parts}
 
 -- ---- what is carried
 
@@ -36,7 +37,34 @@ carried_decided rows past (Some x) m ts carried old known b o is c a before r e 
     (reached_labels rows past o All (λ w. Unit {0}) all_open had old started known r) (added_labels x.1 carried c) in
     (λ h. both.0 (sym e ∙ h), λ h. e ∙ both.1 h)
 
+-- all that is carried stands in the line before
+pub carried_there : (past : List Line) (d : Option (Msg × List Thing)) (m : Msg) (ts : List Thing) (carried old : List Label) → message_of d ≡ Some m → AddsThings (things_with d) [] carried
+    → AddsThings ts [] old → ts ≡ line_before past m → has_sought NoGifts old carried ≡ true → (true ≡ true) ↔ CarriesThese past d
+carried_there past None m ts carried old is c a before h = absurd cc
+carried_there past (Some x) m ts carried old is c a before h =
+    let same : x.0 ≡ m = cc in
+    let had : List Thing = line_before past x.0 in
+    let started : AreLabels old (λ t. IsAmong t had)
+    = added_labels had old (subst (λ (us : List Thing). AddsThings us [] old) (before ∙ ap (line_before past) (sym same)) a) in
+    let both = no_gifts old carried (λ t. IsAmong t had) (λ t. IsAmong t x.1) started (added_labels x.1 carried c) in
+    (λ _. λ n i. elim (both.0 h n i) [ inl g ↦ inl g | inr b ↦ inr (uses.start b) ], λ _. refl)
+
 -- ---- what is taken
+
+-- the same parts were sent
+pub takes_alike : (es : List Event) (past : List Line) (t : Addressed) (there sent : List Label) → AddsThings (all_parts t.args) [] there → AddsThings (arguments_in es t.message) [] sent → there ≡ sent
+    → (true ≡ true) ↔ TakesSent es past (Take t)
+unfolding TakesSent
+takes_alike es past t there sent h g same =
+    let parts = all_parts t.args in
+    let others = arguments_in es t.message in
+    let k = subst (AddsThings parts []) same h in (
+      λ _. λ n. (
+        reaches_more past (λ u. IsAmong u parts) (λ u. IsAmong u others) IsListed (AName n) (same_parts parts others sent k g),
+        reaches_more past (λ u. IsAmong u others) (λ u. IsAmong u parts) IsListed (AName n) (same_parts others parts sent g k),
+      ),
+      λ _. refl,
+    )
 
 pub stands_in : (rows : List (Label × List Link)) (past : List Line) (ts : List Thing) (old labels : List Label) → OnwardStand rows past → AddsThings ts [] old → AreReached rows Lists old labels
     → AreLabels labels (Reaches past (λ t. IsAmong t ts) IsListed)

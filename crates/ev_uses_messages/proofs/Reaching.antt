@@ -35,6 +35,17 @@ added_labels ts labels h = record {
   back = λ l i. elim ((h.each l).0 i) [ inl n ↦ absurd n | inr a ↦ labels_back l ts a ];
 }
 
+-- what more things lead to is more
+pub reaches_more : (past : List Line) (S T : Thing → Type 0) (IsOpen : uses.Way → Type 0) (t : Thing) → ((u : Thing) → S u → T u) → Reaches past S IsOpen t → Reaches past T IsOpen t
+reaches_more past S T IsOpen t more (uses.start i) = uses.start (more t i)
+reaches_more past S T IsOpen t more (uses.onward d lead gone r) = uses.onward d lead gone (reaches_more past S T IsOpen d.from more r)
+
+-- of two lists with the same labels one has what the other has
+pub same_parts : (ts us : List Thing) (ls : List Label) → AddsThings ts [] ls → AddsThings us [] ls → (t : Thing) → IsAmong t ts → IsAmong t us
+same_parts ts us ls h g t i =
+    let u = (added_labels us ls g).back (label t) ((added_labels ts ls h).there t i) in
+    subst (λ (x : Thing). IsAmong x us) (label_same u.0 t u.1) u.2
+
 -- the ways that are open in a scope
 pub IsScope : Scope → (uses.Way → Type 0) → Type 0
 IsScope scope IsOpen = (w : uses.Way) → IsOpen w ↔ (is_open scope (way_of w) ≡ true)

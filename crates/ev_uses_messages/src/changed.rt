@@ -3,50 +3,44 @@
 ghost use Rattle.std.specs.Prelude.{◌≡◌, ◌↔◌, [], List, IfOk, IsTrue, OnOk};
 ghost use Rattle.def_event.specs.declared.event.Event.TheVariants.{Take as TakeLine};
 ghost use Rattle.def_trace.specs.Uses.{IsFirstFailing, Line, TakesSent, all_parts, arguments_in};
-ghost use Rattle.ev_known.specs.Links.{AreReached};
-ghost use Rattle.ev_known.specs.declared.label.Label.{Label as KnownLabel};
-ghost use Rattle.ev_known.specs.declared.links.Scope.TheVariants.{Lists};
 ghost use Rattle.ev_uses_messages.specs.Finding.{SourcesStand};
 ghost use Rattle.ev_uses_messages.specs.Lines.{AddsThings};
 ghost use Rattle.ev_uses_messages.specs.Onward.{OnwardStand};
 
 use crate::onward::tell_onward;
 use crate::parts::add_values;
-use crate::sought::{Sought, has_sought};
+use crate::sought::{Sought, are_same, has_sought};
 use crate::sources::{Sources, sources_of};
 use def_event::{Addressed, Event, Shown};
 use ev_base::{Memory, Msg};
 use ev_known::{Labels, Links, Scope, place_after};
 use std::alloc::Global;
 
-/// What stands in values, lists taken apart.
-fn standing_in(alloc: Global, links: &Links, values: &[Shown]) -> Result<Labels, Memory>
-    ensures { IfOk result (λ labels. (old : List KnownLabel) × AddsThings (all_parts values.now) [] old × AreReached links.now Lists old labels) }
+/// The names and lists in values.
+fn parts_of(alloc: Global, values: &[Shown]) -> Result<Labels, Memory>
+    ensures { IfOk result (λ labels. AddsThings (all_parts values.now) [] labels) }
 {
     let mut labels = Labels::new(alloc);
     add_values(alloc, &mut labels, values)?;
-    links.reach(&Scope::Lists, &mut labels)?;
     Ok(labels)
 }
 
-/// What stands in what a message was sent with, lists taken apart.
-fn standing_in_sent(
+/// The names and lists in what a message was sent with.
+fn parts_sent(
     alloc: Global,
     events: &[Event],
     sources: &Sources,
-    links: &Links,
     message: &Msg,
 ) -> Result<Labels, Memory>
-    ensures { SourcesStand events.now sources.now events.now
-        → IfOk result (λ labels. (old : List KnownLabel) × AddsThings (arguments_in events.now message.now) [] old × AreReached links.now Lists old labels) }
+    ensures { SourcesStand events.now sources.now events.now → IfOk result (λ labels. AddsThings (arguments_in events.now message.now) [] labels) }
 {
     let mut labels = Labels::new(alloc);
     sources.add_arguments(alloc, &mut labels, events, message)?;
-    links.reach(&Scope::Lists, &mut labels)?;
     Ok(labels)
 }
 
-/// Whether the same names stand in the arguments of a message as in those that it was sent with.
+/// Whether the same names stand in the arguments of a message as in those that it was sent with. No list is taken apart where both
+/// have the same parts.
 fn is_taken_sent(
     alloc: Global,
     events: &[Event],
@@ -57,8 +51,13 @@ fn is_taken_sent(
     ensures { (past : List Line) → SourcesStand events.now sources.now events.now → OnwardStand links.now past
         → IfOk result (λ sent. IsTrue sent ↔ TakesSent events.now past (TakeLine taken.now)) }
 {
-    let there = standing_in(alloc, links, taken.args.as_slice())?;
-    let sent = standing_in_sent(alloc, events, sources, links, &taken.message)?;
+    let mut there = parts_of(alloc, taken.args.as_slice())?;
+    let mut sent = parts_sent(alloc, events, sources, &taken.message)?;
+    if are_same(there.as_slice(), sent.as_slice()) {
+        return Ok(true);
+    }
+    links.reach(&Scope::Lists, &mut there)?;
+    links.reach(&Scope::Lists, &mut sent)?;
     if !has_sought(&sent, Sought::Names, there.as_slice()) {
         return Ok(false);
     }

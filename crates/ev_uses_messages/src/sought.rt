@@ -1,6 +1,6 @@
 //! Whether some names stand among others.
 
-ghost use Rattle.std.specs.Prelude.{◌≡◌};
+ghost use Rattle.std.specs.Prelude.{◌≡◌, ◌↔◌, IsTrue};
 ghost use Rattle.ev_uses_messages.specs.Sought.{has_sought, is_sought};
 
 use ev_known::{Kind, Label, Labels};
@@ -38,4 +38,11 @@ pub fn has_sought(labels: &Labels, sought: Sought, others: &[Label]) -> bool
         }
     }
     true
+}
+
+/// Whether two have the same labels in the same order.
+pub fn are_same(labels: &[Label], others: &[Label]) -> bool
+    ensures { IsTrue result ↔ (labels.now ≡ others.now) }
+{
+    labels == others
 }

@@ -40,7 +40,8 @@ fn held_at(alloc: Global, events: &[Event], place: Option<usize>) -> Result<Labe
     Ok(labels)
 }
 
-/// Whether each name that a note carries is a gift, or is reached from what the line before of its message has.
+/// Whether each name that a note carries is a gift, or is reached from what the line before of its message has. Nothing is gone on
+/// from where all of them stand there.
 fn is_note_sent(
     alloc: Global,
     events: &[Event],
@@ -56,6 +57,9 @@ fn is_note_sent(
     };
     let carried = carried_by(alloc, note)?;
     let mut known = held_at(alloc, events, before.find(&message))?;
+    if has_sought(&known, Sought::NoGifts, carried.as_slice()) {
+        return Ok(true);
+    }
     links.reach(&Scope::All, &mut known)?;
     Ok(has_sought(&known, Sought::NoGifts, carried.as_slice()))
 }

@@ -8,20 +8,29 @@ use Rattle.ev_uses_calls.proofs.returning.is_name_given_back.Goals as goal
 pub returns-in_default : goal.returns-in_default
 returns-in_default c past h g =
     let a = c.args.activation in
-    none_inside past a.at a.number c.args.name.now (open_calls past a.at a.number) (stack c.args.calls.now a) c.in_ok-known.known (g.each (record { at = a.at; number = a.number }))
-    (sym c.innermost.ensures ∙ c.in_default.is) (c.in_ok-known.ensures past h)
+    let known = c.in_ok-known.ensures past h in (
+      none_inside past a.at a.number c.args.name.now (open_calls past a.at a.number) (stack c.args.calls.now a) c.in_ok-known.known (g.each (record { at = a.at; number = a.number }))
+          (sym c.innermost.ensures ∙ c.in_default.is) known.0,
+      known.1,
+    )
 
 pub returns-then-call : goal.returns-then-call
 returns-then-call c past h g =
     let a = c.args.activation in (
-      λ e. asked_inside past a.at a.number c.args.name.now (open_calls past a.at a.number) (stack c.args.calls.now a) c.in-Some.call (g.each (record { at = a.at; number = a.number }))
-          (sym c.innermost.ensures ∙ c.in-Some.is) c.if-call.true,
-      λ x. refl,
+      (
+        λ e. asked_inside past a.at a.number c.args.name.now (open_calls past a.at a.number) (stack c.args.calls.now a) c.in-Some.call (g.each (record { at = a.at; number = a.number }))
+            (sym c.innermost.ensures ∙ c.in-Some.is) c.if-call.true,
+        λ x. refl,
+      ),
+      h,
     )
 
 pub returns : goal.returns
 returns c past h g =
     let a = c.args.activation in
-    let known : (c.in_ok-known-2.known ≡ true) ↔ KnowsName past a.at c.number_or-number.result c.args.name.now = c.in_ok-known-2.ensures past h in
-    begun_inside past a.at a.number c.args.name.now (open_calls past a.at a.number) (stack c.args.calls.now a) c.in-Some.call c.in_ok-known-2.known (g.each (record { at = a.at; number = a.number }))
-    (sym c.innermost.ensures ∙ c.in-Some.is) c.if-call.false (subst (λ (n : ℕ). (c.in_ok-known-2.known ≡ true) ↔ KnowsName past a.at n c.args.name.now) c.number_or-number.ensures known)
+    let answer = c.in_ok-known-2.ensures past h in
+    let known : (c.in_ok-known-2.known ≡ true) ↔ KnowsName past a.at c.number_or-number.result c.args.name.now = answer.0 in (
+      begun_inside past a.at a.number c.args.name.now (open_calls past a.at a.number) (stack c.args.calls.now a) c.in-Some.call c.in_ok-known-2.known (g.each (record { at = a.at; number = a.number }))
+          (sym c.innermost.ensures ∙ c.in-Some.is) c.if-call.false (subst (λ (n : ℕ). (c.in_ok-known-2.known ≡ true) ↔ KnowsName past a.at n c.args.name.now) c.number_or-number.ensures known),
+      answer.1,
+    )

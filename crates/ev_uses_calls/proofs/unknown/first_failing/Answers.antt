@@ -13,14 +13,15 @@ returns-then-not-branch c h =
     let i = c.loop-index.index in
     let get = slice_get_read c.args.events.now (length c.args.events.now) i c.index-events-index.result refl c.loop-index-test.true c.index-events-index.is in
     judging_fails IsOfKnown (KeptStand c.loop-index.kept) c.loop-index.at c.place_after-at.result c.args.events.now i c.index-events-index.result c.in_ok-is_of_known.field-0 (c.loop-index.invariant h) get
-    c.place_after-at.ensures c.in_ok-is_of_known.ensures c.if-not-branch.true
+    c.place_after-at.ensures (λ past stand. (c.in_ok-is_of_known.ensures past stand).0) c.if-not-branch.true
 
 pub loop-index-preserved : goal.loop-index-preserved
 loop-index-preserved c h =
     let i = c.loop-index.index in
     let get = slice_get_read c.args.events.now (length c.args.events.now) i c.index-events-index.result refl c.loop-index-test.true c.index-events-index.is in
     judging_step IsOfKnown (KeptStand c.loop-index.kept) (KeptStand c.tell_line.new.self) c.loop-index.at c.place_after-at.result c.args.events.now i c.index-events-index.result
-    c.in_ok-is_of_known.field-0 (c.loop-index.invariant h) get c.place_after-at.ensures c.in_ok-is_of_known.ensures c.if-not-branch.false c.in_ok-tell_line.ensures
+    c.in_ok-is_of_known.field-0 (c.loop-index.invariant h) get c.place_after-at.ensures (λ past stand. (c.in_ok-is_of_known.ensures past stand).0) c.if-not-branch.false
+    (λ past stand. c.in_ok-tell_line.ensures past (c.in_ok-is_of_known.ensures past stand).1)
 
 pub returns : goal.returns
 returns c h =

@@ -6,10 +6,10 @@ use Rattle.ev_uses_calls.proofs.using.are_all_known.Goals as goal
 
 pub returns-then-not-branch : goal.returns-then-not-branch
 returns-then-not-branch c =
-    decides_left c.args.knowledge.now c.args.activation c.args.made (names_of c.args.value.now) (names c.args.values.now)
-    (subst (DecidesAll c.args.knowledge.now c.args.activation c.args.made (names_of c.args.value.now)) c.if-not-branch.true c.in_ok-is_known.ensures)
+    decides_left c.args.knowledge.now c.is_known.new.knowledge c.args.activation c.args.made (names_of c.args.value.now) (names c.args.values.now)
+    (subst (DecidesAll c.args.knowledge.now c.is_known.new.knowledge c.args.activation c.args.made (names_of c.args.value.now)) c.if-not-branch.true c.in_ok-is_known.ensures)
 
 pub returns : goal.returns
 returns c =
-    decides_both c.args.knowledge.now c.args.activation c.args.made (names_of c.args.value.now) (names c.args.values.now) c.in_ok-known.known
-    (subst (DecidesAll c.args.knowledge.now c.args.activation c.args.made (names_of c.args.value.now)) c.if-not-branch.false c.in_ok-is_known.ensures) c.in_ok-known.ensures
+    decides_both c.args.knowledge.now c.is_known.new.knowledge c.are_known.new.knowledge c.args.activation c.args.made (names_of c.args.value.now) (names c.args.values.now) c.in_ok-known.known
+    (subst (DecidesAll c.args.knowledge.now c.is_known.new.knowledge c.args.activation c.args.made (names_of c.args.value.now)) c.if-not-branch.false c.in_ok-is_known.ensures) c.in_ok-known.ensures

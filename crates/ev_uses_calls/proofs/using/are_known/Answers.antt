@@ -9,12 +9,12 @@ pub returns-then-not-branch : goal.returns-then-not-branch
 returns-then-not-branch c =
     let i = c.loop-value.value-index in
     let x = slice_get_read c.args.values.now (length c.args.values.now) i c.value-item.result refl c.loop-value-test.true c.value-item.is in
-    values_fail c.args.knowledge.now c.args.activation c.args.made c.args.values.now i c.value-item.result x
-    (subst (DecidesAll c.args.knowledge.now c.args.activation c.args.made (names_of c.value-item.result)) c.if-not-branch.true c.in_ok-is_known.ensures)
+    values_fail c.args.knowledge.now c.loop-value.knowledge c.is_known.new.knowledge c.args.activation c.args.made c.args.values.now i c.value-item.result x c.loop-value.invariant
+    (subst (DecidesAll c.loop-value.knowledge c.is_known.new.knowledge c.args.activation c.args.made (names_of c.value-item.result)) c.if-not-branch.true c.in_ok-is_known.ensures)
 
 pub loop-value-preserved : goal.loop-value-preserved
 loop-value-preserved c =
     let i = c.loop-value.value-index in
     let x = slice_get_read c.args.values.now (length c.args.values.now) i c.value-item.result refl c.loop-value-test.true c.value-item.is in
-    values_next c.args.knowledge.now c.args.activation c.args.made c.args.values.now i c.value-item.result x c.loop-value.invariant
-    (subst (DecidesAll c.args.knowledge.now c.args.activation c.args.made (names_of c.value-item.result)) c.if-not-branch.false c.in_ok-is_known.ensures)
+    values_next c.args.knowledge.now c.loop-value.knowledge c.is_known.new.knowledge c.args.activation c.args.made c.args.values.now i c.value-item.result x c.loop-value.invariant
+    (subst (DecidesAll c.loop-value.knowledge c.is_known.new.knowledge c.args.activation c.args.made (names_of c.value-item.result)) c.if-not-branch.false c.in_ok-is_known.ensures)

@@ -7,13 +7,13 @@ use Rattle.ev_uses_calls.proofs.using.are_parts_known.Goals as goal
 
 pub returns-then-not-branch : goal.returns-then-not-branch
 returns-then-not-branch c =
-    decides_left c.args.knowledge.now c.args.activation c.args.made (names c.args.object.now.caps) (names c.args.object.now.stamps)
-    (subst (DecidesAll c.args.knowledge.now c.args.activation c.args.made (names c.args.object.now.caps)) c.if-not-branch.true
-    (subst (λ (xs : List Shown). DecidesAll c.args.knowledge.now c.args.activation c.args.made (names xs) c.in_ok-are_known.field-0) c.as_slice.ensures c.in_ok-are_known.ensures))
+    decides_left c.args.knowledge.now c.are_known.new.knowledge c.args.activation c.args.made (names c.args.object.now.caps) (names c.args.object.now.stamps)
+    (subst (DecidesAll c.args.knowledge.now c.are_known.new.knowledge c.args.activation c.args.made (names c.args.object.now.caps)) c.if-not-branch.true
+    (subst (λ (xs : List Shown). DecidesAll c.args.knowledge.now c.are_known.new.knowledge c.args.activation c.args.made (names xs) c.in_ok-are_known.field-0) c.as_slice.ensures c.in_ok-are_known.ensures))
 
 pub returns : goal.returns
 returns c =
-    decides_both c.args.knowledge.now c.args.activation c.args.made (names c.args.object.now.caps) (names c.args.object.now.stamps) c.in_ok-known.known
-    (subst (DecidesAll c.args.knowledge.now c.args.activation c.args.made (names c.args.object.now.caps)) c.if-not-branch.false
-    (subst (λ (xs : List Shown). DecidesAll c.args.knowledge.now c.args.activation c.args.made (names xs) c.in_ok-are_known.field-0) c.as_slice.ensures c.in_ok-are_known.ensures))
-    (subst (λ (xs : List Shown). DecidesAll c.args.knowledge.now c.args.activation c.args.made (names xs) c.in_ok-known.known) c.as_slice-2.ensures c.in_ok-known.ensures)
+    decides_both c.args.knowledge.now c.are_known.new.knowledge c.are_known-2.new.knowledge c.args.activation c.args.made (names c.args.object.now.caps) (names c.args.object.now.stamps) c.in_ok-known.known
+    (subst (DecidesAll c.args.knowledge.now c.are_known.new.knowledge c.args.activation c.args.made (names c.args.object.now.caps)) c.if-not-branch.false
+    (subst (λ (xs : List Shown). DecidesAll c.args.knowledge.now c.are_known.new.knowledge c.args.activation c.args.made (names xs) c.in_ok-are_known.field-0) c.as_slice.ensures c.in_ok-are_known.ensures))
+    (subst (λ (xs : List Shown). DecidesAll c.are_known.new.knowledge c.are_known-2.new.knowledge c.args.activation c.args.made (names xs) c.in_ok-known.known) c.as_slice-2.ensures c.in_ok-known.ensures)

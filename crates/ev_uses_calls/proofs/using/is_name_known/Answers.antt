@@ -9,7 +9,7 @@ returns-then-is_made c =
 
 pub returns : goal.returns
 returns c =
-    name_decides c.args.knowledge.now c.args.activation c.args.made c.args.name.now c.in_ok-known.known
+    name_decides c.args.knowledge.now c.knows.new.self c.args.activation c.args.made c.args.name.now c.in_ok-known.known
     (λ e. let made = c.is_made.ensures.1 (e ∙ ap (λ (l : Label). Some l) (sym c.name_label.ensures)) in
     let bad : true ≡ false = sym made ∙ c.if-is_made.false in absurd cc)
     c.in_ok-known.ensures

@@ -6,5 +6,5 @@ use Rattle.ev_uses_calls.proofs.using.uses_known.Goals as goal
 pub returns : goal.returns
 returns c past h =
     let by : Activation = record { at = c.args.at; number = c.user-number.result } in
-    line_decided c.args.knowledge.now c.args.at c.args.event.now by c.made_label.result c.in_ok-known.known past
+    line_decided c.args.knowledge.now c.is_event_known.new.knowledge c.args.at c.args.event.now by c.made_label.result c.in_ok-known.known past
     (ap (λ (n : ℕ). record { at = c.args.at; number = n }) c.user-number.ensures) c.made_label.ensures c.in_ok-known.ensures h

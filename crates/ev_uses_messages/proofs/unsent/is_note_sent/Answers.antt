@@ -5,16 +5,23 @@ use Rattle.ev_uses_messages.specs.declared.sought.Sought.TheVariants.{NoGifts}
 use Rattle.ev_uses_messages.specs.Finding.{found_at}
 use Rattle.ev_uses_messages.specs.Lines.{holds}
 use Rattle.ev_uses_messages.specs.Sought.{has_sought}
-use Rattle.ev_uses_messages.proofs.Deciding.{carried_decided, nothing_carried}
+use Rattle.ev_uses_messages.proofs.Deciding.{carried_decided, carried_there, nothing_carried}
 use Rattle.ev_uses_messages.proofs.Finding.{before_is}
 use Rattle.ev_uses_messages.proofs.unsent.is_note_sent.Goals as goal
 
 pub returns-in_default : goal.returns-in_default
 returns-in_default c past f o = nothing_carried past (delivered c.args.note.now) (sym c.delivered_message.ensures.all ∙ c.in_default.is)
 
+pub returns-then-has_sought : goal.returns-then-has_sought
+returns-then-has_sought c past f o =
+    carried_there past (delivered c.args.note.now) c.in-Some.message (unwrap_or (found_at holds c.args.events.now c.find.result) []) c.in_ok-carried.carried c.in_ok-known.known
+    (sym c.delivered_message.ensures.all ∙ c.in-Some.is) c.in_ok-carried.ensures c.in_ok-known.ensures
+    (ap (λ (p : Option ℕ). unwrap_or (found_at holds c.args.events.now p) []) c.find.ensures ∙ before_is c.args.events.now c.args.before.now past c.in-Some.message f)
+    (sym (c.has_sought.ensures ∙ ap (has_sought NoGifts c.in_ok-known.known) c.as_slice.ensures) ∙ c.if-has_sought.true)
+
 pub returns : goal.returns
 returns c past f o =
     carried_decided c.args.links.now past (delivered c.args.note.now) c.in-Some.message (unwrap_or (found_at holds c.args.events.now c.find.result) []) c.in_ok-carried.carried c.in_ok-known.known
-    c.reach.new.labels c.has_sought.result o (sym c.delivered_message.ensures.all ∙ c.in-Some.is) c.in_ok-carried.ensures c.in_ok-known.ensures
+    c.reach.new.labels c.has_sought-2.result o (sym c.delivered_message.ensures.all ∙ c.in-Some.is) c.in_ok-carried.ensures c.in_ok-known.ensures
     (ap (λ (p : Option ℕ). unwrap_or (found_at holds c.args.events.now p) []) c.find.ensures ∙ before_is c.args.events.now c.args.before.now past c.in-Some.message f) c.in_ok-reach.ensures
-    (c.has_sought.ensures ∙ ap (has_sought NoGifts c.reach.new.labels) c.as_slice.ensures)
+    (c.has_sought-2.ensures ∙ ap (has_sought NoGifts c.reach.new.labels) c.as_slice-2.ensures)

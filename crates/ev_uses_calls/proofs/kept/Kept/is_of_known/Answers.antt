@@ -1,15 +1,24 @@
 use Rattle.std.proofs.Common.{◌≡◌, true, false, sym, subst, ◌∙◌}
 use Rattle.ev_uses_calls.specs.Kept.{KeptStand, KeptTables}
-use Rattle.ev_uses_calls.proofs.Giving.{both_points, first_point}
+use Rattle.ev_uses_calls.proofs.Giving.{both_points, both_stand, first_point}
 use Rattle.ev_uses_calls.proofs.kept.Kept.is_of_known.Goals as goal
 
 pub returns-then-not-branch : goal.returns-then-not-branch
 returns-then-not-branch c past h =
     let inside = subst (λ (k : KeptTables). KeptStand k past) (sym c.self.view_is) h in
-    (λ e. absurd (let bad : false ≡ true = e in cc), λ p. absurd (let first = (c.in_ok-uses_known.ensures past inside.knowledge).1 (first_point past (record { at = c.args.at; event = c.args.event.now }) p) in let bad : true ≡ false = sym first ∙ c.if-not-branch.true in cc))
+    let uses = c.in_ok-uses_known.ensures past inside.knowledge in (
+      (
+        λ e. absurd (let bad : false ≡ true = e in cc),
+        λ p. absurd (let first = uses.0.1 (first_point past (record { at = c.args.at; event = c.args.event.now }) p) in let bad : true ≡ false = sym first ∙ c.if-not-branch.true in cc),
+      ),
+      both_stand c.uses_known.new.knowledge c.self.inside.calls past uses.1 inside.calls,
+    )
 
 pub returns : goal.returns
 returns c past h =
     let inside = subst (λ (k : KeptTables). KeptStand k past) (sym c.self.view_is) h in
-    both_points past (record { at = c.args.at; event = c.args.event.now }) c.in_ok-known.known ((c.in_ok-uses_known.ensures past inside.knowledge).0 c.if-not-branch.false)
-    (c.in_ok-known.ensures past inside.knowledge inside.calls)
+    let uses = c.in_ok-uses_known.ensures past inside.knowledge in
+    let gives = c.in_ok-known.ensures past uses.1 inside.calls in (
+      both_points past (record { at = c.args.at; event = c.args.event.now }) c.in_ok-known.known (uses.0.0 c.if-not-branch.false) gives.0,
+      both_stand c.gives_back_known.new.knowledge c.self.inside.calls past gives.1 inside.calls,
+    )

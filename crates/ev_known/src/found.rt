@@ -1,0 +1,75 @@
+//! What activations were found to know, so that it is not sought again.
+
+ghost use Rattle.std.specs.Prelude.{◌≡◌, [], OnOk};
+ghost use Rattle.ev_known.specs.Found.{is_found, with_found};
+
+use crate::facts::Activation;
+use crate::label::Label;
+use ev_base::Memory;
+use indexmap::IndexSet;
+use std::alloc::Global;
+use std::marker::Model;
+
+/// A thing, and an activation that knows it.
+#[derive(Clone, Copy, Debug, PartialEq, Eq, Hash)]
+pub struct Finding {
+    pub by: Activation,
+    pub thing: Label,
+}
+
+/// What was found. Contracts see it as a list, in which each stands once.
+#[derive(Drop)]
+pub struct Found {
+    set: IndexSet<Finding>,
+}
+
+impl Model for Found {
+    ghost use Rattle.std.specs.Prelude.{List};
+    ghost use Rattle.ev_known.specs.declared.found.Finding.{Finding};
+
+    ghost Value = { List Finding };
+
+    ghost view = { λ f. f.set.keys };
+}
+
+/// Whether a set has it.
+#[tactic(auto, unfolding(crate::specs::Found::is_found))]
+fn has_in(set: &IndexSet<Finding>, finding: Finding) -> bool
+    ensures { result ≡ is_found set.now.keys finding }
+{
+    set.contains(&finding)
+}
+
+/// Adds it to a set.
+#[tactic(auto, unfolding(crate::specs::Found::with_found))]
+fn add_in(set: &mut IndexSet<Finding>, finding: Finding) -> Result<(), Memory>
+    ensures { OnOk result (set.new.keys ≡ with_found set.old.keys finding) }
+{
+    set.insert_full(finding)?;
+    Ok(())
+}
+
+impl Found {
+    /// Nothing was found. It takes no memory.
+    pub fn new(alloc: Global) -> Found
+        ensures { result ≡ [] }
+    {
+        Found {
+            set: IndexSet::new(alloc),
+        }
+    }
+
+    /// Whether it was found.
+    pub fn has(&self, finding: Finding) -> bool
+        ensures { result ≡ is_found self.now finding }
+    {
+        has_in(&self.set, finding)
+    }
+
+    /// It is found.
+    pub fn add(&mut self, finding: Finding) -> Result<(), Memory>
+        ensures { OnOk result (self.new ≡ with_found self.old finding) }
+    {
+        add_in(&mut self.set, finding)
+    }
+}
