@@ -62,7 +62,7 @@ drawn_in w h = links_drawn h.0 w.drawn w.links h.1
 
 -- ---- names
 
-object_apart : (n : Name) → IsObject n → IsEventual n → ⊥
+pub object_apart : (n : Name) → IsObject n → IsEventual n → ⊥
 object_apart (Object w i) o e = e
 object_apart (Root w) o e = o
 object_apart (Promise w i) o e = o
@@ -195,7 +195,7 @@ module _ (script : Script) (v : ℕ) where
     among_made (k ∷ ks) n h (inl e) = subst (λ x. WasMade w.vats w.drawn x) (sym e) h.0.0
     among_made (k ∷ ks) n h (inr a) = among_made ks n h.1 a
 
-    own_messages : messages_of w.vats v ≡ s.messages
+    pub own_messages : messages_of w.vats v ≡ s.messages
     unfolding messages_of
     own_messages = ap (λ o. elim o [ Some q ↦ q.messages | None ↦ zero ]) there
 

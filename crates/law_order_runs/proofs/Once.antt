@@ -25,7 +25,7 @@ unfoldable tally : Name → List Item → ℕ
 tally m [] = 0
 tally m (i ∷ js) = one i.mail m + tally m js
 
-itself : (m : Name) → one m m ≡ 1
+pub itself : (m : Name) → one m m ≡ 1
 unfolding one fate.once
 itself m = rw (same_self m) refl
 

@@ -27,7 +27,7 @@ use Rattle.law_order.specs.Worlds.{IsObject}
 use Rattle.law_order.proofs.Moves.{Keeps, keeps_bind, keeps_give, keeps_look}
 use Rattle.law_order_cuts.proofs.Walk.{walked_opening, walked_taking, walked_notice, walked_arrive, learning_name}
 use Rattle.law_order_runs.specs.Telling.{ElsewhereIsTrue, ToldNamesSettled}
-use Rattle.law_order_runs.proofs.Beginnings.{reached_is, none_found, named_object, each_all, all_eventual}
+use Rattle.law_order_runs.proofs.Beginnings.{reached_is, none_found, named_object, each_all, object_apart, all_eventual}
 use Rattle.law_order_runs.proofs.Truths.{TellsTruly, AllTell, Lasts, Tells, HasSettled, base, quiet_out, truly_still, tells_walked}
 
 going : {x z : World} → Goes x ≡ Goes z → x ≡ z
@@ -261,14 +261,6 @@ module _ (script : Script) where
   unfolding standing_in names
   settled_well u s n z None well e f = cc
   settled_well u s n z (Some k) well e f = subst SettledWell f (found_all (draw_word script.key) u KnownWell s.known n k (each_all KnownWell s.known well) e).standing
-
-  object_apart : (o : Name) → IsObject o → IsEventual o → ⊥
-  object_apart (Object w i) h e = e
-  object_apart (Root w) h e = h
-  object_apart (Promise w i) h e = h
-  object_apart (Answer g m) h e = h
-  object_apart (Gift g i) h e = h
-  object_apart (Sent m) h e = h
 
   elsewhere_in : (w : World) (u : ℕ) (n : Name) (c : ℕ) → NoteTrue w.vats u (Elsewhere n c) → ((s : Vat Name) → slice_get w.vats u ≡ Some s → Each KnownWell s.known × AllOf IsEventual (names_in s.known))
       → (s : Vat Name) × (slice_get w.vats u ≡ Some s) × (o : Name) × (standing_of (names script u) s.known n ≡ Settled (Ref o)) × IsObject o × (host_of o ≡ c)

@@ -193,7 +193,7 @@ module _ (script : Script) (v : ℕ) where
   hosted_apart s o h n false g e = false_apart g o h n e
 
   -- an object that is not known is followed to itself
-  object_self : (d : ℕ) (ks : List (Known Name)) (o : Name) → entry_of K ks o ≡ None → follow_at K d ks (Ref o) ≡ Ref o
+  pub object_self : (d : ℕ) (ks : List (Known Name)) (o : Name) → entry_of K ks o ≡ None → follow_at K d ks (Ref o) ≡ Ref o
   unfolding follow_at refs.led standing_of standing_in
   object_self zero ks o e = refl
   object_self (suc d) ks o e = ap (λ q. refs.led K (λ y. follow_at K d ks y) o (standing_in q)) e
@@ -215,7 +215,7 @@ module _ (script : Script) (v : ℕ) where
   severed_spot s o h n (Foreign g) e = severed_either s o h n (is_in g s.noticed) e
   severed_spot s o h n NoObject e = severed_either s o h n (is_in (refs.host_at K s.number s.known o) s.noticed) e
 
-  abbrev IsData : Value Name → Type 0
+  abbrev pub IsData : Value Name → Type 0
   IsData (Ref n) = ⊥
   IsData Null = Unit {0}
   IsData (Flag b) = Unit {0}
@@ -226,7 +226,7 @@ module _ (script : Script) (v : ℕ) where
   IsData (Broken t) = Unit {0}
   IsData (Items k) = Unit {0}
 
-  data_self : (d : ℕ) (ks : List (Known Name)) (z : Value Name) → IsData z → follow_at K d ks z ≡ z
+  pub data_self : (d : ℕ) (ks : List (Known Name)) (z : Value Name) → IsData z → follow_at K d ks z ≡ z
   unfolding follow_at
   data_self zero ks z h = refl
   data_self (suc d) ks (Ref n) h = absurd h

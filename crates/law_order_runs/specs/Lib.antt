@@ -1,3 +1,4 @@
 pub mod Beginnings
 pub mod Once
+pub mod Owning
 pub mod Telling

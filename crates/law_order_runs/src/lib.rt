@@ -2,4 +2,5 @@
 #![tactic(auto)]
 
 pub mod beginning;
+pub mod owning;
 pub mod telling;
