@@ -1,7 +1,7 @@
 #!/usr/bin/env python3
 """Times how programs are expanded and read, and how scripts are read.
 
-Run it at the top of the repository. It builds crates/test_bench. For programs of 1, 4, 16 and 64 KiB, of each form of the
+Run it at the top of the repository. It builds crates/test_bench_reading. For programs of 1, 4, 16 and 64 KiB, of each form of the
 language and of all of them together, it prints the time of one expansion of the parsed tree, that of one whole reading (tokens,
 tree, expansion and scopes), and each by the byte. Then it prints the same of scripts of up to 1 MB, which are long by their
 schedule, by a drain or by their sources. The time of a byte should stay level.

@@ -1,15 +1,15 @@
 #!/usr/bin/env python3
 """Times the reading and writing of frames, and look-ups in the tables of a connection.
 
-Run it at the top of the repository. It builds crates/test_bench and prints, for each kind of frame and each size, the
+Run it at the top of the repository. It builds crates/test_bench_tables and prints, for each kind of frame and each size, the
 time of one call and of one byte, and for each table the time of one look-up.
 """
 import pathlib
 import subprocess
 import time
 
-CRATE = pathlib.Path("crates/test_bench")
-PROGRAM = CRATE / "out" / "test_bench"
+CRATE = pathlib.Path("crates/test_bench_tables")
+PROGRAM = CRATE / "out" / "test_bench_tables"
 SIZES = [16, 256, 4096, 65_000]
 
 

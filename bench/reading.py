@@ -1,7 +1,7 @@
 #!/usr/bin/env python3
 """Times how texts of E are taken apart into tokens, and how the tokens are parsed.
 
-Run it at the top of the repository. It builds crates/test_bench and prints, for each form of the language, for each
+Run it at the top of the repository. It builds crates/test_bench_reading and prints, for each form of the language, for each
 deep nesting and for texts of 1, 4, 16 and 64 KiB, the time of one call and of one byte. The time of a byte should stay level.
 """
 from timing import SIZES, build, per_call

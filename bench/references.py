@@ -1,7 +1,7 @@
 #!/usr/bin/env python3
 """Times settlings inside one vat: names that wait on one another, messages that one name holds, and both at once.
 
-Run it at the top of the repository. It builds crates/test_bench and prints, for each kind and count, the time of one
+Run it at the top of the repository. It builds crates/test_bench_references and prints, for each kind and count, the time of one
 name or message, and the memory of one.
 """
 import os
@@ -9,8 +9,8 @@ import pathlib
 import subprocess
 import time
 
-CRATE = pathlib.Path("crates/test_bench")
-PROGRAM = CRATE / "out" / "test_bench"
+CRATE = pathlib.Path("crates/test_bench_references")
+PROGRAM = CRATE / "out" / "test_bench_references"
 COUNTS = [1_000, 10_000, 100_000, 1_000_000]
 RUNS = 3
 

@@ -1,7 +1,7 @@
 #!/usr/bin/env python3
 """Times the evaluator: nanoseconds and bytes of memory for a unit of fuel, and bytes for a line that is told.
 
-Run it at the top of the repository. It builds crates/evat and crates/test_bench, expands each loop below by
+Run it at the top of the repository. It builds crates/evat and crates/test_bench_frames, expands each loop below by
 `evat expand`, and evaluates its kernel form until 0.1, 1 and 10 million units of fuel are spent. A loop never ends by
 itself, so all its fuel is spent and its lines are told and dropped at the stop: what is measured is evaluation alone.
 The figures of one loop should stay level as the fuel grows.
@@ -16,7 +16,7 @@ import subprocess
 import tempfile
 
 EVAT = pathlib.Path("crates/evat")
-BENCH = pathlib.Path("crates/test_bench")
+BENCH = pathlib.Path("crates/test_bench_frames")
 DEPTH = 20_000
 FUELS = [100_000, 1_000_000, 10_000_000]
 TRIES = 3
@@ -102,7 +102,7 @@ def measured(words: list, given: pathlib.Path) -> tuple[float, int, bytes]:
 
 def evaluated(form: pathlib.Path, fuel: int) -> tuple[float, int, int]:
     """Seconds, bytes of memory, and how many lines were told."""
-    seconds, most, text = measured([BENCH / "out" / "test_bench", "turn", str(DEPTH), str(fuel)], form)
+    seconds, most, text = measured([BENCH / "out" / "test_bench_frames", str(DEPTH), str(fuel)], form)
     told = text.decode().split()
     return seconds, most, int(told[-1]) if "told" in told else 0
 

@@ -1,10 +1,10 @@
-"""How crates/test_bench is built and timed."""
+"""How crates/test_bench_reading is built and timed."""
 import pathlib
 import subprocess
 import time
 
-CRATE = pathlib.Path("crates/test_bench")
-PROGRAM = CRATE / "out" / "test_bench"
+CRATE = pathlib.Path("crates/test_bench_reading")
+PROGRAM = CRATE / "out" / "test_bench_reading"
 # Of texts and programs, in bytes.
 SIZES = [1024, 4096, 16_384, 65_536]
 

@@ -1,32 +1,39 @@
-//! The text of standard input, read as often as it is told. What is refused is read too.
+//! Reads the text of standard input as often as it is told, for `bench/` to time.
+//!
+//! Words: `lex TIMES` takes it apart into tokens, `parse TIMES` does so once and parses the tokens so often, `expand TIMES` parses
+//! once and expands the tree so often, `program TIMES` reads a program from its text on and `script TIMES` a script. It prints
+//! nothing, and ends with status 0 where memory sufficed, and the text of the first three has tokens and that of `expand` spells a
+//! tree. What is refused is read too.
+#![tactic(auto)]
 
 use def_syntax::{Sugar, Token};
 use ev_base::{Seq, Str};
 use ev_expand::{ExpandFault, expand};
+use ev_io::{StdSource, read_all};
 use ev_lexer::lex;
 use ev_parser::{ParseFault, parse};
 use ev_reader::{ProgramFault, read_program};
 use ev_script::{ScriptFault, read_script};
 use std::alloc::Global;
-use std::str;
+use std::io::BufReader;
+use std::process::ExitCode;
+use std::{env, str};
+
+/// The greatest input, in bytes.
+const LIMIT: u32 = 1_048_576;
 
 /// A kind of work.
 #[derive(Clone, Copy)]
-pub(crate) enum Kind {
-    /// The text is taken apart into tokens.
+enum Kind {
     Lex,
-    /// It is taken apart once, and its tokens are parsed so often.
     Parse,
-    /// It is parsed once, and its tree is expanded so often.
     Expand,
-    /// It is read as a program.
     Program,
-    /// It is read as a script.
     Script,
 }
 
-pub(crate) fn kind_of(word: &str) -> Option<Kind> {
-    match word {
+fn kind_of(word: Option<String>) -> Option<Kind> {
+    match word?.as_str() {
         "lex" => Some(Kind::Lex),
         "parse" => Some(Kind::Parse),
         "expand" => Some(Kind::Expand),
@@ -34,6 +41,16 @@ pub(crate) fn kind_of(word: &str) -> Option<Kind> {
         "script" => Some(Kind::Script),
         _ => None,
     }
+}
+
+fn number_of(word: Option<String>) -> Option<u32> {
+    word?.as_str().parse().ok()
+}
+
+fn read_input(rt: &HostRuntime) -> Option<Seq<u8>> {
+    let reader = BufReader::new(rt.alloc(), rt.reader()).ok()?;
+    let mut source = StdSource::new(reader);
+    read_all(rt.alloc(), &mut source, LIMIT).ok()
 }
 
 fn lexes(alloc: Global, text: &str) -> bool {
@@ -120,10 +137,29 @@ fn work_on_text(alloc: Global, kind: Kind, text: &str, times: u32) -> bool {
     }
 }
 
-/// It is done where memory sufficed, the text of the first three has tokens, and that of `expand` spells a tree.
-pub(crate) fn work(alloc: Global, kind: Kind, bytes: &[u8], times: u32) -> bool {
+fn work(alloc: Global, kind: Kind, bytes: &[u8], times: u32) -> bool {
     match str::from_utf8(bytes) {
         Ok(text) => work_on_text(alloc, kind, text, times),
         Err(_) => false,
+    }
+}
+
+fn run(rt: &HostRuntime, kind: Option<Kind>, times: Option<u32>) -> Option<bool> {
+    let kind = kind?;
+    let times = times?;
+    let bytes = read_input(rt)?;
+    Some(work(rt.alloc(), kind, bytes.as_slice(), times))
+}
+
+fn main(rt: HostRuntime) -> ExitCode {
+    let Ok(args) = env::args(&rt) else {
+        return ExitCode::from(1);
+    };
+    let mut args = args.skip(1);
+    let kind = kind_of(args.next());
+    let times = number_of(args.next());
+    match run(&rt, kind, times) {
+        Some(true) => ExitCode::SUCCESS,
+        _ => ExitCode::from(1),
     }
 }

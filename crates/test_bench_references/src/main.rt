@@ -1,4 +1,5 @@
-//! Settlings of names inside one vat.
+//! Settles names inside one vat (`chain N`, `held N` or `both N`), and prints how many events that told.
+#![tactic(auto)]
 
 use ev_base::{ActId, PromId, TextId, Value, VatId};
 use ev_heap::Heap;
@@ -10,16 +11,18 @@ use ev_settle::{resolve, send_only};
 use ev_told::Micro;
 use ev_word::Word;
 use std::alloc::Global;
+use std::env;
+use std::process::ExitCode;
 
 /// What is settled: names of which each waits on the next, one name that holds messages, or both at once.
 #[derive(Clone, Copy)]
-pub(crate) enum Kind {
+enum Kind {
     Chain,
     Held,
     Both,
 }
 
-pub(crate) fn kind_of(word: &str) -> Option<Kind> {
+fn kind_of(word: &str) -> Option<Kind> {
     match word {
         "chain" => Some(Kind::Chain),
         "held" => Some(Kind::Held),
@@ -69,7 +72,7 @@ fn holding(inside: &mut Interior, verb: &Word, count: u64) -> Result<u64, Stop> 
 }
 
 /// How many events are told.
-pub(crate) fn settled(alloc: Global, kind: Kind, count: u64) -> Result<usize, Stop> {
+fn settled(alloc: Global, kind: Kind, count: u64) -> Result<usize, Stop> {
     let mut inside = inside(alloc)?;
     let verb = Word::run();
     let last = match kind {
@@ -79,4 +82,26 @@ pub(crate) fn settled(alloc: Global, kind: Kind, count: u64) -> Result<usize, St
     };
     resolve(&mut inside, PromId(last), Value::Int(1))?;
     Ok(inside.micro.events.len())
+}
+
+fn run(alloc: Global, kind: Option<String>, count: Option<String>) -> Option<usize> {
+    let kind = kind_of(kind?.as_str())?;
+    let count = count?.as_str().parse::<u64>().ok()?;
+    settled(alloc, kind, count).ok()
+}
+
+fn main(rt: HostRuntime) -> ExitCode {
+    let Ok(args) = env::args(&rt) else {
+        return ExitCode::from(1);
+    };
+    let mut args = args.skip(1);
+    let kind = args.next();
+    let count = args.next();
+    match run(rt.alloc(), kind, count) {
+        None => ExitCode::from(2),
+        Some(events) => match println!(&rt; "{events}") {
+            Ok(()) => ExitCode::from(0),
+            Err(_) => ExitCode::from(3),
+        },
+    }
 }
