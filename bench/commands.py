@@ -52,6 +52,11 @@ def trace(front: str, line, size: int) -> bytes:
     return repeated(front, line, size - 4) + b"end\n"
 
 
+def counted(front: str, line, count: int) -> bytes:
+    """A trace of so many lines behind the front."""
+    return (front + "".join(line(n) for n in range(count)) + "end\n").encode()
+
+
 def chain_then(front: str, line, size: int) -> bytes:
     """A trace of a chain of promises, as long as half of it, and then of lines by their numbers and the number of the last promise."""
     built = repeated(front, lambda n: f"settle a~{n} a~{n + 1}\n", size // 2)
@@ -96,7 +101,7 @@ def start_carried(size: int) -> bytes:
     built = repeated("open a\n!0 promise a~0 a.1\n", lambda n: f"settle a~{n} a~{n + 1}\n", size // 2).decode()
     count = (size - len(built)) // 85
     sends = "".join(f"!0 send a/{k} @b f a~0 -> b?a/{k}\n" for k in range(count))
-    return trace(built + sends + "!0 done null\nopen b\n", lambda k: f"{k + 1} carry a b deliver a/{k} @b f a~1\n", size)
+    return counted(built + sends + "!0 done null\nopen b\n", lambda k: f"{k + 1} carry a b deliver a/{k} @b f a~1\n", count)
 
 
 def list_sent(number: int) -> str:
@@ -106,12 +111,12 @@ def list_sent(number: int) -> str:
 
 
 def long_list(size: int) -> bytes:
-    """A list of half of a trace is sent and taken often."""
+    """A long list is sent and taken often."""
     promises = repeated(PROMISE, lambda n: f"!0 promise a~{n + 1} a.{n + 2}\n", size // 4).decode()
     members = " ".join(f"a~{n}" for n in range(promises.count("promise")))
-    count = (size - len(promises) - len(members)) // 90
+    count = (size - len(promises) - len(members)) // 110
     sends = "".join(f"!0 send a/{k} a.0 f a%0 -> a?a/{k}\n" for k in range(count))
-    return trace(promises + f"!0 list a%0 {members}\n" + sends + "!0 done null\n", list_sent, size)
+    return counted(promises + f"!0 list a%0 {members}\n" + sends + "!0 done null\n", list_sent, 3 * count)
 
 
 def lists_in_lists(size: int) -> bytes:
