@@ -1,12 +1,13 @@
 #!/usr/bin/env python3
 """Times how programs are expanded and read, and how scripts are read.
 
-Run it at the top of the repository. It builds crates/test_bench_reading. For programs of 1, 4, 16 and 64 KiB, of each form of the
+Run it at the top of the repository. It builds bench/programs/bench_reading.txt. For programs of 1, 4, 16 and 64 KiB, of each form of the
 language and of all of them together, it prints the time of one expansion of the parsed tree, that of one whole reading (tokens,
 tree, expansion and scopes), and each by the byte. Then it prints the same of scripts of up to 1 MB, which are long by their
 schedule, by a drain or by their sources. The time of a byte should stay level.
 """
 import json
+import pathlib
 
 from timing import SIZES, build, per_call
 
@@ -55,31 +56,31 @@ def scripts(size: int) -> dict[str, bytes]:
     }
 
 
-def print_programs() -> None:
+def print_programs(bench: pathlib.Path) -> None:
     print(f"{'program':12} {'bytes':>7} {'expand us':>10} {'ns/byte':>8} {'read us':>10} {'ns/byte':>8}")
     for name, unit in FORMS.items():
         for size in SIZES:
             text = program(unit, size)
             times = max(5, 1_000_000 // len(text))
-            expanded = per_call("expand", times, text) * 1e6
-            read = per_call("program", times, text) * 1e6
+            expanded = per_call(bench, "expand", times, text) * 1e6
+            read = per_call(bench, "program", times, text) * 1e6
             per = 1000 / len(text)
             print(f"{name:12} {len(text):7} {expanded:10.1f} {expanded * per:8.1f} {read:10.1f} {read * per:8.1f}")
 
 
-def print_scripts() -> None:
+def print_scripts(bench: pathlib.Path) -> None:
     print(f"\n{'script':12} {'bytes':>7} {'read us':>10} {'ns/byte':>8}")
     for size in SCRIPT_SIZES:
         for name, text in scripts(size).items():
             times = max(5, 2_000_000 // len(text))
-            read = per_call("script", times, text) * 1e6
+            read = per_call(bench, "script", times, text) * 1e6
             print(f"{name:12} {len(text):7} {read:10.1f} {read * 1000 / len(text):8.1f}")
     for rounds in (10, 1000, 24_999, 25_001):
         text = script([vat(0, "1"), vat(1, "2")], [f"drain {rounds}"])
-        print(f"drain {rounds:6} {len(text):7} {per_call('script', 20, text) * 1e6:10.1f}")
+        print(f"drain {rounds:6} {len(text):7} {per_call(bench, 'script', 20, text) * 1e6:10.1f}")
 
 
 if __name__ == "__main__":
-    build()
-    print_programs()
-    print_scripts()
+    bench = build()
+    print_programs(bench)
+    print_scripts(bench)

@@ -1,7 +1,7 @@
 #!/usr/bin/env python3
 """Times how texts of E are taken apart into tokens, and how the tokens are parsed.
 
-Run it at the top of the repository. It builds crates/test_bench_reading and prints, for each form of the language, for each
+Run it at the top of the repository. It builds bench/programs/bench_reading.txt and prints, for each form of the language, for each
 deep nesting and for texts of 1, 4, 16 and 64 KiB, the time of one call and of one byte. The time of a byte should stay level.
 """
 from timing import SIZES, build, per_call
@@ -48,11 +48,11 @@ def texts() -> dict[str, bytes]:
 
 
 if __name__ == "__main__":
-    build()
+    bench = build()
     print(f"{'text':20} {'bytes':>6} {'lex ns':>11} {'ns/byte':>8} {'parse ns':>12} {'ns/byte':>8}")
     for name, text in texts().items():
         length = len(text)
         times = max(10, 4_000_000 // length)
-        lexed = per_call("lex", times, text) * 1e9
-        parsed = per_call("parse", times, text) * 1e9
+        lexed = per_call(bench, "lex", times, text) * 1e9
+        parsed = per_call(bench, "parse", times, text) * 1e9
         print(f"{name:20} {length:6} {lexed:11.0f} {lexed / length:8.2f} {parsed:12.0f} {parsed / length:8.2f}")

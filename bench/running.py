@@ -1,7 +1,7 @@
 #!/usr/bin/env python3
 """Times the evaluator: nanoseconds and bytes of memory for a unit of fuel, and bytes for a line that is told.
 
-Run it at the top of the repository. It builds crates/evat and crates/test_bench_frames, expands each loop below by
+Run it at the top of the repository. It builds crates/evat and bench/programs/bench_frames.txt, expands each loop below by
 `evat expand`, and evaluates its kernel form until 0.1, 1 and 10 million units of fuel are spent. A loop never ends by
 itself, so all its fuel is spent and its lines are told and dropped at the stop: what is measured is evaluation alone.
 The figures of one loop should stay level as the fuel grows.
@@ -15,8 +15,9 @@ import pathlib
 import subprocess
 import tempfile
 
+import building
+
 EVAT = pathlib.Path("crates/evat")
-BENCH = pathlib.Path("crates/test_bench_frames")
 DEPTH = 20_000
 FUELS = [100_000, 1_000_000, 10_000_000]
 TRIES = 3
@@ -72,9 +73,10 @@ TURNS = [1_000, 10_000, 100_000]
 AMPLE = 10_000_000
 
 
-def build() -> None:
-    for crate, words in (EVAT, ["--", "help"]), (BENCH, ["--", "1", "1"]):
-        subprocess.run(["rt", "run", *words], cwd=crate, stdin=subprocess.DEVNULL, stdout=subprocess.DEVNULL)
+def build() -> pathlib.Path:
+    """Builds evat, and the program that evaluates alone, of which it tells where that stands."""
+    subprocess.run(["rt", "run", "--", "help"], cwd=EVAT, stdin=subprocess.DEVNULL, stdout=subprocess.DEVNULL)
+    return building.build("bench_frames", ["1", "1"], b"(lit 41)")
 
 
 def expanded(source: str) -> bytes:
@@ -100,9 +102,9 @@ def measured(words: list, given: pathlib.Path) -> tuple[float, int, bytes]:
     return min(run[0] for run in runs), min(run[1] for run in runs), runs[0][2]
 
 
-def evaluated(form: pathlib.Path, fuel: int) -> tuple[float, int, int]:
+def evaluated(bench: pathlib.Path, form: pathlib.Path, fuel: int) -> tuple[float, int, int]:
     """Seconds, bytes of memory, and how many lines were told."""
-    seconds, most, text = measured([BENCH / "out" / "test_bench_frames", str(DEPTH), str(fuel)], form)
+    seconds, most, text = measured([bench, str(DEPTH), str(fuel)], form)
     told = text.decode().split()
     return seconds, most, int(told[-1]) if "told" in told else 0
 
@@ -115,7 +117,7 @@ def run_with(script: pathlib.Path, source: str, turns: int) -> tuple[float, int,
     return seconds, most, len(text)
 
 
-def print_loops(program: pathlib.Path) -> None:
+def print_loops(bench: pathlib.Path, program: pathlib.Path) -> None:
     print(f"{'loop':28} {'fuel':>10} {'ns a unit':>10} {'bytes a unit':>13} {'bytes a line':>13}")
     for name, (before, body) in LOOPS.items():
         form = form_of(before, body)
@@ -123,9 +125,9 @@ def print_loops(program: pathlib.Path) -> None:
             print(f"{name:28} not built: {form.decode().strip()}")
             continue
         program.write_bytes(form)
-        rest, floor, _ = evaluated(program, 1)
+        rest, floor, _ = evaluated(bench, program, 1)
         for fuel in FUELS:
-            seconds, most, lines = evaluated(program, fuel)
+            seconds, most, lines = evaluated(bench, program, fuel)
             more = max(0, most - floor)
             line = f"{more / lines:13.0f}" if lines else " " * 13
             print(f"{name:28} {fuel:10} {(seconds - rest) / fuel * 1e9:10.1f} {more / fuel:13.1f} {line}")
@@ -142,9 +144,9 @@ def print_senders(script: pathlib.Path) -> None:
 
 
 def main() -> None:
-    build()
+    bench = build()
     with tempfile.TemporaryDirectory() as room:
-        print_loops(pathlib.Path(room) / "form")
+        print_loops(bench, pathlib.Path(room) / "form")
         print_senders(pathlib.Path(room) / "script")
 
 

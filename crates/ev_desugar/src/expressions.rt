@@ -4,11 +4,12 @@ ghost use Rattle.std.specs.Prelude.{◌≡◌, IfOk};
 ghost use Rattle.ev_desugar.specs.Rows.{assign, binary, body, compared, computed, conditional, conjunction, different, disjunction, else_or_null, falsehood, made_list, null, prefix, put, same, send, sent_verb, truth};
 ghost use Rattle.ev_desugar.specs.Words.{arithmetic, comparing};
 
+use crate::asking::{ask, ask_named, named};
 use crate::lists::{one, three, two};
 use crate::words::{arithmetic, comparing, prefixing, ranging, updating};
 use def_kernel::{Literal, Node};
 use ev_base::{Memory, Seq, Str};
-use ev_piece::{call, if_, lit, noun, seq, set};
+use ev_piece::{if_, lit, seq, set};
 use ev_word::Text;
 use std::alloc::Global;
 
@@ -17,8 +18,7 @@ use std::alloc::Global;
 pub fn null(alloc: Global) -> Result<Seq<Node>, Memory>
     ensures { IfOk result (λ piece. piece ≡ null) }
 {
-    let piece = noun(alloc, Str::copy_of(alloc, "null")?)?;
-    Ok(piece)
+    named(alloc, "null")
 }
 
 /// `true`
@@ -26,8 +26,7 @@ pub fn null(alloc: Global) -> Result<Seq<Node>, Memory>
 pub fn truth(alloc: Global) -> Result<Seq<Node>, Memory>
     ensures { IfOk result (λ piece. piece ≡ truth) }
 {
-    let piece = noun(alloc, Str::copy_of(alloc, "true")?)?;
-    Ok(piece)
+    named(alloc, "true")
 }
 
 /// `false`
@@ -35,8 +34,7 @@ pub fn truth(alloc: Global) -> Result<Seq<Node>, Memory>
 pub fn falsehood(alloc: Global) -> Result<Seq<Node>, Memory>
     ensures { IfOk result (λ piece. piece ≡ falsehood) }
 {
-    let piece = noun(alloc, Str::copy_of(alloc, "false")?)?;
-    Ok(piece)
+    named(alloc, "false")
 }
 
 /// A block: of no expression null, of one this, of several a sequence.
@@ -63,9 +61,7 @@ pub fn body(alloc: Global, items: Seq<Seq<Node>>) -> Result<Seq<Node>, Memory>
 pub fn made_list(alloc: Global, items: Seq<Seq<Node>>) -> Result<Seq<Node>, Memory>
     ensures { IfOk result (λ piece. piece ≡ made_list items) }
 {
-    let maker = noun(alloc, Str::copy_of(alloc, "__makeList")?)?;
-    let piece = call(alloc, maker, Str::copy_of(alloc, "run")?, items)?;
-    Ok(piece)
+    ask_named(alloc, "__makeList", "run", items)
 }
 
 /// The verb of a send.
@@ -96,9 +92,7 @@ pub fn send(
     let verb = lit(alloc, Literal::Text(Text::of(alloc, verb)?))?;
     let args = made_list(alloc, args)?;
     let args = three(alloc, target, verb, args)?;
-    let sender = noun(alloc, Str::copy_of(alloc, "E")?)?;
-    let piece = call(alloc, sender, Str::copy_of(alloc, "send")?, args)?;
-    Ok(piece)
+    ask_named(alloc, "E", "send", args)
 }
 
 /// `x := e`, `x += e`
@@ -117,9 +111,9 @@ pub fn assign(
             Ok(piece)
         }
         Some(verb) => {
-            let left = noun(alloc, Str::copy_of(alloc, name)?)?;
+            let left = named(alloc, name)?;
             let args = one(alloc, value)?;
-            let value = call(alloc, left, Str::copy_of(alloc, verb)?, args)?;
+            let value = ask(alloc, left, verb, args)?;
             let piece = set(alloc, Str::copy_of(alloc, name)?, value)?;
             Ok(piece)
         }
@@ -138,8 +132,7 @@ pub fn put(
 {
     let mut args = args;
     args.push(value)?;
-    let piece = call(alloc, object, Str::copy_of(alloc, "put")?, args)?;
-    Ok(piece)
+    ask(alloc, object, "put", args)
 }
 
 /// `-a`, `!a`
@@ -147,9 +140,7 @@ pub fn put(
 pub fn prefix(alloc: Global, operator: &str, value: Seq<Node>) -> Result<Seq<Node>, Memory>
     ensures { IfOk result (λ piece. piece ≡ prefix operator.now value) }
 {
-    let verb = Str::copy_of(alloc, prefixing(operator))?;
-    let piece = call(alloc, value, verb, Seq::new(alloc))?;
-    Ok(piece)
+    ask(alloc, value, prefixing(operator), Seq::new(alloc))
 }
 
 /// `a == b`
@@ -158,9 +149,7 @@ fn same(alloc: Global, left: Seq<Node>, right: Seq<Node>) -> Result<Seq<Node>, M
     ensures { IfOk result (λ piece. piece ≡ same left right) }
 {
     let args = two(alloc, left, right)?;
-    let equalizer = noun(alloc, Str::copy_of(alloc, "__equalizer")?)?;
-    let piece = call(alloc, equalizer, Str::copy_of(alloc, "sameEver")?, args)?;
-    Ok(piece)
+    ask_named(alloc, "__equalizer", "sameEver", args)
 }
 
 /// `a != b`
@@ -169,8 +158,7 @@ fn different(alloc: Global, left: Seq<Node>, right: Seq<Node>) -> Result<Seq<Nod
     ensures { IfOk result (λ piece. piece ≡ different left right) }
 {
     let same = same(alloc, left, right)?;
-    let piece = call(alloc, same, Str::copy_of(alloc, "not")?, Seq::new(alloc))?;
-    Ok(piece)
+    ask(alloc, same, "not", Seq::new(alloc))
 }
 
 /// `a && b`
@@ -211,17 +199,8 @@ fn compared(
 {
     let args = two(alloc, left, right)?;
     match comparing(operator) {
-        None => {
-            let maker = noun(alloc, Str::copy_of(alloc, "__makeList")?)?;
-            let verb = Str::copy_of(alloc, ranging(operator))?;
-            let piece = call(alloc, maker, verb, args)?;
-            Ok(piece)
-        }
-        Some(verb) => {
-            let comparer = noun(alloc, Str::copy_of(alloc, "__comparer")?)?;
-            let piece = call(alloc, comparer, Str::copy_of(alloc, verb)?, args)?;
-            Ok(piece)
-        }
+        None => { ask_named(alloc, "__makeList", ranging(operator), args) }
+        Some(verb) => { ask_named(alloc, "__comparer", verb, args) }
     }
 }
 
@@ -242,8 +221,7 @@ fn computed(
         }
         Some(verb) => {
             let args = one(alloc, right)?;
-            let piece = call(alloc, left, Str::copy_of(alloc, verb)?, args)?;
-            Ok(piece)
+            ask(alloc, left, verb, args)
         }
     }
 }

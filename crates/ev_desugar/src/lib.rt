@@ -1,7 +1,8 @@
 //! The rows of the expansion: what each form of E's surface is in the kernel language, by what its parts are there.
 #![tactic(auto)]
 
-pub mod expressions;
+pub mod asking;
+mod expressions;
 pub mod lists;
 pub mod loops;
 pub mod objects;

@@ -4,6 +4,7 @@ ghost use Rattle.std.specs.Prelude.{◌≡◌, ◌+◌, ◌++◌, suc, length, I
 ghost use Rattle.def_kernel.specs.declared.node.Node.TheVariants.{Try};
 ghost use Rattle.ev_desugar.specs.Rows.{awaited, caught, closure, escaped, for_loop, fulfilled, fulfilment, iterated, key_or_any, leavable, repeated, settled, tried, while_loop};
 
+use crate::asking::{ask, ask_named, both_steps, named};
 use crate::expressions::{falsehood, null, truth};
 use crate::lists::{one, two};
 use def_kernel::Node;
@@ -54,15 +55,12 @@ fn repeated(alloc: Global, test: Seq<Node>, block: Seq<Node>) -> Result<Seq<Node
     ensures { IfOk result (λ piece. piece ≡ repeated test block) }
 {
     let yes = truth(alloc)?;
-    let steps = two(alloc, block, yes)?;
-    let steps = seq(alloc, steps)?;
+    let steps = both_steps(alloc, block, yes)?;
     let no = falsehood(alloc)?;
     let turn = if_(alloc, test, steps, no)?;
     let turn = closure(alloc, Seq::new(alloc), turn)?;
     let args = one(alloc, turn)?;
-    let repeater = noun(alloc, Str::copy_of(alloc, "__loop")?)?;
-    let piece = call(alloc, repeater, Str::copy_of(alloc, "run")?, args)?;
-    Ok(piece)
+    ask_named(alloc, "__loop", "run", args)
 }
 
 /// The key of a `for`.
@@ -91,14 +89,12 @@ fn iterated(
     ensures { IfOk result (λ piece. piece ≡ iterated key value whole block) }
 {
     let last = null(alloc)?;
-    let steps = two(alloc, block, last)?;
-    let steps = seq(alloc, steps)?;
+    let steps = both_steps(alloc, block, last)?;
     let key = key_or_any(alloc, key)?;
     let patterns = two(alloc, key, value)?;
     let visit = closure(alloc, patterns, steps)?;
     let args = one(alloc, visit)?;
-    let piece = call(alloc, whole, Str::copy_of(alloc, "iterate")?, args)?;
-    Ok(piece)
+    ask(alloc, whole, "iterate", args)
 }
 
 /// `while (t) B`, whether a `break` or a `continue` of its own is there.
@@ -244,11 +240,9 @@ pub fn tried(
 fn fulfilment(alloc: Global) -> Result<Seq<Node>, Memory>
     ensures { IfOk result (λ piece. piece ≡ fulfilment) }
 {
-    let value = noun(alloc, Str::copy_of(alloc, "__w")?)?;
+    let value = named(alloc, "__w")?;
     let args = one(alloc, value)?;
-    let references = noun(alloc, Str::copy_of(alloc, "Ref")?)?;
-    let piece = call(alloc, references, Str::copy_of(alloc, "fulfillment")?, args)?;
-    Ok(piece)
+    ask_named(alloc, "Ref", "fulfillment", args)
 }
 
 /// The block of a `when`, behind that test.
@@ -257,9 +251,7 @@ fn fulfilled(alloc: Global, block: Seq<Node>) -> Result<Seq<Node>, Memory>
     ensures { IfOk result (λ piece. piece ≡ fulfilled block) }
 {
     let test = fulfilment(alloc)?;
-    let steps = two(alloc, test, block)?;
-    let piece = seq(alloc, steps)?;
-    Ok(piece)
+    both_steps(alloc, test, block)
 }
 
 /// The block of a `when` with its catch.
@@ -296,12 +288,5 @@ pub fn awaited(
     let patterns = one(alloc, pattern)?;
     let reaction = closure(alloc, patterns, block)?;
     let args = two(alloc, value, reaction)?;
-    let references = noun(alloc, Str::copy_of(alloc, "Ref")?)?;
-    let piece = call(
-        alloc,
-        references,
-        Str::copy_of(alloc, "whenResolved")?,
-        args,
-    )?;
-    Ok(piece)
+    ask_named(alloc, "Ref", "whenResolved", args)
 }

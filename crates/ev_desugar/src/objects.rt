@@ -3,6 +3,7 @@
 ghost use Rattle.std.specs.Prelude.{◌≡◌, IfOk};
 ghost use Rattle.ev_desugar.specs.Rows.{defined_function, defined_object, defined_var, guarded, leave, noun_guard, object_pattern, plain_method, to_method, value_or_null};
 
+use crate::asking::{ask, both_steps, named};
 use crate::expressions::null;
 use crate::lists::{one, two};
 use crate::loops::leavable;
@@ -22,10 +23,8 @@ fn guarded(alloc: Global, guard: Option<Seq<Node>>, body: Seq<Node>) -> Result<S
         Some(guard) => {
             let pattern = final_pattern(alloc, Str::copy_of(alloc, "__r")?, Some(guard))?;
             let bound = def(alloc, pattern, None, body)?;
-            let value = noun(alloc, Str::copy_of(alloc, "__r")?)?;
-            let steps = two(alloc, bound, value)?;
-            let piece = seq(alloc, steps)?;
-            Ok(piece)
+            let value = named(alloc, "__r")?;
+            both_steps(alloc, bound, value)
         }
     }
 }
@@ -43,8 +42,7 @@ pub fn to_method(
     ensures { IfOk result (λ piece. piece ≡ to_method returns verb patterns guard block) }
 {
     let last = null(alloc)?;
-    let steps = two(alloc, block, last)?;
-    let steps = seq(alloc, steps)?;
+    let steps = both_steps(alloc, block, last)?;
     let steps = leavable(alloc, returns, "__return", steps)?;
     let body = guarded(alloc, guard, steps)?;
     let piece = method(alloc, verb, patterns, body)?;
@@ -164,8 +162,7 @@ pub fn leave(alloc: Global, word: &str, value: Option<Seq<Node>>) -> Result<Seq<
     let left = noun(alloc, name)?;
     let value = value_or_null(alloc, value)?;
     let args = one(alloc, value)?;
-    let piece = call(alloc, left, Str::copy_of(alloc, "run")?, args)?;
-    Ok(piece)
+    ask(alloc, left, "run", args)
 }
 
 /// A guard `g[x]`.
@@ -178,6 +175,5 @@ pub fn noun_guard(alloc: Global, name: Str, args: Seq<Seq<Node>>) -> Result<Seq<
         return Ok(piece);
     }
     let guard = noun(alloc, name)?;
-    let piece = call(alloc, guard, Str::copy_of(alloc, "get")?, args)?;
-    Ok(piece)
+    ask(alloc, guard, "get", args)
 }

@@ -27,7 +27,7 @@ use ev_word::Word;
 use std::alloc::Global;
 
 /// How a turn ended.
-#[derive(Clone, Copy, Debug, PartialEq, Eq)]
+#[derive(Clone, Copy, PartialEq, Eq)]
 pub enum Ended {
     /// With a value.
     Value(Value),

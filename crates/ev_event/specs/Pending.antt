@@ -27,6 +27,11 @@ abbrev pub open_weight : List (Bor (List Shown)) → ℕ
 open_weight [] = 0
 open_weight (rest ∷ lists) = open_weight lists + weights rest.now + 1
 
+-- the bracket of a list in a note, and the whole of any other value
+abbrev pub front : List (List ℕ) → Shown → List ℕ
+front vats (Members' _ row) = 91 ∷ []
+front vats x = value vats x
+
 -- what stands before a member, where another stands before it or not
 abbrev pub separator : Bool → List ℕ
 separator true = 32 ∷ []

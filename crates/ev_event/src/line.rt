@@ -126,6 +126,37 @@ fn push_lost(out: &mut String, names: &[Str], id: &Msg, word: &str) -> Result<()
     add_word(out, word)
 }
 
+/// What an activation does with a message.
+fn push_message_act(
+    out: &mut String,
+    names: &[Str],
+    id: u64,
+    word: &str,
+    m: &Msg,
+) -> Result<(), AllocError>
+    ensures { OnOk result (string_bytes out.new ≡ string_bytes out.old ++ spaced (activation id ∷ word.now ∷ message names.now m.now ∷ [])) }
+{
+    push_activation(out, id)?;
+    add_word(out, word)?;
+    add_message(out, names, m)
+}
+
+/// The target, verb and arguments of a message.
+fn add_request(
+    alloc: Global,
+    out: &mut String,
+    names: &[Str],
+    target: &Shown,
+    verb: &str,
+    args: &[Shown],
+) -> Result<(), AllocError>
+    ensures { OnOk result (string_bytes out.new ≡ string_bytes out.old ++ flat_map (λ v. 32 ∷ v) (value names.now target.now ∷ printed_verb verb.now ∷ values names.now args.now)) }
+{
+    add_value(alloc, out, names, target)?;
+    add_verb(out, verb)?;
+    add_values(alloc, out, names, args)
+}
+
 /// A message with its target, verb and arguments: one that is taken, or that is sent without an answer.
 fn push_addressed(
     alloc: Global,
@@ -136,12 +167,15 @@ fn push_addressed(
 ) -> Result<(), AllocError>
     ensures { OnOk result (string_bytes out.new ≡ string_bytes out.old ++ spaced (activation m.now.activation ∷ word.now ∷ message names.now m.now.message ∷ value names.now m.now.target ∷ printed_verb m.now.verb ∷ values names.now m.now.args)) }
 {
-    push_activation(out, m.activation)?;
-    add_word(out, word)?;
-    add_message(out, names, &m.message)?;
-    add_value(alloc, out, names, &m.target)?;
-    add_verb(out, m.verb.as_str())?;
-    add_values(alloc, out, names, m.args.as_slice())
+    push_message_act(out, names, m.activation, word, &m.message)?;
+    add_request(
+        alloc,
+        out,
+        names,
+        &m.target,
+        m.verb.as_str(),
+        m.args.as_slice(),
+    )
 }
 
 /// The activation that a call begins.
@@ -199,12 +233,15 @@ fn add_answer(out: &mut String, names: &[Str], answer: &Name) -> Result<(), Allo
 fn push_send(alloc: Global, out: &mut String, names: &[Str], sent: &Sent) -> Result<(), AllocError>
     ensures { OnOk result (string_bytes out.new ≡ string_bytes out.old ++ line_of names.now (Send sent.now)) }
 {
-    push_activation(out, sent.activation)?;
-    add_word(out, "send")?;
-    add_message(out, names, &sent.message)?;
-    add_value(alloc, out, names, &sent.target)?;
-    add_verb(out, sent.verb.as_str())?;
-    add_values(alloc, out, names, sent.args.as_slice())?;
+    push_message_act(out, names, sent.activation, "send", &sent.message)?;
+    add_request(
+        alloc,
+        out,
+        names,
+        &sent.target,
+        sent.verb.as_str(),
+        sent.args.as_slice(),
+    )?;
     add_answer(out, names, &sent.answer)
 }
 
@@ -217,9 +254,7 @@ fn push_when(
 ) -> Result<(), AllocError>
     ensures { OnOk result (string_bytes out.new ≡ string_bytes out.old ++ line_of names.now (When reacting.now)) }
 {
-    push_activation(out, reacting.activation)?;
-    add_word(out, "when")?;
-    add_message(out, names, &reacting.message)?;
+    push_message_act(out, names, reacting.activation, "when", &reacting.message)?;
     add_value(alloc, out, names, &reacting.value)?;
     add_value(alloc, out, names, &reacting.reaction)?;
     add_answer(out, names, &reacting.answer)

@@ -1,11 +1,12 @@
 //! Values in a line.
 
-ghost use Rattle.std.specs.Prelude.{◌≡◌, ℕ, List, ◌+◌, ◌<◌, ◌++◌, ◌∷◌, [], OnOk, IfOk, MatchOption, string_bytes, slice_get, unwrap_or};
+ghost use Rattle.std.specs.Prelude.{◌≡◌, ℕ, List, ◌+◌, ◌<◌, ◌++◌, ◌∷◌, [], OnOk, IfOk, MatchOption, codes, string_bytes, slice_get, unwrap_or};
 ghost use Rattle.std.specs.Fmt.{signed_decimal};
 ghost use Rattle.ev_base.specs.SafeScope.{primitives};
 ghost use Rattle.def_event.specs.declared.shown.Shown.{Members};
 ghost use Rattle.def_event.specs.Lines.{primitive_name, value};
-ghost use Rattle.ev_event.specs.Pending.{separator, weight, weights, next_weight, open_weight, list_text, next_text, open_text};
+ghost use Rattle.def_text.specs.Quoting.{shortened};
+ghost use Rattle.ev_event.specs.Pending.{front, separator, weight, weights, next_weight, open_weight, list_text, next_text, open_text};
 
 use crate::names::{push_name, push_numbered};
 use def_event::shown::Shown;
@@ -64,6 +65,43 @@ fn push_integer(out: &mut String, number: i128) -> Result<(), AllocError>
     out.push_str(digits.format(number))
 }
 
+/// Appends the problem of a broken reference.
+fn push_problem(alloc: Global, out: &mut String, problem: &str) -> Result<(), AllocError>
+    ensures { OnOk result (string_bytes out.new ≡ string_bytes out.old ++ (codes "broken:" ++ shortened problem.now)) }
+{
+    out.push_str("broken:")?;
+    push_shortened(alloc, out, problem)
+}
+
+/// Appends the name of a primitive between angle brackets.
+fn push_bracketed(out: &mut String, primitive: PrimId) -> Result<(), AllocError>
+    ensures { OnOk result (string_bytes out.new ≡ string_bytes out.old ++ 60 ∷ (primitive_name primitive ++ 62 ∷ [])) }
+{
+    out.push('<')?;
+    push_primitive(out, primitive)?;
+    out.push('>')
+}
+
+/// Appends a value that is no list in a note, and of such a list the bracket.
+fn push_front(alloc: Global, out: &mut String, names: &[Str], x: &Shown) -> Result<(), AllocError>
+    ensures { OnOk result (string_bytes out.new ≡ string_bytes out.old ++ front names.now x.now) }
+{
+    match x {
+        Shown::Null => out.push_str("null"),
+        Shown::Bool(true) => out.push_str("true"),
+        Shown::Bool(false) => out.push_str("false"),
+        Shown::Int(number) => push_integer(out, *number),
+        Shown::Char(c) => push_quoted_character(out, *c),
+        Shown::Text(text) => push_shortened(alloc, out, text.as_str()),
+        Shown::Broken(problem) => push_problem(alloc, out, problem.as_str()),
+        Shown::Prim(primitive) => push_bracketed(out, *primitive),
+        Shown::List(host, number) => push_numbered(out, names, *host, '%', *number),
+        Shown::Slot(host, number) => push_numbered(out, names, *host, '&', *number),
+        Shown::Name(id) => push_name(out, names, id),
+        Shown::Members(_) => out.push('['),
+    }
+}
+
 /// Appends a value that is no list in a note. Of such a list it appends the bracket, and hands out the members.
 fn begin_value<'a>(
     alloc: Global,
@@ -75,31 +113,11 @@ fn begin_value<'a>(
         ((string_bytes out.new ≡ string_bytes out.old ++ value names.now x.now) × (0 < weight x.now))
         (λ members. (string_bytes out.new ≡ string_bytes out.old ++ 91 ∷ []) × (x.now ≡ Members members.now))) }
 {
+    push_front(alloc, out, names, x)?;
     match x {
-        Shown::Null => out.push_str("null")?,
-        Shown::Bool(true) => out.push_str("true")?,
-        Shown::Bool(false) => out.push_str("false")?,
-        Shown::Int(number) => push_integer(out, *number)?,
-        Shown::Char(c) => push_quoted_character(out, *c)?,
-        Shown::Text(text) => push_shortened(alloc, out, text.as_str())?,
-        Shown::Broken(problem) => {
-            out.push_str("broken:")?;
-            push_shortened(alloc, out, problem.as_str())?;
-        }
-        Shown::Prim(primitive) => {
-            out.push('<')?;
-            push_primitive(out, *primitive)?;
-            out.push('>')?;
-        }
-        Shown::List(host, number) => push_numbered(out, names, *host, '%', *number)?,
-        Shown::Slot(host, number) => push_numbered(out, names, *host, '&', *number)?,
-        Shown::Name(id) => push_name(out, names, id)?,
-        Shown::Members(members) => {
-            out.push('[')?;
-            return Ok(Some(members.as_slice()));
-        }
+        Shown::Members(members) => Ok(Some(members.as_slice())),
+        _ => Ok(None),
     }
-    Ok(None)
 }
 
 /// Appends the space before a member that is not the first of its list.

@@ -12,7 +12,7 @@ use ev_room::exit::{Came, Exit};
 use ev_room::scope::Scope;
 
 /// What comes next.
-#[derive(Clone, Copy, Debug)]
+#[derive(Clone, Copy)]
 pub enum Now {
     /// A node begins, at most so many levels deep.
     Begin(u32, NodeId),

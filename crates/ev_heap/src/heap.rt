@@ -16,7 +16,7 @@ const MOST_WEIGHT: u64 = 65536;
 const MOST_HEIGHT: u64 = 100;
 
 /// Why a list was not made.
-#[derive(Clone, Copy, Debug, PartialEq, Eq)]
+#[derive(Clone, Copy, PartialEq, Eq)]
 pub enum ListFault {
     /// It would be heavier or higher than the limits.
     TooHeavy,

@@ -11,7 +11,7 @@ use ev_base::Seq;
 use std::alloc::Global;
 
 /// Why a read of all bytes ended before the end of input.
-#[derive(Clone, Copy, Debug, PartialEq, Eq)]
+#[derive(Clone, Copy, PartialEq, Eq)]
 pub enum ReadEnd {
     /// The source failed.
     Failed,

@@ -2,7 +2,7 @@
 
 ghost use Rattle.std.specs.Prelude.{◌≡◌, ◌∷◌, ◌++◌, OnOk, string_bytes};
 ghost use Rattle.def_kernel.specs.Forms.{literal_form};
-ghost use Rattle.ev_kernel_printer.specs.Pieces.{head, parts, inner_parts, perhaps, exit_parts, caught_parts};
+ghost use Rattle.ev_kernel_printer.specs.Pieces.{head, parts, inner_parts, perhaps, exit_parts, caught_parts, items, group};
 
 use crate::pieces::{Piece, Pieces, push_group, push_items};
 use def_kernel::{Literal, Node};
@@ -138,6 +138,78 @@ fn push_caught(
     }
 }
 
+/// The parts of a definition.
+fn push_definition(
+    pieces: &mut Pieces,
+    pattern: NodeId,
+    exit: Option<NodeId>,
+    value: NodeId,
+    height: usize,
+) -> Result<(), AllocError>
+    ensures { OnOk result (pieces.new ≡ Piece.Spaced pattern height ∷ (exit_parts height exit ++ Piece.Spaced value height ∷ pieces.old)) }
+{
+    push_one(pieces, value, height)?;
+    push_exit(pieces, exit, height)?;
+    push_one(pieces, pattern, height)
+}
+
+/// The parts of an escape.
+fn push_escape(
+    pieces: &mut Pieces,
+    pattern: NodeId,
+    body: NodeId,
+    caught: Option<(NodeId, NodeId)>,
+    height: usize,
+) -> Result<(), AllocError>
+    ensures { OnOk result (pieces.new ≡ Piece.Spaced pattern height ∷ Piece.Spaced body height ∷ (caught_parts height caught ++ pieces.old)) }
+{
+    push_caught(pieces, caught, height)?;
+    push_two(pieces, pattern, body, height)
+}
+
+/// The parts of the call of this number.
+fn push_call(
+    pieces: &mut Pieces,
+    id: NodeId,
+    receiver: NodeId,
+    args: &[NodeId],
+    height: usize,
+) -> Result<(), AllocError>
+    ensures { OnOk result (pieces.new ≡ Piece.Spaced receiver height ∷ Piece.Verb id ∷ (items height args.now ++ pieces.old)) }
+{
+    push_items(pieces, args, height)?;
+    pieces.push(Piece::Verb(id))?;
+    push_one(pieces, receiver, height)
+}
+
+/// The parts of an object.
+fn push_object(
+    pieces: &mut Pieces,
+    pattern: NodeId,
+    auditors: &[NodeId],
+    members: &[NodeId],
+    height: usize,
+) -> Result<(), AllocError>
+    ensures { OnOk result (pieces.new ≡ Piece.Spaced pattern height ∷ (group height auditors.now ++ (items height members.now ++ pieces.old))) }
+{
+    push_items(pieces, members, height)?;
+    push_group(pieces, auditors, height)?;
+    push_one(pieces, pattern, height)
+}
+
+/// The parts of a method.
+fn push_method(
+    pieces: &mut Pieces,
+    patterns: &[NodeId],
+    body: NodeId,
+    height: usize,
+) -> Result<(), AllocError>
+    ensures { OnOk result (pieces.new ≡ group height patterns.now ++ Piece.Spaced body height ∷ pieces.old) }
+{
+    push_one(pieces, body, height)?;
+    push_group(pieces, patterns, height)
+}
+
 /// The parts of a node of several lists or choices.
 fn push_inner(pieces: &mut Pieces, id: NodeId, node: &Node, height: usize) -> Result<(), AllocError>
     ensures { OnOk result (pieces.new ≡ inner_parts id height node.now ++ pieces.old) }
@@ -145,19 +217,15 @@ fn push_inner(pieces: &mut Pieces, id: NodeId, node: &Node, height: usize) -> Re
     match node {
         Node::Lit(_) | Node::Noun(_) => Ok(()),
         Node::Set(_, part) | Node::Hide(part) => push_one(pieces, *part, height),
-        Node::Finally(first, second)
-        | Node::MatchBind(first, second)
-        | Node::Via(first, second)
-        | Node::Matcher {
-            pattern: first,
-            body: second,
-        } => push_two(pieces, *first, *second, height),
-        Node::If(first, second, third)
-        | Node::Try {
-            body: first,
-            pattern: second,
-            handler: third,
-        } => push_three(pieces, *first, *second, *third, height),
+        Node::Finally(first, second) | Node::MatchBind(first, second) | Node::Via(first, second) =>
+            { push_two(pieces, *first, *second, height) }
+        Node::Matcher { pattern, body } => push_two(pieces, *pattern, *body, height),
+        Node::If(test, yes, no) => push_three(pieces, *test, *yes, *no, height),
+        Node::Try {
+            body,
+            pattern,
+            handler,
+        } => push_three(pieces, *body, *pattern, *handler, height),
         Node::Sequence(ids) | Node::ListPattern(ids) => push_items(pieces, ids.as_slice(), height),
         Node::Final(_, guard) | Node::Var(_, guard) | Node::Any(guard) => {
             push_perhaps(pieces, *guard, height)
@@ -166,36 +234,28 @@ fn push_inner(pieces: &mut Pieces, id: NodeId, node: &Node, height: usize) -> Re
             pattern,
             exit,
             value,
-        } => {
-            push_one(pieces, *value, height)?;
-            push_exit(pieces, *exit, height)?;
-            push_one(pieces, *pattern, height)
-        }
+        } => push_definition(pieces, *pattern, *exit, *value, height),
         Node::Escape {
             pattern,
             body,
             caught,
-        } => {
-            push_caught(pieces, *caught, height)?;
-            push_two(pieces, *pattern, *body, height)
-        }
+        } => push_escape(pieces, *pattern, *body, *caught, height),
         Node::Call { receiver, args, .. } => {
-            push_items(pieces, args.as_slice(), height)?;
-            pieces.push(Piece::Verb(id))?;
-            push_one(pieces, *receiver, height)
+            push_call(pieces, id, *receiver, args.as_slice(), height)
         }
         Node::Object {
             pattern,
             auditors,
             members,
-        } => {
-            push_items(pieces, members.as_slice(), height)?;
-            push_group(pieces, auditors.as_slice(), height)?;
-            push_one(pieces, *pattern, height)
-        }
+        } => push_object(
+            pieces,
+            *pattern,
+            auditors.as_slice(),
+            members.as_slice(),
+            height,
+        ),
         Node::Method { patterns, body, .. } => {
-            push_one(pieces, *body, height)?;
-            push_group(pieces, patterns.as_slice(), height)
+            push_method(pieces, patterns.as_slice(), *body, height)
         }
     }
 }

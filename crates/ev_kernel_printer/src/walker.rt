@@ -1,8 +1,8 @@
 //! The free names of a node.
 
-ghost use Rattle.std.specs.Prelude.{◌≡◌, ◌++◌, length, IfOk, OnOk, slice_get};
+ghost use Rattle.std.specs.Prelude.{◌≡◌, ◌∷◌, ◌++◌, length, IfOk, OnOk, slice_get};
 ghost use Rattle.ev_kernel_printer.specs.FreeNames.{counted, free_names};
-ghost use Rattle.ev_kernel_printer.specs.Walks.{visits, tasks_of, members_left, members_tasks, begins, ends, ends_found, visit_begins, visit_left, at_once, left_over};
+ghost use Rattle.ev_kernel_printer.specs.Walks.{visits, perhaps_visit, two_inside, one_inside, catch_inside, tasks_of, members_left, members_tasks, begins, ends, ends_found, visit_begins, visit_left, at_once, left_over};
 
 use crate::names::Names;
 use crate::tasks::{
@@ -35,6 +35,134 @@ fn end(names: &mut Names, alloc: Global, node: &Node) -> Result<(), Memory>
     }
 }
 
+/// The tasks of the pattern of a name of this number.
+fn push_named(
+    tasks: &mut Tasks,
+    id: NodeId,
+    guard: Option<NodeId>,
+    height: usize,
+) -> Result<(), AllocError>
+    ensures { OnOk result (tasks.new ≡ perhaps_visit height guard ++ Task.Bind id ∷ tasks.old) }
+{
+    tasks.push(Task::Bind(id))?;
+    push_perhaps(tasks, guard, height)
+}
+
+/// The tasks of a definition.
+fn push_definition(
+    tasks: &mut Tasks,
+    pattern: NodeId,
+    exit: Option<NodeId>,
+    value: NodeId,
+    height: usize,
+) -> Result<(), AllocError>
+    ensures { OnOk result (tasks.new ≡ perhaps_visit height exit ++ Task.Visit value height ∷ Task.Visit pattern height ∷ tasks.old) }
+{
+    push_two(tasks, value, pattern, height)?;
+    push_perhaps(tasks, exit, height)
+}
+
+/// The tasks of a call.
+fn push_call(
+    tasks: &mut Tasks,
+    receiver: NodeId,
+    args: &[NodeId],
+    height: usize,
+) -> Result<(), AllocError>
+    ensures { OnOk result (tasks.new ≡ Task.Visit receiver height ∷ (visits height args.now ++ tasks.old)) }
+{
+    push_visits(tasks, args, height)?;
+    push_visit(tasks, receiver, height)
+}
+
+/// The tasks of the object of this number: its auditors and its pattern, and then its members.
+fn push_object(
+    tasks: &mut Tasks,
+    id: NodeId,
+    pattern: NodeId,
+    auditors: &[NodeId],
+    height: usize,
+) -> Result<(), AllocError>
+    ensures { OnOk result (tasks.new ≡ visits height auditors.now ++ Task.Visit pattern height ∷ Task.Members id height ∷ tasks.old) }
+{
+    tasks.push(Task::Members(id, height))?;
+    push_visit(tasks, pattern, height)?;
+    push_visits(tasks, auditors, height)
+}
+
+/// The tasks of a method.
+fn push_method(
+    tasks: &mut Tasks,
+    patterns: &[NodeId],
+    body: NodeId,
+    height: usize,
+    count: usize,
+) -> Result<(), AllocError>
+    ensures { OnOk result (tasks.new ≡ visits height patterns.now ++ (one_inside height count body ++ tasks.old)) }
+{
+    push_inside(tasks, body, height, count)?;
+    push_visits(tasks, patterns, height)
+}
+
+/// A node, and then another, each in a scope of its own.
+fn push_one_then_one(
+    tasks: &mut Tasks,
+    first: NodeId,
+    last: NodeId,
+    height: usize,
+    count: usize,
+) -> Result<(), AllocError>
+    ensures { OnOk result (tasks.new ≡ one_inside height count first ++ (one_inside height count last ++ tasks.old)) }
+{
+    push_inside(tasks, last, height, count)?;
+    push_inside(tasks, first, height, count)
+}
+
+/// Two nodes in a scope of their own, and then one in its own.
+fn push_two_then_one(
+    tasks: &mut Tasks,
+    first: NodeId,
+    second: NodeId,
+    last: NodeId,
+    height: usize,
+    count: usize,
+) -> Result<(), AllocError>
+    ensures { OnOk result (tasks.new ≡ two_inside height count first second ++ (one_inside height count last ++ tasks.old)) }
+{
+    push_inside(tasks, last, height, count)?;
+    push_two_inside(tasks, first, second, height, count)
+}
+
+/// A node in a scope of its own, and then two in theirs.
+fn push_one_then_two(
+    tasks: &mut Tasks,
+    first: NodeId,
+    second: NodeId,
+    last: NodeId,
+    height: usize,
+    count: usize,
+) -> Result<(), AllocError>
+    ensures { OnOk result (tasks.new ≡ one_inside height count first ++ (two_inside height count second last ++ tasks.old)) }
+{
+    push_two_inside(tasks, second, last, height, count)?;
+    push_inside(tasks, first, height, count)
+}
+
+/// The tasks of an escape.
+fn push_escape(
+    tasks: &mut Tasks,
+    pattern: NodeId,
+    body: NodeId,
+    caught: Option<(NodeId, NodeId)>,
+    height: usize,
+    count: usize,
+) -> Result<(), AllocError>
+    ensures { OnOk result (tasks.new ≡ two_inside height count pattern body ++ (catch_inside height count caught ++ tasks.old)) }
+{
+    push_caught(tasks, caught, height, count)?;
+    push_two_inside(tasks, pattern, body, height, count)
+}
+
 /// The tasks of a node, as which begins so many names are bound, are to be done before the others.
 fn push_tasks(
     tasks: &mut Tasks,
@@ -53,60 +181,34 @@ fn push_tasks(
         }
         Node::Sequence(ids) | Node::ListPattern(ids) => push_visits(tasks, ids.as_slice(), height),
         Node::Any(guard) => push_perhaps(tasks, *guard, height),
-        Node::Final(_, guard) | Node::Var(_, guard) => {
-            tasks.push(Task::Bind(id))?;
-            push_perhaps(tasks, *guard, height)
-        }
+        Node::Final(_, guard) | Node::Var(_, guard) => push_named(tasks, id, *guard, height),
         Node::Def {
             pattern,
             exit,
             value,
-        } => {
-            push_two(tasks, *value, *pattern, height)?;
-            push_perhaps(tasks, *exit, height)
-        }
-        Node::Call { receiver, args, .. } => {
-            push_visits(tasks, args.as_slice(), height)?;
-            push_visit(tasks, *receiver, height)
-        }
+        } => push_definition(tasks, *pattern, *exit, *value, height),
+        Node::Call { receiver, args, .. } => push_call(tasks, *receiver, args.as_slice(), height),
         Node::Object {
             pattern,
             auditors,
             ..
-        } => {
-            tasks.push(Task::Members(id, height))?;
-            push_visit(tasks, *pattern, height)?;
-            push_visits(tasks, auditors.as_slice(), height)
-        }
+        } => push_object(tasks, id, *pattern, auditors.as_slice(), height),
         Node::Hide(body) => push_inside(tasks, *body, height, count),
         Node::Matcher { pattern, body } => push_two_inside(tasks, *pattern, *body, height, count),
-        Node::Finally(body, after) => {
-            push_inside(tasks, *after, height, count)?;
-            push_inside(tasks, *body, height, count)
-        }
-        Node::If(test, yes, no) => {
-            push_inside(tasks, *no, height, count)?;
-            push_two_inside(tasks, *test, *yes, height, count)
-        }
+        Node::Finally(body, after) => push_one_then_one(tasks, *body, *after, height, count),
+        Node::If(test, yes, no) => push_two_then_one(tasks, *test, *yes, *no, height, count),
         Node::Try {
             body,
             pattern,
             handler,
-        } => {
-            push_two_inside(tasks, *pattern, *handler, height, count)?;
-            push_inside(tasks, *body, height, count)
-        }
+        } => push_one_then_two(tasks, *body, *pattern, *handler, height, count),
         Node::Escape {
             pattern,
             body,
             caught,
-        } => {
-            push_caught(tasks, *caught, height, count)?;
-            push_two_inside(tasks, *pattern, *body, height, count)
-        }
+        } => push_escape(tasks, *pattern, *body, *caught, height, count),
         Node::Method { patterns, body, .. } => {
-            push_inside(tasks, *body, height, count)?;
-            push_visits(tasks, patterns.as_slice(), height)
+            push_method(tasks, patterns.as_slice(), *body, height, count)
         }
     }
 }

@@ -6,18 +6,20 @@ use Rattle.ev_base.specs.declared.names.Name.TheVariants.{Object, Own, Answer, G
 use Rattle.def_event.specs.declared.event.Event.{Event}
 use Rattle.def_trace.specs.Uses.{AName, Line, Given_for, IsGivenBy, IsFirstGivenBy, IsNext, IsFollowed, settles, views, is_object}
 use Rattle.def_trace.specs.Uses as uses
-use Rattle.ev_known.specs.declared.label.Label.{Label}
-use Rattle.ev_known.specs.declared.following.Spot.{Spot}
+use Rattle.ev_links.specs.declared.label.Label.{Label}
+use Rattle.ev_links.specs.declared.chains.End.{End}
+use Rattle.ev_links.specs.declared.chains.Spot.{Spot}
 use Rattle.ev_known.specs.declared.following.Goal.{Goal}
 use Rattle.ev_known.specs.declared.following.Goal.TheVariants.{To, Data}
-use Rattle.ev_known.specs.contracts.following.SpotPartialEq.TheImpl.{eq-value}
-use Rattle.ev_known.specs.Label.{label}
-use Rattle.ev_known.specs.Following.{Table, goal, goal_at, Noted, NotedFor, FollowsTo, FollowedAs, Tables, TablesStand, FirstAs, GivesFirst, is_object_label, next_by, next_of, Follows, there, further}
+use Rattle.ev_links.specs.contracts.chains.SpotPartialEq.TheImpl.{eq-value}
+use Rattle.ev_links.specs.Chains.{PlanStands, PlanTables}
+use Rattle.ev_links.proofs.Chaining.{spot_is}
+use Rattle.ev_links.specs.Label.{label}
+use Rattle.ev_known.specs.Following.{ChainsStand, Table, goal, goal_at, Noted, NotedFor, FollowsTo, FollowedAs, Tables, TablesStand, FirstAs, GivesFirst, is_object_label, next_by, next_of, Follows, there, further}
 use Rattle.ev_known.proofs.Keys.{name_same}
 use Rattle.ev_known.proofs.Walking.{follows_one}
-
-spot_is : (a b : Spot) → IsTrue (eq-value.it a b) ↔ (a ≡ b)
-spot_is a b = search rules
+use Rattle.ev_known.proofs.Naming.{object_label}
+use Rattle.ev_known.proofs.Chained.{chains_noted, none_told}
 
 abbrev spot : ℕ → Name → Spot
 spot at n = record { at = at; name = label (AName n) }
@@ -147,7 +149,7 @@ next_there_by past at n m None (Some x) f g (inr h) =
     ap (λ (y : Goal). next_by None (Some y)) (sym is)
 
 -- what a goal is of
-named_goal : (v : Option Name) (l : Label) → goal v ≡ To l → (m : Name) × (label (AName m) ≡ l) × (v ≡ Some m)
+pub named_goal : (v : Option Name) (l : Label) → goal v ≡ To l → (m : Name) × (label (AName m) ≡ l) × (v ≡ Some m)
 named_goal None l e = absurd cc
 named_goal (Some m) l e = let same : label (AName m) ≡ l = cc in (m, same, refl)
 
@@ -164,14 +166,6 @@ next_back_by past at n l None (Some (To x)) f g e =
 next_back_by past at n l None (Some Data) f g e = absurd cc
 next_back_by past at n l None None f g e = absurd cc
 
-object_label : (n : Name) → is_object_label (label (AName n)) ≡ is_object n
-unfolding label is_object
-object_label (Object v n) = refl
-object_label (Own v n) = refl
-object_label (Answer v m) = refl
-object_label (Gift v n) = refl
-object_label (Root v) = refl
-
 module _ (settled viewed : Table) (past : List Line) (s : GivesFirst settles settled past) (v : GivesFirst views viewed past) (at : ℕ) where
   pub followed_there : (n o : Name) → IsFollowed past at n o → Follows settled viewed at (label (AName n)) (label (AName o))
   followed_there n o (uses.there e) = there (object_label o ∙ e)
@@ -186,14 +180,20 @@ module _ (settled viewed : Table) (past : List Line) (s : GivesFirst settles set
       let rest = followed_back m p found.0 found.1 r in
       (rest.0, rest.1, uses.further found.0 (sym (object_label n) ∙ ap is_object_label is ∙ e) found.2 rest.2)
 
-pub none_stand : TablesStand (record { settled = []; viewed = [] }) []
-none_stand = record { settled = none_first settles; viewed = none_first views }
+pub none_stand : (settled viewed : Table) (plan : PlanTables) (told : List (Spot × End)) → settled ≡ [] → viewed ≡ [] → told ≡ [] → PlanStands plan
+    → TablesStand (record { settled = settled; viewed = viewed; plan = plan; told = told }) []
+none_stand settled viewed plan told s v t p = record {
+  settled = subst (λ (es : Table). GivesFirst settles es []) (sym s) (none_first settles);
+  viewed = subst (λ (es : Table). GivesFirst views es []) (sym v) (none_first views);
+  chains = subst (λ (es : List (Spot × End)). ChainsStand plan es settled) (sym t) (none_told plan settled p);
+}
 
 pub line_followed : (at : ℕ) (e : Event) (past : List Line) (old new : Tables) → NotedFor at (settles e) old.settled new.settled → NotedFor at (views e) old.viewed new.viewed
-    → TablesStand old past → TablesStand new (record { at = at; event = e } ∷ past)
-line_followed at e past old new s v h = record {
+    → (ChainsStand old.plan old.told new.settled → ChainsStand new.plan new.told new.settled) → TablesStand old past → TablesStand new (record { at = at; event = e } ∷ past)
+line_followed at e past old new s v c h = record {
   settled = settles_first (record { at = at; event = e }) past old.settled new.settled s h.settled;
   viewed = views_first (record { at = at; event = e }) past old.viewed new.viewed v h.viewed;
+  chains = c (chains_noted at (settles e) old.plan old.told old.settled new.settled s h.chains);
 }
 
 pub followed_as : (tables : Tables) (past : List Line) (at : ℕ) (n : Name) (object : Option Label) → TablesStand tables past

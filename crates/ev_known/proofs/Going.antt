@@ -2,12 +2,12 @@
 use Rattle.std.proofs.Common.{◌≡◌, ℕ, ◌+◌, ◌<◌, ◌≤◌, true, false, List, [], ◌∷◌, length, take, slice_get, Some, None, sym, ap, subst, ◌∙◌, inl, inr}
 use Rattle.def_trace.specs.Uses.{IsAmong}
 use Rattle.ev_known.specs.declared.facts.Activation.{Activation}
-use Rattle.ev_known.specs.declared.label.Label.{Label}
-use Rattle.ev_known.specs.declared.links.Scope.TheVariants.{Place}
-use Rattle.ev_known.specs.Links.{row, with_others}
+use Rattle.ev_links.specs.declared.label.Label.{Label}
+use Rattle.ev_links.specs.declared.links.Scope.TheVariants.{Place}
+use Rattle.ev_links.specs.Links.{row, with_others}
 use Rattle.ev_known.specs.Knowing.{Known, Searched, is_led}
-use Rattle.ev_known.proofs.Among.{among_cases}
-use Rattle.ev_known.proofs.Spreading.{Searching, among_at, searching_done, searching_init, searching_step, take_all, taken_more}
+use Rattle.ev_links.proofs.Among.{among_cases}
+use Rattle.ev_links.proofs.Spreading.{Searching, among_at, searching_done, searching_init, searching_step, take_all, taken_more}
 
 -- the labels before the index were gone on from, and nothing known leads to them
 pub record Going (k : Known) (a : Activation) (starts seen : List Label) (index : ℕ) : Type 0 where

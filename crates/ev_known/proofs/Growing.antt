@@ -7,7 +7,7 @@ use Rattle.def_trace.specs.Uses.{Has, IsAmong, IsLead, IsOpenAt, IsTold, Knows, 
 use Rattle.ev_known.specs.declared.found.Finding.{Finding}
 use Rattle.ev_known.specs.contracts.found.FindingPartialEq.TheImpl.{eq-value}
 use Rattle.ev_known.specs.Found.{FoundStand, is_found, with_found}
-use Rattle.ev_known.proofs.Among.{IsExact, any_among, inserted}
+use Rattle.ev_links.proofs.Among.{IsExact, any_among, inserted}
 
 -- ---- one line more
 
@@ -25,8 +25,8 @@ knows_grows l past a t (onward d lead gone rest) = onward d (inl lead) gone (kno
 pub found_grows : (at : _) (e : Event) (ks : List Finding) (past : List Line) → FoundStand ks past → FoundStand ks (record { at = at; event = e } ∷ past)
 found_grows at e ks past h = record { each = λ a t i. knows_grows (record { at = at; event = e }) past a t (h.each a t i) }
 
-pub none_found : FoundStand [] []
-none_found = record { each = λ a t i. absurd i }
+pub nothing_found : (past : List Line) → FoundStand [] past
+nothing_found past = record { each = λ a t i. absurd i }
 
 -- ---- the set
 

@@ -5,18 +5,18 @@ use Rattle.ev_base.specs.declared.names.Name.{Name}
 use Rattle.ev_base.specs.declared.names.Name.TheVariants.{Object, Own, Answer, Gift, Root}
 use Rattle.def_trace.specs.Uses as uses
 use Rattle.def_trace.specs.Uses.{IsAmong, Thing, AName, AList}
-use Rattle.ev_known.specs.declared.label.Label.{Label}
-use Rattle.ev_known.specs.declared.label.Kind.{Kind}
-use Rattle.ev_known.specs.declared.label.Kind.TheVariants as kind
+use Rattle.ev_links.specs.declared.label.Label.{Label}
+use Rattle.ev_links.specs.declared.label.Kind.{Kind}
+use Rattle.ev_links.specs.declared.label.Kind.TheVariants as kind
 use Rattle.ev_known.specs.declared.facts.Activation.{Activation}
 use Rattle.ev_known.specs.declared.facts.Fact.{Fact}
 use Rattle.ev_known.specs.declared.facts.Fact.TheVariants as fact
-use Rattle.ev_known.specs.contracts.label.LabelPartialEq.TheImpl.{eq-value as label_eq}
+use Rattle.ev_links.specs.contracts.label.LabelPartialEq.TheImpl.{eq-value as label_eq}
 use Rattle.ev_known.specs.contracts.facts.ActivationPartialEq.TheImpl.{eq-value as activation_eq}
 use Rattle.ev_known.specs.contracts.facts.FactPartialEq.TheImpl.{eq-value as fact_eq}
-use Rattle.ev_known.specs.Label.{label}
+use Rattle.ev_links.specs.Label.{label}
 use Rattle.ev_known.specs.Telling.{key}
-use Rattle.ev_known.proofs.Among.{IsExact}
+use Rattle.ev_links.proofs.Among.{IsExact}
 
 -- ---- what a label stands for
 

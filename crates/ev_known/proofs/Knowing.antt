@@ -1,7 +1,7 @@
 -- The tables tell what activations know.
-use Rattle.std.proofs.Common.{◌≡◌, ℕ, Bool, true, false, List, [], ◌∷◌, reverse, Option, Some, None, refl, sym, ap, subst, ◌∙◌, inl, inr, eq-eqb}
+use Rattle.std.proofs.Common.{◌≡◌, ℕ, Bool, true, false, List, [], ◌∷◌, reverse, not, Option, Some, None, refl, sym, ap, subst, ◌∙◌, inl, inr, eq-eqb}
 use Rattle.std.specs.Prelude.{◌⊎◌, ◌&&◌, if◌then◌else◌}
-use Rattle.std.proofs.lemmas.Bool.{eqb-true}
+use Rattle.std.proofs.lemmas.Bool.{eqb-true, leb-true}
 use Rattle.ev_base.specs.declared.names.Name.{Name}
 use Rattle.ev_base.specs.declared.names.Name.TheVariants.{Object, Own, Answer, Gift, Root}
 use Rattle.def_trace.specs.Uses as uses
@@ -10,32 +10,41 @@ use Rattle.ev_known.specs.declared.facts.Activation.{Activation}
 use Rattle.ev_known.specs.declared.facts.Fact.{Fact}
 use Rattle.ev_known.specs.declared.facts.Fact.TheVariants as fact
 use Rattle.ev_known.specs.declared.found.Finding.{Finding}
-use Rattle.ev_known.specs.declared.label.Label.{Label}
-use Rattle.ev_known.specs.declared.links.Link.{Link}
-use Rattle.ev_known.specs.declared.links.Scope.TheVariants.{Place}
-use Rattle.ev_known.specs.Label.{label}
+use Rattle.ev_known.specs.declared.marks.Holder.{Holder}
+use Rattle.ev_known.specs.declared.marks.Holder.TheVariants as holder
+use Rattle.ev_known.specs.declared.marks.Mark.{Mark}
+use Rattle.ev_links.specs.declared.chains.Standing.{Standing}
+use Rattle.ev_links.specs.declared.label.Label.{Label}
+use Rattle.ev_links.specs.declared.links.Link.{Link}
+use Rattle.ev_links.specs.declared.links.Scope.TheVariants.{Place}
+use Rattle.ev_links.specs.Chains.{end_of, spot, standing}
+use Rattle.ev_links.specs.Label.{label}
 use Rattle.ev_known.specs.Leads.{LinksStand, backward, way_of}
-use Rattle.ev_known.specs.Links.{IsReached, start, onward, is_open, row, with_label}
+use Rattle.ev_links.specs.Links.{IsReached, start, onward, is_open, row, with_label}
 use Rattle.ev_known.specs.Found.{FoundStand, is_found, with_found}
-use Rattle.ev_known.specs.Following.{FollowedAs, Tables, TablesStand}
+use Rattle.ev_known.specs.Following.{FollowedAs, Tables, TablesStand, is_told_in, place_told}
+use Rattle.ev_known.specs.Marks.{Held, MarksStand, is_from, is_marked, mark_at}
+use Rattle.ev_known.proofs.Marking.{none_marked, steps_known}
 use Rattle.ev_known.specs.Runs.{RunsAs, RunsStand, runner}
 use Rattle.ev_known.specs.Telling.{StandsFor, activation, is_told, key}
-use Rattle.ev_known.specs.Knowing.{Known, KnownStand, LeadsToAudition, Searched, has_captured, has_in, is_led, is_root_label, knows_in, leads_from}
-use Rattle.ev_known.proofs.Among.{among_reverse, any_so, any_there}
-use Rattle.ev_known.proofs.Growing.{among_more, found_among, none_found}
+use Rattle.ev_known.specs.Knowing.{Known, KnownStand, LeadsToAudition, Searched, has_captured, has_in, is_behind, is_chained, is_led, is_marked_for, is_root_label, knows_in, leads_from}
+use Rattle.ev_links.proofs.Among.{among_reverse, any_so, any_there}
+use Rattle.ev_known.proofs.Growing.{among_more, found_among, nothing_found}
 use Rattle.ev_known.proofs.Keys.{label_same}
 use Rattle.ev_known.proofs.Told.{among_is_told}
 use Rattle.ev_known.proofs.Running.{told_is}
 use Rattle.ev_known.proofs.Leading.{none_lead}
 
-pub none_known : (facts : List Fact) (following : Tables) (runs : List (Activation × Label)) (links : List (Label × List Link)) (found : List Finding)
-    → StandsFor facts [] → TablesStand following [] → RunsStand runs [] → links ≡ [] → found ≡ [] → KnownStand (record { facts = facts; following = following; runs = runs; links = links; found = found }) []
-none_known facts following runs links found f g r l n = record {
+pub none_known : (facts : List Fact) (following : Tables) (runs : List (Activation × Label)) (links : List (Label × List Link)) (marks : List (Mark × ℕ)) (found : List Finding)
+    → StandsFor facts [] → TablesStand following [] → RunsStand runs [] → links ≡ [] → marks ≡ [] → found ≡ []
+    → KnownStand (record { facts = facts; following = following; runs = runs; links = links; marks = marks; found = found }) []
+none_known facts following runs links marks found f g r l m n = record {
   facts = f;
   following = g;
   runs = r;
   links = subst (λ (ls : List (Label × List Link)). LinksStand ls []) (sym l) none_lead;
-  found = subst (λ (ks : List Finding). FoundStand ks []) (sym n) none_found;
+  marks = subst (λ (ms : List (Mark × ℕ)). MarksStand ms following.plan []) (sym m) (none_marked following.plan []);
+  found = subst (λ (ks : List Finding). FoundStand ks []) (sym n) (nothing_found []);
 }
 
 -- ---- tests of two and three
@@ -44,9 +53,9 @@ two_true : (a b : Bool) → (if a then true else b) ≡ true → (a ≡ true) �
 two_true true b h = inl refl
 two_true false b h = inr h
 
-second_so : (a b : Bool) → b ≡ true → (if a then true else b) ≡ true
-second_so true b h = refl
-second_so false b h = h
+not_stopped : (a b : Bool) → (if not a then false else b) ≡ true → (a ≡ true) × (b ≡ true)
+not_stopped true b h = (refl, h)
+not_stopped false b h = absurd cc
 
 three_true : (a b c : Bool) → (if a then true else if b then true else c) ≡ true → (a ≡ true) ⊎ ((b ≡ true) ⊎ (c ≡ true))
 three_true true b c h = inl refl
@@ -141,14 +150,45 @@ module _ (k : Known) (past : List Line) (h : KnownStand k past) (a : uses.Activa
   open_back uses.Listed e = tt
   open_back (uses.Settled v) e = eqb-true v a.at e
 
+  -- ---- what stands behind it in a chain
+
+  behind_mark : (t : Thing) (x : Standing) (who : Holder) (o : Option ℕ) → standing k.following.plan.standings (spot a.at (label t)) ≡ Some x → is_told_in k.following.told a.at x ≡ true → ((s : Thing) → Held past who s → Knows past a s)
+      → mark_at k.marks (record { holder = who; chain = spot a.at x.chain }) ≡ o → is_from o x.place ≡ true → Knows past a t
+  behind_mark t x who None stands told known is e = absurd cc
+  behind_mark t x who (Some i) stands told known is e =
+      let first = h.marks.each who a.at x.chain i is in
+      let steps = h.following.chains.steps a.at first.0 (label t) (record { chain = x.chain; place = i }) x first.1 stands refl (leb-true i x.place e)
+      (leb-true x.place (place_told (end_of k.following.told (spot a.at x.chain))) told) in
+      steps_known k.following.settled past a first.0 (label t) h.following.settled steps (λ s same. known s (first.2 s same)) t refl
+
+  behind_object : (t : Thing) (x : Standing) (o : Option Label) → standing k.following.plan.standings (spot a.at (label t)) ≡ Some x → is_told_in k.following.told a.at x ≡ true → RunsAs past a o
+      → is_marked_for k a.at x o ≡ true → Knows past a t
+  behind_object t x None stands told runs e = absurd cc
+  behind_object t x (Some o) stands told runs e =
+      behind_mark t x (holder.Object o) (mark_at k.marks (record { holder = holder.Object o; chain = spot a.at x.chain })) stands told
+      (λ s held. uses.start (inr (inr (runs.0, runs.2, held runs.0 runs.1)))) refl e
+
+  behind_known : (t : Thing) (o : Option Standing) → standing k.following.plan.standings (spot a.at (label t)) ≡ o → is_behind k (activation a) o ≡ true → Knows past a t
+  behind_known t None stands e = absurd cc
+  behind_known t (Some x) stands e =
+      let both = not_stopped (is_told_in k.following.told a.at x) (if is_marked k.marks (holder.Activation (activation a)) a.at x then true else is_marked_for k a.at x (runner k.runs (activation a))) e in
+      elim (two_true (is_marked k.marks (holder.Activation (activation a)) a.at x) (is_marked_for k a.at x (runner k.runs (activation a))) both.1) [
+        | inl y ↦ behind_mark t x (holder.Activation (activation a)) (mark_at k.marks (record { holder = holder.Activation (activation a); chain = spot a.at x.chain })) stands both.0
+            (λ s held. uses.start (inr (inl held))) refl y
+        | inr y ↦ behind_object t x (runner k.runs (activation a)) stands both.0 (h.runs.each a) y
+      ]
+
   knows_of : (t : Thing) → knows_in k (activation a) (label t) ≡ true → Knows past a t
-  knows_of t e = elim (two_true (is_found k.found (record { by = activation a; thing = label t })) (has_in k (activation a) (label t)) e) [
+  knows_of t e = elim (three_true (is_found k.found (record { by = activation a; thing = label t })) (has_in k (activation a) (label t)) (is_chained k (activation a) (label t)) e) [
     | inl x ↦ h.found.each a t (found_among k.found (record { by = activation a; thing = label t }) x)
-    | inr x ↦ uses.start (has_there t x)
+    | inr y ↦ elim y [
+      | inl x ↦ uses.start (has_there t x)
+      | inr x ↦ behind_known t (standing k.following.plan.standings (spot a.at (label t))) refl x
+    ]
   ]
 
   has_known : (l : Label) → has_in k (activation a) l ≡ true → knows_in k (activation a) l ≡ true
-  has_known l e = second_so (is_found k.found (record { by = activation a; thing = l })) (has_in k (activation a) l) e
+  has_known l e = second_true (is_found k.found (record { by = activation a; thing = l })) (has_in k (activation a) l) (is_chained k (activation a) l) e
 
   -- a known thing leads there by one link
   led_so : (l : Label) (x : Link) → IsAmong x (row k.links l) → is_open (Place a.at) x.way ≡ true → knows_in k (activation a) x.other ≡ true → is_led k (activation a) l ≡ true
@@ -218,12 +258,24 @@ kept_stand k past a l found h led is = record {
   following = h.following;
   runs = h.runs;
   links = h.links;
+  marks = h.marks;
   found = record {
     each = λ b t i. elim ((among_more (record { by = activation b; thing = label t }) (record { by = a; thing = l }) k.found).0 (subst (IsAmong (record { by = activation b; thing = label t })) is i)) [
       | inl x ↦ h.found.each b t x
       | inr e ↦ led_known k past h b t l (sym (ap (λ (x : Finding). x.thing) e)) (subst (λ (x : Activation). is_led k x l ≡ true) (ap (λ (x : Finding). x.by) e) led)
     ];
   };
+}
+
+-- what was found may be let go
+pub none_found_stand : (k : Known) (past : List Line) (found : List Finding) → KnownStand k past → found ≡ [] → KnownStand (record k { found = found }) past
+none_found_stand k past found h is = record {
+  facts = h.facts;
+  following = h.following;
+  runs = h.runs;
+  links = h.links;
+  marks = h.marks;
+  found = subst (λ (ks : List Finding). FoundStand ks past) (sym is) (nothing_found past);
 }
 
 -- ---- auditions

@@ -5,12 +5,12 @@ use Rattle.def_event.specs.declared.shown.Shown.{Shown}
 use Rattle.def_event.specs.declared.event.Event.{Event}
 use Rattle.def_trace.specs.Uses as uses
 use Rattle.def_trace.specs.Uses.{IsAmong, IsLead, Lead, Line, Thing, led, leads, things, things_of}
-use Rattle.ev_known.specs.declared.label.Label.{Label}
-use Rattle.ev_known.specs.declared.links.Link.{Link}
-use Rattle.ev_known.specs.Label.{label}
-use Rattle.ev_known.specs.Links.{Adds, row}
+use Rattle.ev_links.specs.declared.label.Label.{Label}
+use Rattle.ev_links.specs.declared.links.Link.{Link}
+use Rattle.ev_links.specs.Label.{label}
+use Rattle.ev_links.specs.Links.{Adds, row}
 use Rattle.ev_known.specs.Leads.{AddsEach, AddsLeads, LinksStand, backward}
-use Rattle.ev_known.proofs.Among.{among_left, among_right, among_cases}
+use Rattle.ev_links.proofs.Among.{among_left, among_right, among_cases}
 
 abbrev Rows : Type 0
 Rows = List (Label × List Link)

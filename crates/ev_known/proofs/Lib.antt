@@ -1,12 +1,13 @@
-pub mod Among
 pub mod Keys
-pub mod Spreading
+pub mod Naming
 pub mod Told
 pub mod Walking
+pub mod Chained
 pub mod Followed
 pub mod Leading
 pub mod Growing
 pub mod Going
 pub mod Running
+pub mod Marking
 pub mod Knowing
 pub mod Judging

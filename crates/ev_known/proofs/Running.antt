@@ -7,9 +7,9 @@ use Rattle.def_event.specs.declared.event.Event.TheVariants.{Take, Call}
 use Rattle.def_trace.specs.Uses as uses
 use Rattle.def_trace.specs.Uses.{AName, Line, IsAmong, IsTold, IsFollowed, Anew, Running, begins, begun, begun_call, runs, running_call}
 use Rattle.ev_known.specs.declared.facts.Activation.{Activation}
-use Rattle.ev_known.specs.declared.label.Label.{Label}
+use Rattle.ev_links.specs.declared.label.Label.{Label}
 use Rattle.ev_known.specs.contracts.facts.ActivationPartialEq.TheImpl.{eq-value}
-use Rattle.ev_known.specs.Label.{label}
+use Rattle.ev_links.specs.Label.{label}
 use Rattle.ev_known.specs.Telling.{activation, is_told, key, StandsFor}
 use Rattle.ev_known.specs.declared.facts.Fact.{Fact}
 use Rattle.ev_known.specs.declared.facts.Fact.TheVariants as fact

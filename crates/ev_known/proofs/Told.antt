@@ -12,7 +12,7 @@ use Rattle.ev_known.specs.declared.facts.Activation.{Activation}
 use Rattle.ev_known.specs.declared.facts.Fact.{Fact}
 use Rattle.ev_known.specs.contracts.facts.FactPartialEq.TheImpl.{eq-value}
 use Rattle.ev_known.specs.Telling.{key, is_told, with_fact, told, told_values, told_captures, told_called, told_begun, told_value, told_made, told_line, StandsFor}
-use Rattle.ev_known.proofs.Among.{inserted, any_among, among_any}
+use Rattle.ev_links.proofs.Among.{inserted, any_among, among_any}
 use Rattle.ev_known.proofs.Keys.{among_keys, exact_fact}
 
 -- ---- what stands in a set after more was told

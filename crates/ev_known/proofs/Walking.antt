@@ -3,21 +3,21 @@ use Rattle.std.proofs.Common.{◌≡◌, ℕ, ◌+◌, Bool, true, false, List, 
 use Rattle.std.specs.Prelude.{◌⊎◌, if◌then◌else◌}
 use Rattle.std.specs.List.{list_any}
 use Rattle.def_trace.specs.Uses.{IsAmong}
-use Rattle.ev_known.specs.declared.label.Label.{Label}
-use Rattle.ev_known.specs.contracts.label.LabelPartialEq.TheImpl.{eq-value}
-use Rattle.ev_known.specs.Links.{has_label, with_label}
-use Rattle.ev_known.specs.Following.{Table, is_object_label, next_of, Follows, there, further}
-use Rattle.ev_known.proofs.Among.{any_among}
-use Rattle.ev_known.proofs.Spreading.{exact_label, among_label}
+use Rattle.ev_links.specs.declared.label.Label.{Label}
+use Rattle.ev_links.specs.contracts.label.LabelPartialEq.TheImpl.{eq-value}
+use Rattle.ev_links.specs.Links.{has_label, with_label}
+use Rattle.ev_known.specs.Following.{Table, is_object_label, next_of, Follows, there, further, Strides, StridesTo, one, more}
+use Rattle.ev_links.proofs.Among.{any_among}
+use Rattle.ev_links.proofs.Spreading.{exact_label, among_label}
 
--- what the first name leads to is what the current one leads to, and those that were seen lead to seen ones or to the current one
+-- what the first name leads to is what the current one leads to, and those that were seen lead on to the current one
 pub record Walking (settled viewed : Table) (at : ℕ) (name : Label) (seen : List Label) (current : Label) : Type 0 where
   pub onward : (o : Label) → Follows settled viewed at name o → Follows settled viewed at current o
   pub back : (o : Label) → Follows settled viewed at current o → Follows settled viewed at name o
-  pub closed : (x : Label) → IsAmong x seen → (is_object_label x ≡ false) × ((m : Label) → next_of settled viewed at x ≡ Some m → IsAmong m seen ⊎ (current ≡ m))
+  pub led : (x : Label) → IsAmong x seen → Strides settled viewed at x current
 
 pub walking_init : (settled viewed : Table) (at : ℕ) (name : Label) → Walking settled viewed at name [] name
-walking_init settled viewed at name = record { onward = λ o h. h; back = λ o h. h; closed = λ x h. absurd h }
+walking_init settled viewed at name = record { onward = λ o h. h; back = λ o h. h; led = λ x h. absurd h }
 
 some_same : {A : Type 0} (x y : A) (o : Option A) → o ≡ Some x → o ≡ Some y → x ≡ y
 some_same x y o e f = let both : Some x ≡ Some y = sym e ∙ f in cc
@@ -26,41 +26,52 @@ onward_one : (settled viewed : Table) (at : ℕ) (l m o : Label) → is_object_l
 onward_one settled viewed at l m o other e (there is_one) = absurd cc
 onward_one settled viewed at l m o other e (further k other' f r) = subst (λ (x : Label). Follows settled viewed at x o) (some_same k m (next_of settled viewed at l) f e) r
 
-pub walking_step : (settled viewed : Table) (at : ℕ) (name : Label) (seen new : List Label) (current next : Label) → Walking settled viewed at name seen current
-    → is_object_label current ≡ false → new ≡ with_label seen current → next_of settled viewed at current ≡ Some next → Walking settled viewed at name new next
-walking_step settled viewed at name seen new current next h other is e =
-    record {
-      onward = λ o f. onward_one settled viewed at current next o other e (h.onward o f);
-      back = λ o f. h.back o (further next other e f);
-      closed = λ x a. elim ((among_label x current seen).0 (subst (IsAmong x) is a)) [
-        | inl b ↦
-            let old = h.closed x b in (
-              old.0,
-              λ m f. elim (old.1 m f) [
-                | inl c ↦ inl (subst (IsAmong m) (sym is) ((among_label m current seen).1 (inl c)))
-                | inr s ↦ inl (subst (IsAmong m) (sym is) ((among_label m current seen).1 (inr s)))
-              ],
-            )
-        | inr s ↦
-            (subst (λ (y : Label). is_object_label y ≡ false) s other, λ m f. inr (some_same next m (next_of settled viewed at current) e (ap (next_of settled viewed at) s ∙ f)))
-      ];
-    }
+-- ---- strides
 
--- among names that lead to one another alone none leads to an object
-closed_none : (settled viewed : Table) (at : ℕ) (seen : List Label) (l o : Label)
-    → ((x : Label) → IsAmong x seen → (is_object_label x ≡ false) × ((m : Label) → next_of settled viewed at x ≡ Some m → IsAmong m seen))
-    → IsAmong l seen → Follows settled viewed at l o → ⊥
-closed_none settled viewed at seen l o h a (there is_one) = let other = (h l a).0 in absurd cc
-closed_none settled viewed at seen l o h a (further m other e r) = closed_none settled viewed at seen m o h ((h l a).1 m e) r
+pub next_strides : (settled viewed : Table) (at : ℕ) (l : Label) (o : Option Label) → next_of settled viewed at l ≡ o → is_object_label l ≡ false → StridesTo settled viewed at l o
+next_strides settled viewed at l None e other = e
+next_strides settled viewed at l (Some m) e other = one other e
+
+stride_onward : (settled viewed : Table) (at : ℕ) (l m o : Label) → Strides settled viewed at l m → Follows settled viewed at l o → Follows settled viewed at m o
+stride_onward settled viewed at l m o (one other e) f = onward_one settled viewed at l m o other e f
+stride_onward settled viewed at l m o (more k other e r) f = stride_onward settled viewed at k m o r (onward_one settled viewed at l k o other e f)
+
+stride_back : (settled viewed : Table) (at : ℕ) (l m o : Label) → Strides settled viewed at l m → Follows settled viewed at m o → Follows settled viewed at l o
+stride_back settled viewed at l m o (one other e) f = further m other e f
+stride_back settled viewed at l m o (more k other e r) f = further k other e (stride_back settled viewed at k m o r f)
+
+strides_join : (settled viewed : Table) (at : ℕ) (l m o : Label) → Strides settled viewed at l m → Strides settled viewed at m o → Strides settled viewed at l o
+strides_join settled viewed at l m o (one other e) r = more m other e r
+strides_join settled viewed at l m o (more k other e q) r = more k other e (strides_join settled viewed at k m o q r)
+
+-- what leads back leads to no object
+no_round : (settled viewed : Table) (at : ℕ) (l o : Label) → Follows settled viewed at l o → Strides settled viewed at l l → ⊥
+no_round settled viewed at l o (there is_one) (one other e) = absurd cc
+no_round settled viewed at l o (there is_one) (more k other e r) = absurd cc
+no_round settled viewed at l o (further m other e f) (one other' g) =
+    let same : m ≡ l = some_same m l (next_of settled viewed at l) e g in
+    no_round settled viewed at m o f (subst (λ (x : Label). Strides settled viewed at x x) (sym same) (one other' g))
+no_round settled viewed at l o (further m other e f) (more k other' g r) =
+    let same : k ≡ m = some_same k m (next_of settled viewed at l) g e in
+    no_round settled viewed at m o f
+    (strides_join settled viewed at m l m (subst (λ (x : Label). Strides settled viewed at x l) same r) (one other e))
+
+pub walking_step : (settled viewed : Table) (at : ℕ) (name : Label) (seen new : List Label) (current next : Label) → Walking settled viewed at name seen current
+    → new ≡ with_label seen current → Strides settled viewed at current next → Walking settled viewed at name new next
+walking_step settled viewed at name seen new current next h is s = record {
+  onward = λ o f. stride_onward settled viewed at current next o s (h.onward o f);
+  back = λ o f. h.back o (stride_back settled viewed at current next o s f);
+  led = λ x a. elim ((among_label x current seen).0 (subst (IsAmong x) is a)) [
+    | inl b ↦ strides_join settled viewed at x current next (h.led x b) s
+    | inr e ↦ subst (λ (y : Label). Strides settled viewed at y next) e s
+  ];
+}
 
 pub walking_back : (settled viewed : Table) (at : ℕ) (name : Label) (seen : List Label) (current : Label) → Walking settled viewed at name seen current → has_label seen current ≡ true
     → (o : Label) → Follows settled viewed at name o → ⊥
 unfolding has_label
 walking_back settled viewed at name seen current h has o f =
-    let here : IsAmong current seen = any_among eq-value.it exact_label current seen has in
-    closed_none settled viewed at seen current o
-    (λ x a. let old = h.closed x a in (old.0, λ m e. elim (old.1 m e) [ inl b ↦ b | inr s ↦ subst (λ (y : Label). IsAmong y seen) s here ]))
-    here (h.onward o f)
+    no_round settled viewed at current o (h.onward o f) (h.led current (any_among eq-value.it exact_label current seen has))
 
 none_from : (settled viewed : Table) (at : ℕ) (l o : Label) → is_object_label l ≡ false → next_of settled viewed at l ≡ None → Follows settled viewed at l o → ⊥
 none_from settled viewed at l o other e (there is_one) = absurd cc

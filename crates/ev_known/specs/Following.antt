@@ -1,17 +1,20 @@
 -- What names lead to, in the terms of tables.
-use Rattle.std.specs.Prelude.{◌≡◌, ℕ, Bool, true, false, cond, List, Option, Some, None, is_some}
+use Rattle.std.specs.Prelude.{◌≡◌, ◌≤◌, ℕ, Bool, true, false, cond, List, Option, Some, None, is_some, nat_le}
 use Rattle.std.specs.Map.{lookup}
 use Rattle.ev_base.specs.declared.names.Name.{Name}
 use Rattle.def_event.specs.declared.event.Event.{Event}
-use Rattle.def_trace.specs.Uses.{AName, Given_for, IsGivenBy, IsFirstGivenBy, IsFollowed, Line, settles, views}
-use Rattle.ev_known.specs.declared.label.Label.{Label}
-use Rattle.ev_known.specs.declared.label.Kind.{Kind}
-use Rattle.ev_known.specs.declared.label.Kind.TheVariants as kind
-use Rattle.ev_known.specs.declared.following.Spot.{Spot}
+use Rattle.def_trace.specs.Uses.{AName, Given_for, IsGivenBy, IsFirstGivenBy, IsFollowed, Line, is_object, settles, views}
+use Rattle.ev_links.specs.declared.label.Label.{Label}
+use Rattle.ev_links.specs.declared.label.Kind.{Kind}
+use Rattle.ev_links.specs.declared.label.Kind.TheVariants as kind
+use Rattle.ev_links.specs.declared.chains.End.{End}
+use Rattle.ev_links.specs.declared.chains.Spot.{Spot}
+use Rattle.ev_links.specs.declared.chains.Standing.{Standing}
 use Rattle.ev_known.specs.declared.following.Goal.{Goal}
 use Rattle.ev_known.specs.declared.following.Goal.TheVariants.{To, Data}
-use Rattle.ev_known.specs.contracts.following.SpotPartialEq.TheImpl.{eq-value}
-use Rattle.ev_known.specs.Label.{label}
+use Rattle.ev_links.specs.contracts.chains.SpotPartialEq.TheImpl.{eq-value}
+use Rattle.ev_links.specs.Chains.{PlanStands, PlanTables, end_of, standing}
+use Rattle.ev_links.specs.Label.{label}
 
 abbrev pub Table : Type 0
 Table = List (Spot × Goal)
@@ -76,14 +79,51 @@ FirstAs by past at n (Some g) =
 pub record GivesFirst (by : Event → Option Given_for) (es : Table) (past : List Line) : Type 0 where
   pub each : (at : ℕ) (n : Name) → FirstAs by past at n (goal_at es (record { at = at; name = label (AName n) }))
 
+-- ---- chains of names that settled to one another
+
+-- a name settled to the next, and so on, or they are one
+pub data Steps (settled : Table) (at : ℕ) : Label → Label → Type 0 where
+  here : {l : Label} → Steps settled at l l
+  onward : {l o : Label} (n : Name) (m : Label) → label (AName n) ≡ l → is_object n ≡ false → goal_at settled (record { at = at; name = l }) ≡ Some (To m) → Steps settled at m o → Steps settled at l o
+
+-- how far a chain has come, where its first name stands at 0
+abbrev pub place_told : Option End → ℕ
+place_told None = 0
+place_told (Some e) = e.place
+
+-- As far as chains have come, their names have settled to one another.
+pub record ChainsStand (plan : PlanTables) (told : List (Spot × End)) (settled : Table) : Type 0 where
+  pub planned : PlanStands plan
+  pub steps : (at : ℕ) (l m : Label) (x y : Standing) → standing plan.standings (record { at = at; name = l }) ≡ Some x → standing plan.standings (record { at = at; name = m }) ≡ Some y → x.chain ≡ y.chain
+      → x.place ≤ y.place → y.place ≤ place_told (end_of told (record { at = at; name = y.chain })) → Steps settled at l m
+  pub ends : (at : ℕ) (chain : Label) (e : End) → end_of told (record { at = at; name = chain }) ≡ Some e → standing plan.standings (record { at = at; name = e.name }) ≡ Some (record { chain = chain; place = e.place })
+
+-- a name leads to the next, and so on, at least once
+pub data Strides (settled viewed : Table) (at : ℕ) : Label → Label → Type 0 where
+  one : {l m : Label} → is_object_label l ≡ false → next_of settled viewed at l ≡ Some m → Strides settled viewed at l m
+  more : {l o : Label} (m : Label) → is_object_label l ≡ false → next_of settled viewed at l ≡ Some m → Strides settled viewed at m o → Strides settled viewed at l o
+
+abbrev pub StridesTo : Table → Table → ℕ → Label → Option Label → Type 0
+StridesTo settled viewed at l None = next_of settled viewed at l ≡ None
+StridesTo settled viewed at l (Some m) = Strides settled viewed at l m
+
+-- whether a place is one to which the chain has come
+abbrev pub is_told_in : List (Spot × End) → ℕ → Standing → Bool
+is_told_in told at x = nat_le x.place (place_told (end_of told (record { at = at; name = x.chain })))
+
+-- ---- all
+
 pub record Tables : Type 0 where
   pub settled : Table
   pub viewed : Table
+  pub plan : PlanTables
+  pub told : List (Spot × End)
 
 -- tables that have what the first lines give
 pub record TablesStand (tables : Tables) (past : List Line) : Type 0 where
   pub settled : GivesFirst settles tables.settled past
   pub viewed : GivesFirst views tables.viewed past
+  pub chains : ChainsStand tables.plan tables.told tables.settled
 
 -- the one object to which a name leads, or none
 abbrev pub FollowedAs : List Line → ℕ → Name → Option Label → Type 0

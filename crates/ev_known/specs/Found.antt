@@ -6,7 +6,7 @@ use Rattle.def_trace.specs.Uses as uses
 use Rattle.def_trace.specs.Uses.{IsAmong, Knows, Line, Thing}
 use Rattle.ev_known.specs.declared.found.Finding.{Finding}
 use Rattle.ev_known.specs.contracts.found.FindingPartialEq.TheImpl.{eq-value}
-use Rattle.ev_known.specs.Label.{label}
+use Rattle.ev_links.specs.Label.{label}
 use Rattle.ev_known.specs.Telling.{activation}
 
 unfoldable pub is_found : List Finding → Finding → Bool

@@ -2,12 +2,12 @@
 use Rattle.std.specs.Prelude.{◌≡◌, ◌⊎◌, ◌↔◌, List}
 use Rattle.def_trace.specs.Uses as uses
 use Rattle.def_trace.specs.Uses.{IsAmong, IsLead, Lead, Line}
-use Rattle.ev_known.specs.declared.label.Label.{Label}
-use Rattle.ev_known.specs.declared.links.Link.{Link}
-use Rattle.ev_known.specs.declared.links.Way.{Way}
-use Rattle.ev_known.specs.declared.links.Way.TheVariants.{Listed, Settled}
-use Rattle.ev_known.specs.Label.{label}
-use Rattle.ev_known.specs.Links.{row}
+use Rattle.ev_links.specs.declared.label.Label.{Label}
+use Rattle.ev_links.specs.declared.links.Link.{Link}
+use Rattle.ev_links.specs.declared.links.Way.{Way}
+use Rattle.ev_links.specs.declared.links.Way.TheVariants.{Listed, Settled}
+use Rattle.ev_links.specs.Label.{label}
+use Rattle.ev_links.specs.Links.{row}
 
 abbrev pub way_of : uses.Way → Way
 way_of uses.Listed = Listed

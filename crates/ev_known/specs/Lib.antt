@@ -1,8 +1,7 @@
-pub mod Label
-pub mod Links
 pub mod Telling
 pub mod Following
 pub mod Leads
 pub mod Runs
 pub mod Found
+pub mod Marks
 pub mod Knowing

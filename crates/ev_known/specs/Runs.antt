@@ -5,9 +5,9 @@ use Rattle.ev_base.specs.declared.names.Name.{Name}
 use Rattle.def_trace.specs.Uses as uses
 use Rattle.def_trace.specs.Uses.{AName, Line, IsTold, Running}
 use Rattle.ev_known.specs.declared.facts.Activation.{Activation}
-use Rattle.ev_known.specs.declared.label.Label.{Label}
+use Rattle.ev_links.specs.declared.label.Label.{Label}
 use Rattle.ev_known.specs.contracts.facts.ActivationPartialEq.TheImpl.{eq-value}
-use Rattle.ev_known.specs.Label.{label}
+use Rattle.ev_links.specs.Label.{label}
 use Rattle.ev_known.specs.Telling.{activation}
 use Rattle.ev_known.specs.Following.{FollowedAs}
 

@@ -14,7 +14,7 @@ use Rattle.ev_known.specs.declared.facts.Activation.{Activation}
 use Rattle.ev_known.specs.declared.facts.Fact.{Fact}
 use Rattle.ev_known.specs.declared.facts.Fact.TheVariants as fact
 use Rattle.ev_known.specs.contracts.facts.FactPartialEq.TheImpl.{eq-value}
-use Rattle.ev_known.specs.Label.{label}
+use Rattle.ev_links.specs.Label.{label}
 
 abbrev pub activation : uses.Activation → Activation
 activation a = record { at = a.at; number = a.number }

@@ -1,26 +1,26 @@
 //! What the lines so far tell, as a set.
 
-ghost use Rattle.std.specs.Prelude.{◌≡◌, [], ◌∷◌, List, map, OnOk};
+ghost use Rattle.std.specs.Prelude.{◌≡◌, ◌<◌, [], ◌∷◌, List, Some, length, map, slice_get, OnOk};
 ghost use Rattle.def_trace.specs.Uses.{AName, Line, Captured as Captures, gains, given, lists_of, things_of};
 ghost use Rattle.def_event.specs.declared.event.Event.TheVariants.{Audition as AuditionMade};
 ghost use Rattle.ev_known.specs.Telling.{StandsFor, is_told, key, told, told_begun, told_called, told_captures, told_line, told_made, told_object, told_opened, told_taken, told_value, told_values, with_fact};
 
-use crate::label::{Label, list_label, name_label};
 use def_event::{Addressed, Called, Event, Shown};
 use ev_base::{Memory, Name};
+use ev_links::{Label, list_label, name_label};
 use indexmap::IndexSet;
 use std::alloc::Global;
 use std::marker::Model;
 
 /// An activation, by the place of its lines and its number there.
-#[derive(Clone, Copy, Debug, PartialEq, Eq, Hash)]
+#[derive(Clone, Copy, PartialEq, Eq, Hash)]
 pub struct Activation {
     pub at: u64,
     pub number: u64,
 }
 
 /// What a line tells by itself of who knows what.
-#[derive(Clone, Copy, Debug, PartialEq, Eq, Hash)]
+#[derive(Clone, Copy, PartialEq, Eq, Hash)]
 pub enum Fact {
     /// The activation has begun.
     Begun(Activation),
@@ -68,6 +68,14 @@ fn add(told: &mut IndexSet<Fact>, fact: Fact) -> Result<(), Memory>
     Ok(())
 }
 
+/// The fact of a number.
+fn fact_at(told: &IndexSet<Fact>, index: usize) -> Fact
+    requires { index < length told.now.keys }
+    ensures { slice_get told.now.keys index ≡ Some result }
+{
+    told.as_slice()[index]
+}
+
 /// The activation of a number at a place.
 fn of(at: u64, number: u64) -> Activation
     ensures { result ≡ record { at = at; number = number } }
@@ -91,6 +99,21 @@ impl Facts {
         ensures { result ≡ is_told self.now fact }
     {
         has(&self.told, fact)
+    }
+
+    /// How many were told.
+    pub fn len(&self) -> usize
+        ensures { result ≡ length self.now }
+    {
+        self.told.len()
+    }
+
+    /// The one of that number, by the order in which they were told.
+    pub fn at(&self, index: usize) -> Fact
+        requires { index < length self.now }
+        ensures { slice_get self.now index ≡ Some result }
+    {
+        fact_at(&self.told, index)
     }
 
     /// A fact is told.

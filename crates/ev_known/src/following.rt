@@ -1,26 +1,22 @@
 //! What names settled to and have as their views, by the first lines that say so, and the object to which a name leads.
 
-ghost use Rattle.std.specs.Prelude.{◌≡◌, [], ◌∷◌, List, IfOk, OnOk, is_some};
-ghost use Rattle.def_trace.specs.Uses.{Line, name_of, settles, views};
-ghost use Rattle.ev_known.specs.Following.{FollowedAs, Follows, FollowsTo, GivesFirst, Noted, NotedFor, Puts, TablesStand, goal, goal_at, is_object_label, next_of};
+ghost use Rattle.std.specs.Prelude.{◌≡◌, ◌+◌, [], ◌∷◌, ◌<◌, Bool, true, false, List, IfOk, IfSome, IsTrue, OnOk, Some, is_some};
+ghost use Rattle.ev_base.specs.declared.names.Name.{Name as NameValue};
+ghost use Rattle.def_trace.specs.Uses.{AName, Line, is_object as is_object_name, name_of, settles, views};
+ghost use Rattle.ev_known.specs.declared.following.Goal.TheVariants.{To as ToName};
+ghost use Rattle.ev_known.specs.Following.{ChainsStand, FollowedAs, Follows, FollowsTo, GivesFirst, Noted, NotedFor, Puts, Strides, StridesTo, Table, TablesStand, goal, goal_at, is_object_label, is_told_in, next_of, place_told};
+ghost use Rattle.ev_links.specs.Chains.{PlanStands, standing};
+ghost use Rattle.ev_links.specs.Label.{label};
 
-use crate::label::{Kind, Label, name_label};
-use crate::links::Labels;
 use def_event::{Event, Shown};
 use ev_base::{Memory, Name};
+use ev_links::{End, Ends, Kind, Label, Labels, Plan, Spot, Standing, name_label};
 use indexmap::IndexMap;
 use std::alloc::Global;
 use std::marker::Model;
 
-/// A name at a place.
-#[derive(Clone, Copy, Debug, PartialEq, Eq, Hash)]
-pub struct Spot {
-    pub at: u64,
-    pub name: Label,
-}
-
 /// What a line gives for a name.
-#[derive(Clone, Copy, Debug, PartialEq, Eq)]
+#[derive(Clone, Copy, PartialEq, Eq)]
 pub enum Goal {
     /// A name.
     To(Label),
@@ -37,7 +33,7 @@ pub struct Firsts {
 impl Model for Firsts {
     ghost use Rattle.std.specs.Prelude.{List};
     ghost use Rattle.ev_known.specs.declared.following.Goal.{Goal};
-    ghost use Rattle.ev_known.specs.declared.following.Spot.{Spot};
+    ghost use Rattle.ev_links.specs.declared.chains.Spot.{Spot};
 
     ghost Value = { List (Spot × Goal) };
 
@@ -131,15 +127,50 @@ fn next_of(settled: &Firsts, viewed: &Firsts, at: u64, name: Label) -> Option<La
     }
 }
 
+/// The name to which the chain of a name has come, if that is further on.
+fn chain_end(plan: &Plan, told: &Ends, at: u64, name: Label) -> Option<Label>
+    ensures { (settled viewed : Table) → ChainsStand plan.now told.now settled → IfSome result (λ end. Strides settled viewed at name end) }
+{
+    let Some(standing) = plan.find(at, name) else {
+        return None;
+    };
+    let Some(end) = told.find(at, standing.chain) else {
+        return None;
+    };
+    if end.place <= standing.place {
+        return None;
+    }
+    Some(end.name)
+}
+
+/// The end of the chain of a name, as far as it has come, else the name to which it leads.
+fn stride(
+    settled: &Firsts,
+    viewed: &Firsts,
+    plan: &Plan,
+    told: &Ends,
+    at: u64,
+    name: Label,
+) -> Option<Label>
+    ensures { is_object_label name ≡ false → ChainsStand plan.now told.now settled.now → StridesTo settled.now viewed.now at name result }
+{
+    match chain_end(plan, told, at, name) {
+        Some(end) => Some(end),
+        None => next_of(settled, viewed, at, name),
+    }
+}
+
 /// The object to which a name leads at a place. There is none where it comes to data, to an end, or back.
 fn follow_in(
     alloc: Global,
     settled: &Firsts,
     viewed: &Firsts,
+    plan: &Plan,
+    told: &Ends,
     at: u64,
     name: Label,
 ) -> Result<Option<Label>, Memory>
-    ensures { IfOk result (λ object. FollowsTo settled.now viewed.now at name object) }
+    ensures { ChainsStand plan.now told.now settled.now → IfOk result (λ object. FollowsTo settled.now viewed.now at name object) }
 {
     let mut seen = Labels::new(alloc);
     let mut current = name;
@@ -149,7 +180,7 @@ fn follow_in(
             return Ok(None);
         }
         seen.add(current)?;
-        let Some(next) = next_of(settled, viewed, at, current) else {
+        let Some(next) = stride(settled, viewed, plan, told, at, current) else {
             return Ok(None);
         };
         current = next;
@@ -179,11 +210,101 @@ fn note_viewed(viewed: &mut Firsts, at: u64, event: &Event) -> Result<(), Memory
     }
 }
 
-/// What names settled to and have as their views, by the first line that says so of each at each place.
+/// Whether a name stands right after another.
+fn is_after(start: Standing, end: Standing) -> bool
+    ensures { result ≡ true → (start.chain ≡ end.chain) × (end.place ≡ start.place + 1) }
+{
+    if start.chain != end.chain {
+        return false;
+    }
+    if end.place == 0 {
+        return false;
+    }
+    end.place - 1 == start.place
+}
+
+/// How far a chain has come, where its first name stands at 0.
+fn place_told(end: Option<End>) -> u64
+    ensures { result ≡ place_told end }
+{
+    match end {
+        Some(end) => end.place,
+        None => 0,
+    }
+}
+
+/// A name settled to another. If that stands right after it, and the chain has come to the name, it has come to the other.
+fn advance(plan: &Plan, told: &mut Ends, at: u64, from: Label, to: Label) -> Result<(), Memory>
+    ensures { (settled : Table) (n : NameValue) → label (AName n) ≡ from → is_object_name n ≡ false → goal_at settled (record { at = at; name = from }) ≡ Some (ToName to)
+        → ChainsStand plan.now told.old settled → OnOk result (ChainsStand plan.now told.new settled) }
+{
+    let Some(start) = plan.find(at, from) else {
+        return Ok(());
+    };
+    let Some(end) = plan.find(at, to) else {
+        return Ok(());
+    };
+    if !is_after(start, end) {
+        return Ok(());
+    }
+    if place_told(told.find(at, end.chain)) != start.place {
+        return Ok(());
+    }
+    let place = end.place;
+    told.put(at, end.chain, End { place, name: to })?;
+    Ok(())
+}
+
+/// The chain of a name that settled may come further.
+fn advance_from(
+    settled: &Firsts,
+    plan: &Plan,
+    told: &mut Ends,
+    at: u64,
+    name: &Name,
+) -> Result<(), Memory>
+    ensures { ChainsStand plan.now told.old settled.now → OnOk result (ChainsStand plan.now told.new settled.now) }
+{
+    let from = name_label(name);
+    if is_object(&from) {
+        return Ok(());
+    }
+    let Some(goal) = settled.find(at, from) else {
+        return Ok(());
+    };
+    match goal {
+        Goal::To(to) => {
+            advance(plan, told, at, from, to)?;
+            Ok(())
+        }
+        Goal::Data => Ok(()),
+    }
+}
+
+/// The chain of the name that a line settles may come further.
+fn tell_chain(
+    settled: &Firsts,
+    plan: &Plan,
+    told: &mut Ends,
+    at: u64,
+    event: &Event,
+) -> Result<(), Memory>
+    ensures { ChainsStand plan.now told.old settled.now → OnOk result (ChainsStand plan.now told.new settled.now) }
+{
+    match event {
+        Event::Settle(name, _) => advance_from(settled, plan, told, at, name),
+        _ => Ok(()),
+    }
+}
+
+/// What names settled to and have as their views, by the first line that says so of each at each place. Of chains that were planned,
+/// how far they have come.
 #[derive(Drop)]
 pub struct Following {
     settled: Firsts,
     viewed: Firsts,
+    plan: Plan,
+    told: Ends,
 }
 
 impl Model for Following {
@@ -191,36 +312,62 @@ impl Model for Following {
 
     ghost Value = { Tables };
 
-    ghost view = { λ f. record { settled = f.settled; viewed = f.viewed } };
+    ghost view = { λ f. record { settled = f.settled; viewed = f.viewed; plan = f.plan; told = f.told } };
 }
 
 impl Following {
-    /// Nothing. It takes no memory.
+    /// Nothing, with a plan of chains, which may be any. It takes no memory.
     #[tactic(auto, using(crate::proofs::Followed::none_stand))]
-    pub fn new(alloc: Global) -> Following
-        ensures { TablesStand result [] }
+    pub fn new(alloc: Global, plan: Plan) -> Following
+        ensures { PlanStands plan → TablesStand result [] }
     {
         Following {
             settled: Firsts::new(alloc),
             viewed: Firsts::new(alloc),
+            plan,
+            told: Ends::new(alloc),
         }
     }
 
     /// Notes what a line at a place gives. Tables that stand for the lines before it stand for these and the line.
-    #[tactic(auto, using(crate::proofs::Followed::line_followed))]
     pub fn tell_line(&mut self, at: u64, event: &Event) -> Result<(), Memory>
-        ensures { (past : List Line) → TablesStand self.old past → OnOk result (TablesStand self.new (record { at = at; event = event.now } ∷ past)) }
+        ensures plan { OnOk result (self.new.plan ≡ self.old.plan) }
+        ensures stands { (past : List Line) → TablesStand self.old past → OnOk result (TablesStand self.new (record { at = at; event = event.now } ∷ past)) }
     {
         note_settled(&mut self.settled, at, event)?;
         note_viewed(&mut self.viewed, at, event)?;
+        tell_chain(&self.settled, &self.plan, &mut self.told, at, event)?;
         Ok(())
     }
 
     /// The object to which a name leads at a place.
-    #[tactic(auto, using(crate::proofs::Followed::followed_as))]
     pub fn follow(&self, alloc: Global, at: u64, name: &Name) -> Result<Option<Label>, Memory>
         ensures { (past : List Line) → TablesStand self.now past → IfOk result (λ object. FollowedAs past at name.now object) }
     {
-        follow_in(alloc, &self.settled, &self.viewed, at, name_label(name))
+        let start = name_label(name);
+        let object = follow_in(
+            alloc,
+            &self.settled,
+            &self.viewed,
+            &self.plan,
+            &self.told,
+            at,
+            start,
+        )?;
+        Ok(object)
+    }
+
+    /// Where a name stands in the chains that were planned.
+    pub fn standing(&self, at: u64, name: Label) -> Option<Standing>
+        ensures { result ≡ standing self.now.plan.standings (record { at = at; name = name }) }
+    {
+        self.plan.find(at, name)
+    }
+
+    /// Whether a chain has come so far.
+    pub fn is_told(&self, at: u64, standing: Standing) -> bool
+        ensures { result ≡ is_told_in self.now.told at standing }
+    {
+        standing.place <= place_told(self.told.find(at, standing.chain))
     }
 }

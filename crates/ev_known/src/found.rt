@@ -1,17 +1,17 @@
 //! What activations were found to know, so that it is not sought again.
 
-ghost use Rattle.std.specs.Prelude.{◌≡◌, [], OnOk};
+ghost use Rattle.std.specs.Prelude.{◌≡◌, [], OnOk, length};
 ghost use Rattle.ev_known.specs.Found.{is_found, with_found};
 
 use crate::facts::Activation;
-use crate::label::Label;
 use ev_base::Memory;
+use ev_links::Label;
 use indexmap::IndexSet;
 use std::alloc::Global;
 use std::marker::Model;
 
 /// A thing, and an activation that knows it.
-#[derive(Clone, Copy, Debug, PartialEq, Eq, Hash)]
+#[derive(Clone, Copy, PartialEq, Eq, Hash)]
 pub struct Finding {
     pub by: Activation,
     pub thing: Label,
@@ -64,6 +64,13 @@ impl Found {
         ensures { result ≡ is_found self.now finding }
     {
         has_in(&self.set, finding)
+    }
+
+    /// How much was found.
+    pub fn len(&self) -> usize
+        ensures { result ≡ length self.now }
+    {
+        self.set.len()
     }
 
     /// It is found.

@@ -2,19 +2,20 @@
 
 ghost use Rattle.std.specs.Prelude.{◌≡◌, ◌↔◌, ◌∷◌, ◌<◌, [], ◌&&◌, List, IfOk, IsTrue, OnOk, length};
 ghost use Rattle.def_trace.specs.Uses.{AName, Line, Knows};
-ghost use Rattle.ev_known.specs.Knowing.{KnownStand, LeadsToAudition, Searched, any_leads, has_captured, has_in, is_led, is_root_label, knows_in, leads_from};
+ghost use Rattle.ev_links.specs.Chains.{PlanStands};
+ghost use Rattle.ev_known.specs.Knowing.{KnownStand, LeadsToAudition, Searched, any_leads, has_captured, has_in, is_chained, is_led, is_root_label, knows_in, leads_from};
 ghost use Rattle.ev_known.specs.Telling.{is_told};
 ghost use Rattle.ev_known.specs.declared.facts.Fact.TheVariants.{Opened as OpenedFact};
 
 use crate::facts::{Activation, Fact, Facts};
 use crate::following::Following;
 use crate::found::{Finding, Found};
-use crate::label::{Kind, Label, name_label};
 use crate::leads::tell_leads;
-use crate::links::{Labels, Link, Links, Scope, is_open};
+use crate::marks::{Holder, Marks};
 use crate::runs::Runs;
 use def_event::Event;
 use ev_base::{Memory, Name};
+use ev_links::{Kind, Label, Labels, Link, Links, Plan, Scope, is_open, name_label};
 use std::alloc::Global;
 use std::marker::Model;
 
@@ -25,15 +26,19 @@ pub struct Knowledge {
     following: Following,
     runs: Runs,
     links: Links,
+    marks: Marks,
     found: Found,
 }
+
+/// So many findings are kept at most, which take some 20 MB.
+const MOST_FOUND: usize = 262_144;
 
 impl Model for Knowledge {
     ghost use Rattle.ev_known.specs.Knowing.{Known};
 
     ghost Value = { Known };
 
-    ghost view = { λ k. record { facts = k.facts; following = k.following; runs = k.runs; links = k.links; found = k.found } };
+    ghost view = { λ k. record { facts = k.facts; following = k.following; runs = k.runs; links = k.links; marks = k.marks; found = k.found } };
 }
 
 /// Whether a label is of a root.
@@ -67,29 +72,33 @@ fn has_captured(facts: &Facts, object: Option<Label>, label: Label) -> bool
 }
 
 impl Knowledge {
-    /// Before the first line. It takes no memory.
+    /// Before the first line, with a plan of the chains of the whole history. It may be any: by chains that are not in it,
+    /// names are sought from one to the next. It takes no memory.
     #[tactic(auto, using(crate::proofs::Knowing::none_known))]
-    pub fn new(alloc: Global) -> Knowledge
-        ensures { KnownStand result [] }
+    pub fn new(alloc: Global, plan: Plan) -> Knowledge
+        ensures { PlanStands plan → KnownStand result [] }
     {
         Knowledge {
             facts: Facts::new(alloc),
-            following: Following::new(alloc),
+            following: Following::new(alloc, plan),
             runs: Runs::new(alloc),
             links: Links::new(alloc),
+            marks: Marks::new(alloc),
             found: Found::new(alloc),
         }
     }
 
     /// A line at a place is told. What stands for the lines before it stands for these and the line.
-    #[tactic(auto, using(crate::proofs::Growing::found_grows))]
+    #[tactic(auto, using(crate::proofs::Growing::found_grows, crate::proofs::Marking::marks_grow))]
     pub fn tell_line(&mut self, alloc: Global, at: u64, event: &Event) -> Result<(), Memory>
         ensures { (past : List Line) → KnownStand self.old past → OnOk result (KnownStand self.new (record { at = at; event = event.now } ∷ past)) }
     {
         self.runs
             .tell_line(alloc, &self.facts, &self.following, at, event)?;
+        let first = self.facts.len();
         self.facts.tell_line(at, event)?;
         self.following.tell_line(at, event)?;
+        self.marks.tell_from(&self.following, &self.facts, first)?;
         tell_leads(&mut self.links, alloc, at, event)?;
         Ok(())
     }
@@ -107,7 +116,30 @@ impl Knowledge {
         has_captured(&self.facts, self.runs.find(activation), label)
     }
 
-    /// Whether an activation has a thing, or was found to know it.
+    /// Whether something stands in a chain, as far as that has come, behind what an activation or the object that it runs holds.
+    fn is_chained(&self, activation: Activation, label: Label) -> bool
+        ensures { result ≡ is_chained self.now activation label }
+    {
+        let at = activation.at;
+        let Some(standing) = self.following.standing(at, label) else {
+            return false;
+        };
+        if !self.following.is_told(at, standing) {
+            return false;
+        }
+        if self
+            .marks
+            .is_marked(Holder::Activation(activation), at, standing)
+        {
+            return true;
+        }
+        match self.runs.find(activation) {
+            Some(object) => self.marks.is_marked(Holder::Object(object), at, standing),
+            None => false,
+        }
+    }
+
+    /// Whether an activation has a thing, or was found to know it, or a chain leads to it from what it has.
     fn knows_already(&self, activation: Activation, thing: Label) -> bool
         ensures { result ≡ knows_in self.now activation thing }
     {
@@ -115,7 +147,10 @@ impl Knowledge {
         if self.found.has(Finding { by, thing }) {
             return true;
         }
-        self.has(activation, thing)
+        if self.has(activation, thing) {
+            return true;
+        }
+        self.is_chained(activation, thing)
     }
 
     /// Whether a link leads from what an activation knows already.
@@ -161,6 +196,17 @@ impl Knowledge {
         Ok(None)
     }
 
+    /// Makes room for one more finding: what was found is let go where it is much, and is sought again when it is used.
+    #[tactic(auto, using(crate::proofs::Knowing::none_found_stand))]
+    fn make_room(&mut self, alloc: Global)
+        ensures { (past : List Line) → KnownStand self.old past → KnownStand self.new past }
+    {
+        if self.found.len() < MOST_FOUND {
+            return;
+        }
+        self.found = Found::new(alloc);
+    }
+
     /// Keeps that an activation knows a thing, where something that it knows already leads to it.
     fn keep(&mut self, activation: Activation, label: Label) -> Result<(), Memory>
         ensures { (past : List Line) → KnownStand self.old past → OnOk result (KnownStand self.new past) }
@@ -178,6 +224,7 @@ impl Knowledge {
     /// The same for the labels up to a place, from there back to the first.
     fn keep_back(
         &mut self,
+        alloc: Global,
         activation: Activation,
         labels: &Labels,
         last: usize,
@@ -186,6 +233,7 @@ impl Knowledge {
         ensures { (past : List Line) → KnownStand self.old past → OnOk result (KnownStand self.new past) }
     {
         for back in 0..=last {
+            self.make_room(alloc);
             self.keep(activation, labels.at(last - back))?;
         }
         Ok(())
@@ -212,7 +260,7 @@ impl Knowledge {
         let Some(place) = self.search(activation, &mut labels)? else {
             return Ok(false);
         };
-        self.keep_back(activation, &labels, place)?;
+        self.keep_back(alloc, activation, &labels, place)?;
         Ok(true)
     }
 

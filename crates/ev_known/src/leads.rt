@@ -2,14 +2,13 @@
 
 ghost use Rattle.std.specs.Prelude.{◌≡◌, ◌∷◌, [], List, OnOk, map};
 ghost use Rattle.def_trace.specs.Uses.{AName, Line, leads, things, things_of};
-ghost use Rattle.ev_known.specs.Label.{label};
-ghost use Rattle.ev_known.specs.declared.links.Way.TheVariants.{Listed as Listing, Settled as Settling};
+ghost use Rattle.ev_links.specs.Label.{label};
+ghost use Rattle.ev_links.specs.declared.links.Way.TheVariants.{Listed as Listing, Settled as Settling};
 ghost use Rattle.ev_known.specs.Leads.{AddsEach, AddsLeads, LinksStand};
 
-use crate::label::{Label, list_label, name_label};
-use crate::links::{Link, Links, Way};
 use def_event::{Event, Shown};
 use ev_base::{Memory, Name};
+use ev_links::{Label, Link, Links, Way, list_label, name_label};
 use std::alloc::Global;
 
 /// Something leads to a thing.

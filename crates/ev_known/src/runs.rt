@@ -8,9 +8,9 @@ ghost use Rattle.ev_known.specs.Telling.{StandsFor};
 
 use crate::facts::{Activation, Fact, Facts};
 use crate::following::Following;
-use crate::label::Label;
 use def_event::{Called, Event, Shown};
 use ev_base::{Memory, Name};
+use ev_links::Label;
 use indexmap::IndexMap;
 use std::alloc::Global;
 use std::marker::Model;
@@ -24,7 +24,7 @@ pub struct Runs {
 impl Model for Runs {
     ghost use Rattle.std.specs.Prelude.{List};
     ghost use Rattle.ev_known.specs.declared.facts.Activation.{Activation};
-    ghost use Rattle.ev_known.specs.declared.label.Label.{Label};
+    ghost use Rattle.ev_links.specs.declared.label.Label.{Label};
 
     ghost Value = { List (Activation × Label) };
 

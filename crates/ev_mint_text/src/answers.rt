@@ -10,7 +10,7 @@ use ev_seal::{MintFault, Mints, Seals};
 use std::fmt::Write;
 
 /// What is said of an order.
-#[derive(Clone, Copy, Debug, PartialEq, Eq)]
+#[derive(Clone, Copy, PartialEq, Eq)]
 pub enum Answer {
     /// The number of a brand that was made.
     Brand(u64),

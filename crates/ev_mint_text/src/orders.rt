@@ -18,7 +18,7 @@ const MOST_NUMBER: u64 = 4294967295;
 const MOST_AMOUNT: u64 = 1_000_000_000_000_000_000;
 
 /// What a line asks for. Brands, boxes, mints and purses go by the numbers in which they were made, from 0.
-#[derive(Clone, Copy, Debug, PartialEq, Eq)]
+#[derive(Clone, Copy, PartialEq, Eq)]
 pub enum Order {
     Brand,
     /// An integer is sealed with a brand.

@@ -24,6 +24,113 @@ fn own_text_of(alloc: Global, room: usize, bytes: &[u8]) -> Result<(String, &[u8
     Ok((String::from_str(alloc, text)?, rest))
 }
 
+/// An integer.
+#[tactic(auto, unfolding(crate::specs::Reading::leaf_at))]
+fn integer_of(room: usize, bytes: &[u8]) -> Result<(Desc, usize, &[u8]), ReadError>
+    ensures { Gives (λ x. record { value = described x.0; room = x.1; rest = x.2.now }) result (leaf_at Kind.Integer room bytes.now) }
+{
+    let (integer, rest) = signed_of(bytes)?;
+    Ok((Desc::Plain(Plain::Int(integer)), room, rest))
+}
+
+/// A character.
+#[tactic(auto, unfolding(crate::specs::Reading::leaf_at))]
+fn scalar_of(room: usize, bytes: &[u8]) -> Result<(Desc, usize, &[u8]), ReadError>
+    ensures { Gives (λ x. record { value = described x.0; room = x.1; rest = x.2.now }) result (leaf_at Kind.Character room bytes.now) }
+{
+    let (character, rest) = character_of(bytes)?;
+    Ok((Desc::Plain(Plain::Char(character)), room, rest))
+}
+
+/// A text. It weighs as much as it has bytes.
+#[tactic(auto, unfolding(crate::specs::Reading::leaf_at))]
+fn plain_text_of(
+    alloc: Global,
+    room: usize,
+    bytes: &[u8],
+) -> Result<(Desc, usize, &[u8]), ReadError>
+    ensures { Gives (λ x. record { value = described x.0; room = x.1; rest = x.2.now }) result (leaf_at Kind.Text room bytes.now) }
+{
+    let (text, rest) = own_text_of(alloc, room, bytes)?;
+    let left = room - text.len();
+    Ok((Desc::Plain(Plain::Text(Str::of(text))), left, rest))
+}
+
+/// A primitive object.
+#[tactic(auto, unfolding(crate::specs::Reading::leaf_at))]
+fn plain_primitive_of(room: usize, bytes: &[u8]) -> Result<(Desc, usize, &[u8]), ReadError>
+    ensures { Gives (λ x. record { value = described x.0; room = x.1; rest = x.2.now }) result (leaf_at Kind.Primitive room bytes.now) }
+{
+    let (primitive, rest) = primitive_of(bytes)?;
+    Ok((Desc::Plain(Plain::Prim(PrimId(primitive))), room, rest))
+}
+
+/// A broken reference. It weighs as much as its problem has bytes.
+#[tactic(auto, unfolding(crate::specs::Reading::leaf_at))]
+fn broken_of(alloc: Global, room: usize, bytes: &[u8]) -> Result<(Desc, usize, &[u8]), ReadError>
+    ensures { Gives (λ x. record { value = described x.0; room = x.1; rest = x.2.now }) result (leaf_at Kind.Broken room bytes.now) }
+{
+    let (problem, rest) = own_text_of(alloc, room, bytes)?;
+    let left = room - problem.len();
+    Ok((Desc::Broken(Str::of(problem)), left, rest))
+}
+
+/// An export of the receiver.
+#[tactic(auto, unfolding(crate::specs::Reading::leaf_at))]
+fn your_export_of(room: usize, bytes: &[u8]) -> Result<(Desc, usize, &[u8]), ReadError>
+    ensures { Gives (λ x. record { value = described x.0; room = x.1; rest = x.2.now }) result (leaf_at Kind.YourExport room bytes.now) }
+{
+    let (position, rest) = unsigned_of(bytes)?;
+    Ok((Desc::YourExport(position), room, rest))
+}
+
+/// An answer of the receiver.
+#[tactic(auto, unfolding(crate::specs::Reading::leaf_at))]
+fn your_answer_of(room: usize, bytes: &[u8]) -> Result<(Desc, usize, &[u8]), ReadError>
+    ensures { Gives (λ x. record { value = described x.0; room = x.1; rest = x.2.now }) result (leaf_at Kind.YourAnswer room bytes.now) }
+{
+    let (question, rest) = unsigned_of(bytes)?;
+    Ok((Desc::YourAnswer(question), room, rest))
+}
+
+/// An export of the sender.
+#[tactic(auto, unfolding(crate::specs::Reading::leaf_at))]
+fn my_export_of(room: usize, bytes: &[u8]) -> Result<(Desc, usize, &[u8]), ReadError>
+    ensures { Gives (λ x. record { value = described x.0; room = x.1; rest = x.2.now }) result (leaf_at Kind.MyExport room bytes.now) }
+{
+    let (position, rest) = unsigned_of(bytes)?;
+    Ok((Desc::MyExport(position), room, rest))
+}
+
+/// A promise of the sender.
+#[tactic(auto, unfolding(crate::specs::Reading::leaf_at))]
+fn my_promise_of(room: usize, bytes: &[u8]) -> Result<(Desc, usize, &[u8]), ReadError>
+    ensures { Gives (λ x. record { value = described x.0; room = x.1; rest = x.2.now }) result (leaf_at Kind.MyPromise room bytes.now) }
+{
+    let (position, rest) = unsigned_of(bytes)?;
+    Ok((Desc::MyPromise(position), room, rest))
+}
+
+/// An object of a third vat.
+#[tactic(auto, unfolding(crate::specs::Reading::leaf_at))]
+fn third_of(room: usize, bytes: &[u8]) -> Result<(Desc, usize, &[u8]), ReadError>
+    ensures { Gives (λ x. record { value = described x.0; room = x.1; rest = x.2.now }) result (leaf_at Kind.Third room bytes.now) }
+{
+    let (host, rest) = vat_of(bytes)?;
+    let (swiss, rest) = swiss_of(rest)?;
+    let host = VatId(host);
+    Ok((Desc::Third { host, swiss }, room, rest))
+}
+
+/// An answer of the sender.
+#[tactic(auto, unfolding(crate::specs::Reading::leaf_at))]
+fn my_answer_of(room: usize, bytes: &[u8]) -> Result<(Desc, usize, &[u8]), ReadError>
+    ensures { Gives (λ x. record { value = described x.0; room = x.1; rest = x.2.now }) result (leaf_at Kind.MyAnswer room bytes.now) }
+{
+    let (question, rest) = unsigned_of(bytes)?;
+    Ok((Desc::MyAnswer(question), room, rest))
+}
+
 /// What is no list, behind its first byte.
 #[tactic(auto, unfolding(crate::specs::Reading::leaf_at))]
 fn leaf_of(
@@ -38,55 +145,18 @@ fn leaf_of(
         Kind::Null => Ok((Desc::Plain(Plain::Null), room, bytes)),
         Kind::False => Ok((Desc::Plain(Plain::Bool(false)), room, bytes)),
         Kind::True => Ok((Desc::Plain(Plain::Bool(true)), room, bytes)),
-        Kind::Integer => {
-            let (integer, rest) = signed_of(bytes)?;
-            Ok((Desc::Plain(Plain::Int(integer)), room, rest))
-        }
-        Kind::Character => {
-            let (character, rest) = character_of(bytes)?;
-            Ok((Desc::Plain(Plain::Char(character)), room, rest))
-        }
-        Kind::Text => {
-            let (text, rest) = own_text_of(alloc, room, bytes)?;
-            let left = room - text.len();
-            Ok((Desc::Plain(Plain::Text(Str::of(text))), left, rest))
-        }
+        Kind::Integer => integer_of(room, bytes),
+        Kind::Character => scalar_of(room, bytes),
+        Kind::Text => plain_text_of(alloc, room, bytes),
         Kind::List => Err(ReadError::Refused),
-        Kind::Primitive => {
-            let (primitive, rest) = primitive_of(bytes)?;
-            Ok((Desc::Plain(Plain::Prim(PrimId(primitive))), room, rest))
-        }
-        Kind::Broken => {
-            let (problem, rest) = own_text_of(alloc, room, bytes)?;
-            let left = room - problem.len();
-            Ok((Desc::Broken(Str::of(problem)), left, rest))
-        }
-        Kind::YourExport => {
-            let (position, rest) = unsigned_of(bytes)?;
-            Ok((Desc::YourExport(position), room, rest))
-        }
-        Kind::YourAnswer => {
-            let (question, rest) = unsigned_of(bytes)?;
-            Ok((Desc::YourAnswer(question), room, rest))
-        }
-        Kind::MyExport => {
-            let (position, rest) = unsigned_of(bytes)?;
-            Ok((Desc::MyExport(position), room, rest))
-        }
-        Kind::MyPromise => {
-            let (position, rest) = unsigned_of(bytes)?;
-            Ok((Desc::MyPromise(position), room, rest))
-        }
-        Kind::Third => {
-            let (host, rest) = vat_of(bytes)?;
-            let (swiss, rest) = swiss_of(rest)?;
-            let host = VatId(host);
-            Ok((Desc::Third { host, swiss }, room, rest))
-        }
-        Kind::MyAnswer => {
-            let (question, rest) = unsigned_of(bytes)?;
-            Ok((Desc::MyAnswer(question), room, rest))
-        }
+        Kind::Primitive => plain_primitive_of(room, bytes),
+        Kind::Broken => broken_of(alloc, room, bytes),
+        Kind::YourExport => your_export_of(room, bytes),
+        Kind::YourAnswer => your_answer_of(room, bytes),
+        Kind::MyExport => my_export_of(room, bytes),
+        Kind::MyPromise => my_promise_of(room, bytes),
+        Kind::Third => third_of(room, bytes),
+        Kind::MyAnswer => my_answer_of(room, bytes),
     }
 }
 

@@ -1,6 +1,6 @@
 //! The spelling of an operation.
 
-ghost use Rattle.std.specs.Prelude.{◌≡◌, ◌≤◌, ◌<◌, ◌^◌, ◌∷◌, ◌++◌, map, string_bytes, IfOk, OnOk};
+ghost use Rattle.std.specs.Prelude.{◌≡◌, ◌≤◌, ◌<◌, ◌^◌, [], ◌∷◌, ◌++◌, map, string_bytes, IfOk, OnOk};
 ghost use Rattle.def_op.specs.Numbers.{bound, digits, unsigned, signed, swiss, low_first};
 ghost use Rattle.def_op.specs.Frames.{ListOf, Deliver, DeliverOnly, Resolve, Accept, count, text_bytes, plain_bytes, desc_bytes, members_bytes, outcome_bytes, spelling};
 ghost use Rattle.def_op.specs.Views.{described, all_described, outcome, operation};
@@ -75,31 +75,20 @@ fn put_text(out: &mut Vec<u8>, text: &str) -> Result<(), Memory>
     Ok(())
 }
 
-#[tactic(auto, unfolding(def_op::specs::Frames::plain_bytes))]
-fn put_plain(out: &mut Vec<u8>, plain: &Plain) -> Result<(), Memory>
-    ensures { OnOk result (out.new.items ≡ out.old.items ++ plain_bytes plain.now) }
+/// A code alone.
+fn put_code(out: &mut Vec<u8>, code: u8) -> Result<(), Memory>
+    ensures { OnOk result (out.new.items ≡ out.old.items ++ code ∷ []) }
 {
-    match plain {
-        Plain::Null => out.push(0)?,
-        Plain::Bool(false) => out.push(1)?,
-        Plain::Bool(true) => out.push(2)?,
-        Plain::Int(integer) => {
-            out.push(3)?;
-            put_signed(out, *integer)?;
-        }
-        Plain::Char(character) => {
-            out.push(4)?;
-            put_unsigned(out, u64::from(u32::from(*character)))?;
-        }
-        Plain::Text(text) => {
-            out.push(5)?;
-            put_text(out, text.as_str())?;
-        }
-        Plain::Prim(primitive) => {
-            out.push(7)?;
-            out.push(primitive.0)?;
-        }
-    }
+    out.push(code)?;
+    Ok(())
+}
+
+/// A code, and a byte.
+fn put_two(out: &mut Vec<u8>, code: u8, byte: u8) -> Result<(), Memory>
+    ensures { OnOk result (out.new.items ≡ out.old.items ++ code ∷ byte ∷ []) }
+{
+    out.push(code)?;
+    out.push(byte)?;
     Ok(())
 }
 
@@ -111,30 +100,61 @@ fn put_counted(out: &mut Vec<u8>, code: u8, number: u64) -> Result<(), Memory>
     put_unsigned(out, number)
 }
 
+/// A code, and a number with a sign.
+fn put_coded_signed(out: &mut Vec<u8>, code: u8, number: i128) -> Result<(), Memory>
+    ensures { OnOk result (out.new.items ≡ out.old.items ++ code ∷ signed number) }
+{
+    out.push(code)?;
+    put_signed(out, number)
+}
+
+/// A code, and a text.
+fn put_coded_text(out: &mut Vec<u8>, code: u8, text: &str) -> Result<(), Memory>
+    ensures { OnOk result (out.new.items ≡ out.old.items ++ code ∷ text_bytes text.now) }
+{
+    out.push(code)?;
+    put_text(out, text)
+}
+
+#[tactic(auto, unfolding(def_op::specs::Frames::plain_bytes))]
+fn put_plain(out: &mut Vec<u8>, plain: &Plain) -> Result<(), Memory>
+    ensures { OnOk result (out.new.items ≡ out.old.items ++ plain_bytes plain.now) }
+{
+    match plain {
+        Plain::Null => put_code(out, 0),
+        Plain::Bool(false) => put_code(out, 1),
+        Plain::Bool(true) => put_code(out, 2),
+        Plain::Int(integer) => put_coded_signed(out, 3, *integer),
+        Plain::Char(character) => put_counted(out, 4, u64::from(u32::from(*character))),
+        Plain::Text(text) => put_coded_text(out, 5, text.as_str()),
+        Plain::Prim(primitive) => put_two(out, 7, primitive.0),
+    }
+}
+
+/// An object of a third vat by its host and swiss number.
+fn put_third(out: &mut Vec<u8>, host: u8, number: u128) -> Result<(), Memory>
+    ensures { OnOk result (out.new.items ≡ out.old.items ++ 13 ∷ host ∷ swiss number) }
+{
+    put_two(out, 13, host)?;
+    put_swiss(out, number)
+}
+
 #[cycle(writing)]
 #[tactic(auto, unfolding(def_op::specs::Frames::desc_bytes))]
 fn put_desc(out: &mut Vec<u8>, desc: &Desc) -> Result<(), Memory>
     ensures { OnOk result (out.new.items ≡ out.old.items ++ desc_bytes (described desc.now)) }
 {
     match desc {
-        Desc::Plain(plain) => put_plain(out, plain)?,
-        Desc::ListOf(members) => put_list(out, members.as_slice())?,
-        Desc::Broken(problem) => {
-            out.push(8)?;
-            put_text(out, problem.as_str())?;
-        }
-        Desc::YourExport(position) => put_counted(out, 9, *position)?,
-        Desc::YourAnswer(question) => put_counted(out, 10, *question)?,
-        Desc::MyExport(position) => put_counted(out, 11, *position)?,
-        Desc::MyPromise(position) => put_counted(out, 12, *position)?,
-        Desc::Third { host, swiss } => {
-            out.push(13)?;
-            out.push(host.0)?;
-            put_swiss(out, *swiss)?;
-        }
-        Desc::MyAnswer(question) => put_counted(out, 14, *question)?,
+        Desc::Plain(plain) => put_plain(out, plain),
+        Desc::ListOf(members) => put_list(out, members.as_slice()),
+        Desc::Broken(problem) => put_coded_text(out, 8, problem.as_str()),
+        Desc::YourExport(position) => put_counted(out, 9, *position),
+        Desc::YourAnswer(question) => put_counted(out, 10, *question),
+        Desc::MyExport(position) => put_counted(out, 11, *position),
+        Desc::MyPromise(position) => put_counted(out, 12, *position),
+        Desc::Third { host, swiss } => put_third(out, host.0, *swiss),
+        Desc::MyAnswer(question) => put_counted(out, 14, *question),
     }
-    Ok(())
 }
 
 #[cycle(writing)]
@@ -165,13 +185,9 @@ fn put_outcome(out: &mut Vec<u8>, to: &Resolved) -> Result<(), Memory>
     ensures { OnOk result (out.new.items ≡ out.old.items ++ outcome_bytes (outcome to.now)) }
 {
     match to {
-        Resolved::To(desc) => put_desc(out, desc)?,
-        Resolved::Elsewhere(host) => {
-            out.push(15)?;
-            out.push(host.0)?;
-        }
+        Resolved::To(desc) => put_desc(out, desc),
+        Resolved::Elsewhere(host) => put_two(out, 15, host.0),
     }
-    Ok(())
 }
 
 /// An operation that is about something, under a swiss number.
@@ -255,18 +271,17 @@ pub(crate) fn put_op(out: &mut Vec<u8>, op: &Op) -> Result<(), Memory>
             target,
             verb,
             args,
-        } => put_deliver(out, *question, target, verb.as_str(), args.as_slice())?,
-        Op::Resolve { subject, to } => put_resolve(out, subject, to)?,
-        Op::Provide { target, swiss } => put_under(out, 3, target, *swiss)?,
+        } => put_deliver(out, *question, target, verb.as_str(), args.as_slice()),
+        Op::Resolve { subject, to } => put_resolve(out, subject, to),
+        Op::Provide { target, swiss } => put_under(out, 3, target, *swiss),
         Op::Accept {
             question,
             provider,
             swiss,
-        } => put_accept(out, *question, provider.0, *swiss)?,
-        Op::Shorten { subject, swiss } => put_under(out, 5, subject, *swiss)?,
+        } => put_accept(out, *question, provider.0, *swiss),
+        Op::Shorten { subject, swiss } => put_under(out, 5, subject, *swiss),
         Op::DeliverOnly { target, verb, args } => {
-            put_deliver_only(out, target, verb.as_str(), args.as_slice())?
+            put_deliver_only(out, target, verb.as_str(), args.as_slice())
         }
     }
-    Ok(())
 }

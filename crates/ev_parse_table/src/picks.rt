@@ -65,6 +65,24 @@ fn pick_one(step: Move, others: Option<Move>, kind: TokenKind) -> Option<Move>
     }
 }
 
+fn pick_two(first: Move, second: Move, others: Option<Move>, kind: TokenKind) -> Option<Move>
+    ensures { result ≡ (if accepts first kind then Some first else if accepts second kind then Some second else others) }
+{
+    pick_one(first, pick_one(second, others, kind), kind)
+}
+
+fn pick_three(
+    first: Move,
+    second: Move,
+    third: Move,
+    others: Option<Move>,
+    kind: TokenKind,
+) -> Option<Move>
+    ensures { result ≡ (if accepts first kind then Some first else if accepts second kind then Some second else if accepts third kind then Some third else others) }
+{
+    pick_one(first, pick_two(second, third, others, kind), kind)
+}
+
 /// The move that a token begins.
 pub fn pick_move(moves: Moves, kind: TokenKind) -> Option<Move>
     ensures { result ≡ pick (listed moves) kind }
@@ -72,50 +90,22 @@ pub fn pick_move(moves: Moves, kind: TokenKind) -> Option<Move>
     match moves {
         Moves::None => None,
         Moves::One(first) => pick_one(first, None, kind),
-        Moves::Two(first, second) => pick_one(first, pick_one(second, None, kind), kind),
-        Moves::Three(first, second, third) => pick_one(
-            first,
-            pick_one(second, pick_one(third, None, kind), kind),
-            kind,
-        ),
-        Moves::Four(first, second, third, fourth) => pick_one(
-            first,
-            pick_one(
+        Moves::Two(first, second) => pick_two(first, second, None, kind),
+        Moves::Three(first, second, third) => pick_three(first, second, third, None, kind),
+        Moves::Four(first, second, third, fourth) => {
+            pick_one(first, pick_three(second, third, fourth, None, kind), kind)
+        }
+        Moves::Five(first, second, third, fourth, fifth) => {
+            pick_two(
+                first,
                 second,
-                pick_one(third, pick_one(fourth, None, kind), kind),
+                pick_three(third, fourth, fifth, None, kind),
                 kind,
-            ),
-            kind,
-        ),
-        Moves::Five(first, second, third, fourth, fifth) => pick_one(
-            first,
-            pick_one(
-                second,
-                pick_one(
-                    third,
-                    pick_one(fourth, pick_one(fifth, None, kind), kind),
-                    kind,
-                ),
-                kind,
-            ),
-            kind,
-        ),
-        Moves::Six(first, second, third, fourth, fifth, sixth) => pick_one(
-            first,
-            pick_one(
-                second,
-                pick_one(
-                    third,
-                    pick_one(
-                        fourth,
-                        pick_one(fifth, pick_one(sixth, None, kind), kind),
-                        kind,
-                    ),
-                    kind,
-                ),
-                kind,
-            ),
-            kind,
-        ),
+            )
+        }
+        Moves::Six(first, second, third, fourth, fifth, sixth) => {
+            let others = pick_three(fourth, fifth, sixth, None, kind);
+            pick_three(first, second, third, others, kind)
+        }
     }
 }

@@ -16,7 +16,7 @@ pub enum Part {
 }
 
 /// An item, and the offset at which it begins.
-#[derive(Clone, Copy, Debug, PartialEq, Eq)]
+#[derive(Clone, Copy, PartialEq, Eq)]
 pub struct Spot {
     pub at: u64,
     pub part: Part,

@@ -8,7 +8,7 @@ use ev_base::VatId;
 use ev_intro::DrawFault;
 
 /// What tells a gift from the others at its host: who provides it, and the word that was drawn for it.
-#[derive(Clone, Copy, Debug, PartialEq, Eq, Hash)]
+#[derive(Clone, Copy, PartialEq, Eq, Hash)]
 pub struct Swiss {
     pub provider: VatId,
     pub word: u128,

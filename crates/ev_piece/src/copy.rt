@@ -1,7 +1,7 @@
 //! Copies of pieces.
 
 ghost use Rattle.std.specs.Prelude.{◌≡◌, IfOk};
-ghost use Rattle.def_kernel.specs.declared.node.Node.TheVariants.{Call, Method, Object};
+ghost use Rattle.def_kernel.specs.declared.node.Node.TheVariants.{Call, Final, ListPattern, Lit, Method, Noun, Object, Sequence, Set, Var};
 
 use def_kernel::{Literal, Node};
 use ev_base::{Memory, NodeId, Seq};
@@ -22,6 +22,27 @@ fn literal(value: &Literal) -> Result<Literal, Memory>
         Literal::Char(c) => Ok(Literal::Char(*c)),
         Literal::Text(text) => Ok(Literal::Text(text.share()?)),
     }
+}
+
+fn lit(value: &Literal) -> Result<Node, Memory>
+    ensures { IfOk result (λ copy. copy ≡ Lit value.now) }
+{
+    let value = literal(value)?;
+    Ok(Node::Lit(value))
+}
+
+fn noun(name: &Word) -> Result<Node, Memory>
+    ensures { IfOk result (λ copy. copy ≡ Noun name.now) }
+{
+    let name = name.share()?;
+    Ok(Node::Noun(name))
+}
+
+fn set(name: &Word, value: NodeId) -> Result<Node, Memory>
+    ensures { IfOk result (λ copy. copy ≡ Set name.now value) }
+{
+    let name = name.share()?;
+    Ok(Node::Set(name, value))
 }
 
 fn call(alloc: Global, receiver: NodeId, verb: &Word, args: &Seq<NodeId>) -> Result<Node, Memory>
@@ -65,14 +86,42 @@ fn method(alloc: Global, verb: &Word, patterns: &Seq<NodeId>, body: NodeId) -> R
     })
 }
 
+fn sequence(alloc: Global, items: &Seq<NodeId>) -> Result<Node, Memory>
+    ensures { IfOk result (λ copy. copy ≡ Sequence items.now) }
+{
+    let items = numbers(alloc, items)?;
+    Ok(Node::Sequence(items))
+}
+
+fn final_pattern(name: &Word, guard: Option<NodeId>) -> Result<Node, Memory>
+    ensures { IfOk result (λ copy. copy ≡ Final name.now guard) }
+{
+    let name = name.share()?;
+    Ok(Node::Final(name, guard))
+}
+
+fn variable(name: &Word, guard: Option<NodeId>) -> Result<Node, Memory>
+    ensures { IfOk result (λ copy. copy ≡ Var name.now guard) }
+{
+    let name = name.share()?;
+    Ok(Node::Var(name, guard))
+}
+
+fn list(alloc: Global, patterns: &Seq<NodeId>) -> Result<Node, Memory>
+    ensures { IfOk result (λ copy. copy ≡ ListPattern patterns.now) }
+{
+    let patterns = numbers(alloc, patterns)?;
+    Ok(Node::ListPattern(patterns))
+}
+
 /// A copy of a node.
 fn node(alloc: Global, node: &Node) -> Result<Node, Memory>
     ensures { IfOk result (λ copy. copy ≡ node.now) }
 {
     match node {
-        Node::Lit(value) => Ok(Node::Lit(literal(value)?)),
-        Node::Noun(name) => Ok(Node::Noun(name.share()?)),
-        Node::Set(name, value) => Ok(Node::Set(name.share()?, *value)),
+        Node::Lit(value) => lit(value),
+        Node::Noun(name) => noun(name),
+        Node::Set(name, value) => set(name, *value),
         Node::Def {
             pattern,
             exit,
@@ -87,7 +136,7 @@ fn node(alloc: Global, node: &Node) -> Result<Node, Memory>
             verb,
             args,
         } => call(alloc, *receiver, verb, args),
-        Node::Sequence(items) => Ok(Node::Sequence(numbers(alloc, items)?)),
+        Node::Sequence(items) => sequence(alloc, items),
         Node::If(test, yes, no) => Ok(Node::If(*test, *yes, *no)),
         Node::Escape {
             pattern,
@@ -124,10 +173,10 @@ fn node(alloc: Global, node: &Node) -> Result<Node, Memory>
             pattern: *pattern,
             body: *body,
         }),
-        Node::Final(name, guard) => Ok(Node::Final(name.share()?, *guard)),
-        Node::Var(name, guard) => Ok(Node::Var(name.share()?, *guard)),
+        Node::Final(name, guard) => final_pattern(name, *guard),
+        Node::Var(name, guard) => variable(name, *guard),
         Node::Any(guard) => Ok(Node::Any(*guard)),
-        Node::ListPattern(patterns) => Ok(Node::ListPattern(numbers(alloc, patterns)?)),
+        Node::ListPattern(patterns) => list(alloc, patterns),
         Node::Via(value, pattern) => Ok(Node::Via(*value, *pattern)),
     }
 }

@@ -9,7 +9,7 @@ use crate::reply::Reply;
 use ev_base::Value;
 
 /// How two booleans are joined.
-#[derive(Clone, Copy, Debug, PartialEq, Eq)]
+#[derive(Clone, Copy, PartialEq, Eq)]
 pub(crate) enum Joining {
     Both,
     Either,

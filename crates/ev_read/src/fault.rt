@@ -3,7 +3,7 @@
 use ev_base::Memory;
 
 /// Why a frame was not heard.
-#[derive(Clone, Copy, Debug, PartialEq, Eq)]
+#[derive(Clone, Copy, PartialEq, Eq)]
 pub enum HearFault {
     /// It names a number that is not there, or what may not stand in its place.
     Malformed,

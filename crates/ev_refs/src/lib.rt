@@ -7,6 +7,7 @@ pub mod known;
 pub mod laws;
 pub mod mails;
 pub mod natives;
+pub mod queue;
 pub mod refs;
 pub mod search;
 pub mod waits;

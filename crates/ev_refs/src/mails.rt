@@ -8,7 +8,7 @@ use crate::refs::Refs;
 use ev_base::{Memory, MsgId, PromId, VatId};
 
 /// The number of a new message, and the name of its answer.
-#[derive(Clone, Copy, Debug, PartialEq, Eq)]
+#[derive(Clone, Copy, PartialEq, Eq)]
 pub struct Fresh {
     pub id: MsgId,
     pub answer: PromId,

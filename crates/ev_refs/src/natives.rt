@@ -10,7 +10,7 @@ use ev_base::{TextId, Value};
 use ev_prims::RefTest;
 
 /// What `Ref` answers of a value.
-#[derive(Clone, Copy, Debug, PartialEq, Eq)]
+#[derive(Clone, Copy, PartialEq, Eq)]
 pub enum RefReply {
     Says(Value),
     /// It throws this problem, of a broken value.

@@ -4,8 +4,8 @@ ghost use Rattle.std.specs.Prelude.{◌≡◌, ◌+◌, ◌<◌, ◌++◌, ◌�
 ghost use Rattle.ev_refs.specs.References.{References, no_references, unsettled_of};
 
 use crate::known::{Known, Message, Standing};
+use crate::queue::TurnQueue;
 use ev_base::{Memory, PromId, Seq, TextId, VatId};
-use ev_queue::TurnQueue;
 use std::alloc::Global;
 use std::marker::Model;
 

@@ -33,46 +33,19 @@ pub fn same_plain(heap: &Heap, x: &Value, y: &Value) -> bool
     ensures { result ≡ same_plain (text_in heap.now) x.now y.now }
 {
     match *x {
-        Value::Null => match *y {
-            Value::Null => true,
-            _ => false,
-        },
+        Value::Null => matches!(*y, Value::Null),
         Value::Bool(a) => match *y {
             Value::Bool(b) => if a { b } else { !b },
             _ => false,
         },
-        Value::Int(a) => match *y {
-            Value::Int(b) => a == b,
-            _ => false,
-        },
-        Value::Char(a) => match *y {
-            Value::Char(b) => a == b,
-            _ => false,
-        },
-        Value::Prim(a) => match *y {
-            Value::Prim(b) => a.0 == b.0,
-            _ => false,
-        },
-        Value::Obj(a) => match *y {
-            Value::Obj(b) => a.0 == b.0,
-            _ => false,
-        },
-        Value::Prom(a) => match *y {
-            Value::Prom(b) => a.0 == b.0,
-            _ => false,
-        },
-        Value::Far(v, p) => match *y {
-            Value::Far(u, q) => v.0 == u.0 && p == q,
-            _ => false,
-        },
-        Value::Text(a) => match *y {
-            Value::Text(b) => same_texts(heap, a, b),
-            _ => false,
-        },
-        Value::Broken(a) => match *y {
-            Value::Broken(b) => same_texts(heap, a, b),
-            _ => false,
-        },
+        Value::Int(a) => matches!(*y, Value::Int(b) if a == b),
+        Value::Char(a) => matches!(*y, Value::Char(b) if a == b),
+        Value::Prim(a) => matches!(*y, Value::Prim(b) if a.0 == b.0),
+        Value::Obj(a) => matches!(*y, Value::Obj(b) if a.0 == b.0),
+        Value::Prom(a) => matches!(*y, Value::Prom(b) if a.0 == b.0),
+        Value::Far(v, p) => matches!(*y, Value::Far(u, q) if v.0 == u.0 && p == q),
+        Value::Text(a) => matches!(*y, Value::Text(b) if same_texts(heap, a, b)),
+        Value::Broken(a) => matches!(*y, Value::Broken(b) if same_texts(heap, a, b)),
         _ => false,
     }
 }

@@ -25,6 +25,17 @@ abbrev pub catch_inside : ℕ → Option (ℕ × ℕ) → List Task
 catch_inside height None = []
 catch_inside height (Some caught) = visits_inside height caught.0 caught.1
 
+-- a node with a scope of its own
+abbrev pub opens_scope : Node → Bool
+opens_scope (If test then_part else_part) = true
+opens_scope (Escape pattern body caught) = true
+opens_scope (Try body pattern handler) = true
+opens_scope (Finally body after) = true
+opens_scope (Hide body) = true
+opens_scope (Method verb patterns body) = true
+opens_scope (Matcher pattern body) = true
+opens_scope _ = false
+
 -- the tasks of the node of this number, which begins without an earlier fault or with one
 abbrev pub tasks_of : ℕ → ℕ → Bool → Node → List Task
 tasks_of id height clean (Lit literal) = []

@@ -20,7 +20,7 @@ use std::alloc::Global;
 const MOST_ROUNDS: u32 = 100_000;
 
 /// What an entry does with two vats.
-#[derive(Clone, Copy, Debug, PartialEq, Eq)]
+#[derive(Clone, Copy, PartialEq, Eq)]
 pub(crate) enum Verb {
     Carry,
     Cut,
@@ -28,7 +28,7 @@ pub(crate) enum Verb {
 }
 
 /// An entry as it is spelled: a word that names no vat has none.
-#[derive(Clone, Copy, Debug, PartialEq, Eq)]
+#[derive(Clone, Copy, PartialEq, Eq)]
 pub(crate) enum Spelled {
     Turn(Option<VatId>),
     Pair(Verb, Option<VatId>, Option<VatId>),
@@ -36,7 +36,7 @@ pub(crate) enum Spelled {
 }
 
 /// An entry whose vats are found, or so many rounds.
-#[derive(Clone, Copy, Debug, PartialEq, Eq)]
+#[derive(Clone, Copy, PartialEq, Eq)]
 pub(crate) enum Step {
     Turn(VatId),
     Carry(VatId, VatId),

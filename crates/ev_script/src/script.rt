@@ -18,7 +18,7 @@ pub struct VatScript {
 }
 
 /// One step of a schedule.
-#[derive(Clone, Copy, Debug, PartialEq, Eq)]
+#[derive(Clone, Copy, PartialEq, Eq)]
 pub enum Entry {
     /// The vat takes its next turn.
     Turn(VatId),

@@ -11,14 +11,14 @@ use std::marker::Model;
 const MOST: u64 = 1_000_000_000_000_000_000;
 
 /// A purse: its mint, and the money in it.
-#[derive(Clone, Copy, Debug, PartialEq, Eq)]
+#[derive(Clone, Copy, PartialEq, Eq)]
 pub struct Purse {
     pub mint: u64,
     pub balance: u64,
 }
 
 /// Why nothing was done.
-#[derive(Clone, Copy, Debug, PartialEq, Eq)]
+#[derive(Clone, Copy, PartialEq, Eq)]
 pub enum MintFault {
     /// The mint, which issued so much, would issue too much.
     TooMuch(u64),

@@ -10,7 +10,7 @@ use ev_base::{PromId, Value};
 use ev_pass::{Interior, Stop};
 
 /// How a call on a resolver ends.
-#[derive(Clone, Copy, Debug, PartialEq, Eq)]
+#[derive(Clone, Copy, PartialEq, Eq)]
 pub enum Resolution {
     /// It answers null.
     Resolved,

@@ -1,16 +1,17 @@
 //! The lines of what evaluation does.
 
-ghost use Rattle.std.specs.Prelude.{◌≡◌, ◌++◌, IfOk, OnOk, map};
-ghost use Rattle.def_event.specs.declared.event.Event.TheVariants.{Call, Made};
+ghost use Rattle.std.specs.Prelude.{◌≡◌, ◌++◌, ◌∷◌, [], IfOk, OnOk, map};
+ghost use Rattle.def_event.specs.declared.event.Event.TheVariants.{Call, Got, Made};
 ghost use Rattle.def_event.specs.declared.shown.Shown as shown_as;
 ghost use Rattle.ev_base.specs.declared.names.Name.TheVariants as name_as;
 ghost use Rattle.ev_step_lines.specs.Lines.{all_held, audition_lines, ejector_lines, lines, made_lines, shown_capture, shown_held};
 
 use crate::referred::push_referred;
-use crate::shown::{caught_all, problem, shown, shown_all};
+use crate::shown::{caught_all, shown, shown_all};
+use crate::single::{push_back, push_list, push_read, push_slot, push_thrown, push_wrote};
 use crate::teller::Teller;
 use def_event::{Boxed, Called, Event, MadeObject, Shown};
-use ev_base::{ActId, Memory, Name, ObjId, Str, Value};
+use ev_base::{ActId, Memory, Name, ObjId, Seq, Str, Value};
 use ev_event::History;
 use ev_heap::{Capture, Happened};
 
@@ -45,6 +46,56 @@ pub(crate) fn call_line(
     Ok(Event::Call(Boxed::new(teller.alloc, called)?))
 }
 
+/// Adds the line of a call.
+fn push_call(
+    teller: &Teller<'_>,
+    activation: ActId,
+    target: Value,
+    verb: &str,
+    args: &[Value],
+    begun: Option<ActId>,
+    history: &mut History,
+) -> Result<(), Memory>
+    ensures { OnOk result (history.new ≡ history.old ++ Call (record { activation = activation; target = shown_held teller.now target; verb = verb.now; args = all_held teller.now args.now; begun = begun }) ∷ []) }
+{
+    let line = call_line(teller, activation, target, verb, args, begun)?;
+    history.push(line)
+}
+
+/// Adds the line of a value that an ejector gave.
+fn push_got(
+    teller: &Teller<'_>,
+    activation: ActId,
+    value: Value,
+    history: &mut History,
+) -> Result<(), Memory>
+    ensures { OnOk result (history.new ≡ history.old ++ Got activation (shown_held teller.now value) ∷ []) }
+{
+    let value = shown(teller, value)?;
+    history.push(Event::Got(activation.0, value))
+}
+
+/// The line of an object that was made, from what it holds.
+fn made_line(
+    teller: &Teller<'_>,
+    activation: ActId,
+    object: ObjId,
+    name: Str,
+    caps: Seq<Shown>,
+    stamps: Seq<Shown>,
+) -> Result<Event, Memory>
+    ensures { IfOk result (λ line. line ≡ Made (record { activation = activation; object = shown_as.Name (name_as.Object teller.now.naming.vat object); name = name; caps = caps; stamps = stamps })) }
+{
+    let made = MadeObject {
+        activation: activation.0,
+        object: Shown::Name(Name::Object(teller.vat(), object.0)),
+        name,
+        caps,
+        stamps,
+    };
+    Ok(Event::Made(Boxed::new(teller.alloc, made)?))
+}
+
 /// The line of an object that was made.
 fn object_line(
     teller: &Teller<'_>,
@@ -56,14 +107,10 @@ fn object_line(
 ) -> Result<Event, Memory>
     ensures { IfOk result (λ line. line ≡ Made (record { activation = activation; object = shown_as.Name (name_as.Object teller.now.naming.vat object); name = name.now; caps = map (shown_capture teller.now) caps.now; stamps = all_held teller.now stamps.now })) }
 {
-    let made = MadeObject {
-        activation: activation.0,
-        object: Shown::Name(Name::Object(teller.vat(), object.0)),
-        name: Str::copy_of(teller.alloc, name)?,
-        caps: caught_all(teller, caps)?,
-        stamps: shown_all(teller, stamps)?,
-    };
-    Ok(Event::Made(Boxed::new(teller.alloc, made)?))
+    let name = Str::copy_of(teller.alloc, name)?;
+    let caps = caught_all(teller, caps)?;
+    let stamps = shown_all(teller, stamps)?;
+    made_line(teller, activation, object, name, caps, stamps)
 }
 
 /// Adds the line of an object, which is no other value.
@@ -135,39 +182,25 @@ pub(crate) fn push_line(
             verb,
             args,
             begun,
-        } => history.push(call_line(
+        } => push_call(
             teller,
             *activation,
             *target,
             verb.as_str(),
             args.as_slice(),
             *begun,
-        )?),
-        Happened::Back(act, value) => history.push(Event::Back(act.0, shown(teller, *value)?)),
-        Happened::Thrown(act, value) => {
-            let problem = Shown::Text(problem(teller, *value)?);
-            history.push(Event::Thrown(act.0, problem))
-        }
+            history,
+        ),
+        Happened::Back(act, value) => push_back(teller, *act, *value, history),
+        Happened::Thrown(act, value) => push_thrown(teller, *act, *value, history),
         Happened::Gone(act) => history.push(Event::Gone(act.0)),
-        Happened::Got(act, value) => history.push(Event::Got(act.0, shown(teller, *value)?)),
+        Happened::Got(act, value) => push_got(teller, *act, *value, history),
         Happened::Ejector(act, ejector) => push_ejector(teller, *act, *ejector, history),
         Happened::Audition(act, audition) => push_audition(teller, *act, *audition, history),
-        Happened::Slot(act, id, value) => {
-            let slot = (teller.vat(), id.0);
-            history.push(Event::Slot(act.0, slot, shown(teller, *value)?))
-        }
-        Happened::Read(act, id, value) => {
-            let slot = (teller.vat(), id.0);
-            history.push(Event::Read(act.0, slot, shown(teller, *value)?))
-        }
-        Happened::Wrote(act, id, value) => {
-            let slot = (teller.vat(), id.0);
-            history.push(Event::Wrote(act.0, slot, shown(teller, *value)?))
-        }
-        Happened::List(act, id, values) => {
-            let list = (teller.vat(), id.0);
-            history.push(Event::List(act.0, list, shown_all(teller, values.as_slice())?))
-        }
+        Happened::Slot(act, id, value) => push_slot(teller, *act, *id, *value, history),
+        Happened::Read(act, id, value) => push_read(teller, *act, *id, *value, history),
+        Happened::Wrote(act, id, value) => push_wrote(teller, *act, *id, *value, history),
+        Happened::List(act, id, values) => push_list(teller, *act, *id, values.as_slice(), history),
         Happened::Made {
             activation,
             object,

@@ -5,6 +5,7 @@ pub mod evaluated;
 pub mod lines;
 pub mod referred;
 pub mod shown;
+mod single;
 pub mod table;
 pub mod teller;
 

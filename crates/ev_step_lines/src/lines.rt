@@ -1,14 +1,14 @@
 //! The lines of what happened, from the small lines in which it is told.
 
-ghost use Rattle.std.specs.Prelude.{◌≡◌, ◌++◌, IfOk, OnOk, drop, take};
+ghost use Rattle.std.specs.Prelude.{◌≡◌, ◌++◌, ◌∷◌, [], IfOk, OnOk, drop, take};
 ghost use Rattle.def_event.specs.declared.event.Event.TheVariants.{Call};
 ghost use Rattle.ev_told.specs.Told.{first, others, read, told};
 ghost use Rattle.ev_step_lines.specs.Lines.{all_held, lines, lines_of, shown_held};
 
 use crate::evaluated::{call_line, push_ejector, push_line};
-use crate::shown::{problem, shown, shown_all};
+use crate::single::{push_back, push_list, push_read, push_slot, push_thrown, push_wrote};
 use crate::teller::Teller;
-use def_event::{Event, Shown};
+use def_event::Event;
 use ev_base::{ActId, Memory, Value};
 use ev_event::History;
 use ev_told::Lines;
@@ -60,6 +60,21 @@ fn small_call(
     call_line(teller, activation, target, verb, others(values), begun)
 }
 
+/// Adds the line of a call whose values are its target and its arguments.
+fn push_small_call(
+    teller: &Teller<'_>,
+    activation: ActId,
+    verb: &str,
+    values: &[Value],
+    begun: Option<ActId>,
+    history: &mut History,
+) -> Result<(), Memory>
+    ensures { OnOk result (history.new ≡ history.old ++ Call (record { activation = activation; target = shown_held teller.now (first values.now); verb = verb.now; args = all_held teller.now (others values.now); begun = begun }) ∷ []) }
+{
+    let line = small_call(teller, activation, verb, values, begun)?;
+    history.push(line)
+}
+
 /// Adds the line of what a small line tells with its values.
 fn push_told(
     teller: &Teller<'_>,
@@ -70,34 +85,29 @@ fn push_told(
     ensures { OnOk result (history.new ≡ history.old ++ lines teller.now (told line.now values.now)) }
 {
     match line {
-        Line::Call(_, act, verb) => {
-            history.push(small_call(teller, *act, verb.as_str(), values, None)?)
-        }
-        Line::Begins(_, act, verb, begun) => {
-            history.push(small_call(teller, *act, verb.as_str(), values, Some(*begun))?)
-        }
-        Line::Back(act) => history.push(Event::Back(act.0, shown(teller, first(values))?)),
-        Line::Thrown(act) => {
-            let problem = Shown::Text(problem(teller, first(values))?);
-            history.push(Event::Thrown(act.0, problem))
-        }
+        Line::Call(_, act, verb) => push_small_call(
+            teller,
+            *act,
+            verb.as_str(),
+            values,
+            None,
+            history,
+        ),
+        Line::Begins(_, act, verb, begun) => push_small_call(
+            teller,
+            *act,
+            verb.as_str(),
+            values,
+            Some(*begun),
+            history,
+        ),
+        Line::Back(act) => push_back(teller, *act, first(values), history),
+        Line::Thrown(act) => push_thrown(teller, *act, first(values), history),
         Line::Gone(act) => history.push(Event::Gone(act.0)),
-        Line::Slot(act, id) => {
-            let slot = (teller.vat(), id.0);
-            history.push(Event::Slot(act.0, slot, shown(teller, first(values))?))
-        }
-        Line::Read(act, id) => {
-            let slot = (teller.vat(), id.0);
-            history.push(Event::Read(act.0, slot, shown(teller, first(values))?))
-        }
-        Line::Wrote(act, id) => {
-            let slot = (teller.vat(), id.0);
-            history.push(Event::Wrote(act.0, slot, shown(teller, first(values))?))
-        }
-        Line::List(_, act, id) => {
-            let list = (teller.vat(), id.0);
-            history.push(Event::List(act.0, list, shown_all(teller, values)?))
-        }
+        Line::Slot(act, id) => push_slot(teller, *act, *id, first(values), history),
+        Line::Read(act, id) => push_read(teller, *act, *id, first(values), history),
+        Line::Wrote(act, id) => push_wrote(teller, *act, *id, first(values), history),
+        Line::List(_, act, id) => push_list(teller, *act, *id, values, history),
         Line::Ejector(act) => push_ejector(teller, *act, first(values), history),
         Line::Other(event) => push_line(teller, event, history),
     }

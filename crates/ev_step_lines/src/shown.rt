@@ -1,6 +1,7 @@
 //! What a vat holds, by its global names.
 
 ghost use Rattle.std.specs.Prelude.{◌≡◌, IfOk, map};
+ghost use Rattle.def_event.specs.declared.shown.Shown as shown_as;
 ghost use Rattle.ev_step_lines.specs.Lines.{all_held, problem_at, shown_capture, shown_held, text_at};
 
 use crate::teller::Teller;
@@ -18,6 +19,22 @@ pub fn copied(teller: &Teller<'_>, id: TextId) -> Result<Str, Memory>
     }
 }
 
+/// A text of the heap, as a value.
+fn shown_text(teller: &Teller<'_>, id: TextId) -> Result<Shown, Memory>
+    ensures { IfOk result (λ s. s ≡ shown_as.Text (text_at teller.now id)) }
+{
+    let text = copied(teller, id)?;
+    Ok(Shown::Text(text))
+}
+
+/// A broken reference with its problem, which is a text of the heap.
+fn shown_broken(teller: &Teller<'_>, id: TextId) -> Result<Shown, Memory>
+    ensures { IfOk result (λ s. s ≡ shown_as.Broken (text_at teller.now id)) }
+{
+    let problem = copied(teller, id)?;
+    Ok(Shown::Broken(problem))
+}
+
 /// A value by its global name.
 pub fn shown(teller: &Teller<'_>, value: Value) -> Result<Shown, Memory>
     ensures { IfOk result (λ s. s ≡ shown_held teller.now value) }
@@ -27,8 +44,8 @@ pub fn shown(teller: &Teller<'_>, value: Value) -> Result<Shown, Memory>
         Value::Bool(flag) => Ok(Shown::Bool(flag)),
         Value::Int(number) => Ok(Shown::Int(number)),
         Value::Char(letter) => Ok(Shown::Char(letter)),
-        Value::Text(id) => Ok(Shown::Text(copied(teller, id)?)),
-        Value::Broken(id) => Ok(Shown::Broken(copied(teller, id)?)),
+        Value::Text(id) => shown_text(teller, id),
+        Value::Broken(id) => shown_broken(teller, id),
         Value::List(id) => Ok(Shown::List(teller.vat(), id.0)),
         Value::Prim(number) => Ok(Shown::Prim(number)),
         Value::Obj(id) => Ok(Shown::Name(Name::Object(teller.vat(), id.0))),

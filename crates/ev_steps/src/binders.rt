@@ -28,7 +28,7 @@ impl Model for Bindable {
 }
 
 /// A node to be looked at, at most so many levels deep.
-#[derive(Clone, Copy, Debug)]
+#[derive(Clone, Copy)]
 pub struct Task {
     pub node: NodeId,
     pub height: usize,

@@ -10,14 +10,14 @@ use std::alloc::Global;
 use std::marker::Model;
 
 /// The two sides of a connection.
-#[derive(Clone, Copy, Debug, PartialEq, Eq)]
+#[derive(Clone, Copy, PartialEq, Eq)]
 pub enum Side {
     Host,
     Guest,
 }
 
 /// What the use of a reference comes to.
-#[derive(Clone, Copy, Debug, PartialEq, Eq)]
+#[derive(Clone, Copy, PartialEq, Eq)]
 pub enum Used {
     /// It reaches this object.
     Object(u32),
@@ -30,7 +30,7 @@ pub enum Used {
 }
 
 /// Why nothing was done.
-#[derive(Clone, Copy, Debug, PartialEq, Eq)]
+#[derive(Clone, Copy, PartialEq, Eq)]
 pub enum SturdyFault {
     /// This object was registered under the same digest.
     Taken(u32),

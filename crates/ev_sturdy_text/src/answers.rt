@@ -13,7 +13,7 @@ use std::alloc::Global;
 use std::fmt::Write;
 
 /// What is said of a line.
-#[derive(Clone, Copy, Debug, PartialEq, Eq)]
+#[derive(Clone, Copy, PartialEq, Eq)]
 pub enum Answer {
     /// The number under which an object was registered.
     Swiss(u128),
@@ -46,7 +46,7 @@ pub enum Answer {
 }
 
 /// What comes of a line.
-#[derive(Clone, Copy, Debug, PartialEq, Eq)]
+#[derive(Clone, Copy, PartialEq, Eq)]
 pub enum Reply {
     Says(Answer),
     /// The second of these draws gave what the first gave.

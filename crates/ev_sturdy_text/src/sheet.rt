@@ -19,7 +19,7 @@ const MOST_OBJECT: u64 = 65535;
 const MOST_NUMBER: u64 = 4294967295;
 
 /// What a line asks for.
-#[derive(Clone, Copy, Debug, PartialEq, Eq)]
+#[derive(Clone, Copy, PartialEq, Eq)]
 pub enum Line {
     /// An object of this number is registered.
     Register(u32),

@@ -7,7 +7,7 @@ ghost use Rattle.ev_tables.specs.Table.{description};
 use def_op::Desc;
 
 /// A number under which a vat names something to its peer. Positions and questions count from 0.
-#[derive(Clone, Copy, Debug, PartialEq, Eq)]
+#[derive(Clone, Copy, PartialEq, Eq)]
 pub enum Number {
     /// An object that this vat exported at this position.
     MyExport(u64),

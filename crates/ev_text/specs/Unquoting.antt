@@ -17,7 +17,16 @@ named letter =
     else if letter == 39 then Some 39
     else None
 
--- the number of four hexadecimal digits, of small or capital letters
+-- the numbers of two, three and four hexadecimal digits, of small or capital letters
+abbrev pub two_digits : ℕ → ℕ → Option ℕ
+two_digits a b = if nat_lt (digit_value a) 16 && nat_lt (digit_value b) 16 then Some (digit_value a * 16 + digit_value b) else None
+
+abbrev pub three_digits : ℕ → ℕ → ℕ → Option ℕ
+three_digits a b c =
+    if nat_lt (digit_value a) 16 && nat_lt (digit_value b) 16 && nat_lt (digit_value c) 16
+    then Some ((digit_value a * 16 + digit_value b) * 16 + digit_value c)
+    else None
+
 abbrev pub hexadecimal : ℕ → ℕ → ℕ → ℕ → Option ℕ
 hexadecimal a b c d =
     if nat_lt (digit_value a) 16 && nat_lt (digit_value b) 16 && nat_lt (digit_value c) 16 && nat_lt (digit_value d) 16

@@ -4,7 +4,7 @@ ghost use Rattle.std.specs.Prelude.{◌≡◌, ℕ, ◌+◌, ◌-◌, ◌<◌, �
 ghost use Rattle.std.specs.Char.{digit_value};
 ghost use Rattle.std.specs.List.{prefix_len};
 ghost use Rattle.def_text.specs.Quoting.{quoted};
-ghost use Rattle.ev_text.specs.Unquoting.{named, hexadecimal, by_digits, escape, is_plain, with_front, text_behind, unquoted, Answers};
+ghost use Rattle.ev_text.specs.Unquoting.{named, two_digits, three_digits, hexadecimal, by_digits, escape, is_plain, with_front, text_behind, unquoted, Answers};
 
 use std::alloc::{AllocError, Global};
 use std::error::Error;
@@ -68,15 +68,33 @@ fn named(letter: u8) -> Option<char>
     }
 }
 
+/// The number of two hexadecimal digits.
+fn two_digits(a: u8, b: u8) -> Option<u32>
+    ensures value { result ≡ two_digits a b }
+    ensures small { IfSome result (λ number. number < 256) }
+{
+    let a = digit(a)?;
+    let b = digit(b)?;
+    Some(a * 16 + b)
+}
+
+/// The number of three hexadecimal digits.
+fn three_digits(a: u8, b: u8, c: u8) -> Option<u32>
+    ensures value { result ≡ three_digits a b c }
+    ensures small { IfSome result (λ number. number < 4096) }
+{
+    let number = two_digits(a, b)?;
+    let c = digit(c)?;
+    Some(number * 16 + c)
+}
+
 /// The number of four hexadecimal digits.
 fn hexadecimal(a: u8, b: u8, c: u8, d: u8) -> Option<u32>
     ensures { result ≡ hexadecimal a b c d }
 {
-    let a = digit(a)?;
-    let b = digit(b)?;
-    let c = digit(c)?;
+    let number = three_digits(a, b, c)?;
     let d = digit(d)?;
-    Some(((a * 16 + b) * 16 + c) * 16 + d)
+    Some(number * 16 + d)
 }
 
 /// The character of four digits, and how many bytes behind the backslash stand for it.

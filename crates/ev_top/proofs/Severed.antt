@@ -8,8 +8,11 @@ use Rattle.law_reference.proofs.AskHolds.{notices_front}
 use Rattle.law_reference.proofs.RestLaws.{breaks_stay}
 use Rattle.law_run.specs.Runs.{EachVat}
 use Rattle.law_run.proofs.BreakRuns.{severings_run}
+use Rattle.law_severed.proofs.Kept.{gifts_run}
+use Rattle.law_gift.proofs.Runs.{rests_in_runs}
+use Rattle.law_gift.proofs.Broken.{breaks_for_good}
 use Rattle.law_script.specs.Accepted.{MeetsTheLaws}
-use Rattle.ev_top.specs.Headline.{GoesOn, SeveredStaysBroken, StaysSevered}
+use Rattle.ev_top.specs.Headline.{GoesOn, NoticesBreakUnopened, SeveredStaysBroken, StaysSevered}
 use Rattle.ev_top.specs.declared.command.Command.{Command}
 use Rattle.ev_top.proofs.Lawful.{lawful}
 
@@ -26,8 +29,13 @@ severed_in script meets first later (es, fs, rest, split, (opened, opens, leads)
     let broken = breaks_stay script meets.0 opened first later es fs 1 (1 + length es) behind opens leads more v s at in
     let objects = severed_broken script meets.0 opened first later es fs 1 (1 + length es) opens leads more v s at in
     let apart = severings_run script fs (1 + length es) first later more v s at in
-    (broken.0, broken.1, record { broken = broken.2; objects = same_later _ _ broken.0 broken.1 objects; apart = same_later _ _ broken.0 broken.1 apart })
+    let gifts = gifts_run script fs (1 + length es) first later more v s at in
+    let unopened = (rests_in_runs script meets.0).1 opened first es 1 opens leads v s at in
+    (broken.0, broken.1, record { broken = broken.2; objects = same_later _ _ broken.0 broken.1 objects; apart = same_later _ _ broken.0 broken.1 apart; gifts = same_later _ _ broken.0 broken.1 gifts; unopened = unopened })
+
+noticed_in : (script : machine.Script) → MeetsTheLaws script → NoticesBreakUnopened script
+noticed_in script meets first later es fs rest v w split (opened, opens, leads) more s at near = breaks_for_good script meets.0 opened first later es fs 1 (1 + length es) v w opens leads more s at near
 
 pub severed_stays : (left : Option (List ℕ)) (command : Option Command) → IfSome left (λ input. SeveredStaysBroken command input)
 severed_stays None command = tt
-severed_stays (Some input) command = λ script runs first later goes. severed_in script (lawful command input script runs) first later goes
+severed_stays (Some input) command = λ script runs. let meets = lawful command input script runs in (λ first later goes. severed_in script meets first later goes, noticed_in script meets)

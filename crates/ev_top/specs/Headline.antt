@@ -1,14 +1,17 @@
 -- What holds of the machine's run that a call owes for a script.
-use Rattle.std.specs.Prelude.{◌≡◌, ◌⊎◌, ◌≤◌, ◌+◌, ◌*◌, ℕ, zero, true, List, ◌++◌, length, codes, Some}
+use Rattle.std.specs.Prelude.{◌≡◌, ◌⊎◌, ◌≤◌, ◌+◌, ◌*◌, ℕ, zero, true, false, List, ◌∷◌, ◌++◌, length, codes, Some, slice_get}
 use Rattle.std.specs.declared.option.Option.{Option}
 use Rattle.def_kernel.specs.declared.node.Node.{Node}
 use Rattle.def_machine.specs.Values.{Words, Value, Broken, Ref, Name, Foreign, spot_of}
-use Rattle.def_machine.specs.State.{Vat, is_in}
+use Rattle.def_machine.specs.State.{Stop, Vat, is_in}
 use Rattle.def_machine.specs.Refs.{follow}
 use Rattle.def_run.specs.World as machine
-use Rattle.def_run.specs.World.{Program, Entry, World, Goes, Stopped, begins, names, open_from, run, steps_from}
+use Rattle.def_run.specs.World.{Program, Entry, NoticeLink, World, Goes, Stopped, begins, names, open_from, run, steps_from}
 use Rattle.law_machine.specs.Breaks.{settled_value, SeveredStays}
 use Rattle.law_run.specs.Runs.{EachVat}
+use Rattle.law_halt.specs.Halted.{LeavesOf}
+use Rattle.law_severed.specs.Gifts.{SameGifts}
+use Rattle.law_gift.specs.Unopened.{UnopenedRest, UnopenedBreak}
 use Rattle.law_fate.specs.Fate.{fates, sent}
 use Rattle.law_fate.specs.Carry.{carries}
 use Rattle.law_frozen.specs.Runs.{ReachIsFrozenIn}
@@ -43,6 +46,10 @@ abbrev pub ComesTo : machine.Script → World → Type 0
 ComesTo script world = ((ps rest : List Program) × (script.vats ≡ ps ++ rest) × (open_from script zero ps (begins script) ≡ Goes world))
     ⊎ ((es rest : List Entry) × (script.schedule ≡ es ++ rest) × LeadTo script es world)
     ⊎ (run script ≡ Goes world)
+
+-- Where the run stops, what it leaves is a world that it came to, but for the note that the step took off its link. So the history that is written tells nothing of the step that stopped.
+abbrev pub StopsAsItCame : Option Command → List ℕ → Type 0
+StopsAsItCame command input = (script : machine.Script) → IsToRun command input script → (stop : Stop) (step : ℕ) (left : World) → run script ≡ Stopped stop step left → (world : World) × ComesTo script world × LeavesOf world left
 
 -- After some entries it comes to the first world, and after some more, or none, to the later one.
 abbrev pub GoesOn : machine.Script → World → World → Type 0
@@ -83,11 +90,20 @@ pub record StaysSevered (script : machine.Script) (v : ℕ) (s t : Vat Name) : T
       → follow (names script v) t x ≡ Broken (codes "partition")
   -- and nothing that it follows has the host of a cut that it had noticed
   pub apart : SeveredStays (names script v) s t
+  -- its gifts keep their places, and once opened they stay opened
+  pub gifts : SameGifts s t
+  -- and each gift that was not opened did not settle, or it is broken
+  pub unopened : UnopenedRest script v s
 
--- From each world to which entries lead on, what is broken or severed at a vat stays so.
+-- Where the first notice of vat w at vat v stands between two worlds, each gift of provider w that was not opened by then is broken in the later one.
+abbrev pub NoticesBreakUnopened : machine.Script → Type 0
+NoticesBreakUnopened script = (first later : World) (es fs rest : List Entry) (v w : ℕ) → script.schedule ≡ es ++ (NoticeLink v w ∷ fs) ++ rest → LeadTo script es first → steps_from script (NoticeLink v w ∷ fs) (1 + length es) first ≡ Goes later
+    → (s : Vat Name) → slice_get first.vats v ≡ Some s → is_in w s.noticed ≡ false → (t : Vat Name) × (slice_get later.vats v ≡ Some t) × UnopenedBreak script v w s t
+
+-- From each world to which entries lead on, what is broken or severed at a vat stays so; and what a notice breaks of gifts that were not opened is broken for good.
 abbrev pub SeveredStaysBroken : Option Command → List ℕ → Type 0
-SeveredStaysBroken command input = (script : machine.Script) → IsToRun command input script → (first later : World) → GoesOn script first later
-    → EachVat (λ v s t. StaysSevered script v s t) first later
+SeveredStaysBroken command input = (script : machine.Script) → IsToRun command input script → ((first later : World) → GoesOn script first later
+    → EachVat (λ v s t. StaysSevered script v s t) first later) × NoticesBreakUnopened script
 
 -- ---- summaries
 

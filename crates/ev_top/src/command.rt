@@ -10,7 +10,7 @@ use ev_command_lines::number;
 const MOST_GENERATED: u64 = 3000;
 
 /// What a call is asked to do.
-#[derive(Clone, Copy, Debug, PartialEq, Eq)]
+#[derive(Clone, Copy, PartialEq, Eq)]
 pub enum Command {
     /// Runs a script. What is told has the frames where `wire` asks for them.
     Run { wire: bool },

@@ -9,7 +9,7 @@ ghost use Rattle.def_machine.specs.State.{Fuel, Deep};
 ghost use Rattle.ev_reader.specs.declared.fault.Stage.{Stage as Part};
 ghost use Rattle.ev_top.specs.Causes.{Breaks, ComesWhere, Follows, GoesAstray, HasFault, HasNoTree, IsLong, IsProgramRefused, RepeatsWord, Stops};
 ghost use Rattle.ev_top.specs.Due.{IsDue, IsOfWhole, IsReading, Pays, IsOfRead, Finishes, MayRun, Reads, ReadsFor, Settles, astray, debt_of};
-ghost use Rattle.ev_top.specs.Headline.{MessagesHaveOneFate, SeveredStaysBroken, StampedReachFrozenAlone, SumsUp, UsesAreConnected};
+ghost use Rattle.ev_top.specs.Headline.{MessagesHaveOneFate, SeveredStaysBroken, StampedReachFrozenAlone, StopsAsItCame, SumsUp, UsesAreConnected};
 ghost use Rattle.ev_top.specs.Programs.{refusal};
 
 use crate::command::{Command, command_of, reads};
@@ -27,7 +27,7 @@ use std::alloc::Global;
 const MOST_BYTES: u32 = 1048576;
 
 /// Why nothing was asked for.
-#[derive(Clone, Copy, Debug, PartialEq, Eq)]
+#[derive(Clone, Copy, PartialEq, Eq)]
 enum Early {
     ReadFault,
     Memory,
@@ -213,6 +213,8 @@ pub fn top<S: Source, K: Sink>(alloc: Global, words: &Seq<Str>, src: &mut S, out
     ensures connected { IfSome (S.left src.old) (λ input. UsesAreConnected (command_of words.now) input) }
     // In that run a reference that is broken or severed by a partition stays so.
     ensures severed { IfSome (S.left src.old) (λ input. SeveredStaysBroken (command_of words.now) input) }
+    // Where that run stops, what is left of it is what it came to before the step that stopped.
+    ensures halted { IfSome (S.left src.old) (λ input. StopsAsItCame (command_of words.now) input) }
     // Without a fault in the call, the answer is what is due, or want of memory.
     ensures complete { IfSome (S.left src.old) (λ input. ¬ Rose (S.faults src.old) (S.faults src.new)
         → ¬ Rose (K.faults out.old) (K.faults out.new)

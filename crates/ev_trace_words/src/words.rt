@@ -7,7 +7,7 @@ use ev_base::{Memory, Seq, Str};
 use std::alloc::Global;
 
 /// Where the next byte of a line stands.
-#[derive(Clone, Copy, Debug, PartialEq, Eq)]
+#[derive(Clone, Copy, PartialEq, Eq)]
 pub enum Quote {
     Outside,
     /// Between `"`.

@@ -7,11 +7,11 @@ use Rattle.def_event.specs.declared.shown.Shown.{Shown}
 use Rattle.def_event.specs.declared.event.Event.{Event}
 use Rattle.def_trace.specs.Uses.{AName, IsAmong, KnowsName, Line, UsesKnown, made_by, names, names_of, names_used, user}
 use Rattle.ev_known.specs.declared.facts.Activation.{Activation}
-use Rattle.ev_known.specs.declared.label.Label.{Label}
+use Rattle.ev_links.specs.declared.label.Label.{Label}
 use Rattle.ev_known.specs.Knowing.{Known, KnownStand}
-use Rattle.ev_known.specs.Label.{label}
+use Rattle.ev_links.specs.Label.{label}
 use Rattle.ev_uses_calls.specs.Using.{DecidesAll, label_of}
-use Rattle.ev_known.proofs.Among.{among_left, among_right, among_cases}
+use Rattle.ev_links.proofs.Among.{among_left, among_right, among_cases}
 use Rattle.ev_known.proofs.Keys.{name_same}
 
 pub decides_none : (k : Known) (a : Activation) (made : Option Label) → DecidesAll k k a made [] true

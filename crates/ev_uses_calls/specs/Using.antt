@@ -3,9 +3,9 @@ use Rattle.std.specs.Prelude.{◌≡◌, ◌⊎◌, ◌↔◌, ℕ, Bool, true, 
 use Rattle.ev_base.specs.declared.names.Name.{Name}
 use Rattle.def_trace.specs.Uses.{AName, BackKnown, IsAmong, KnowsName, Line, UsesKnown}
 use Rattle.ev_known.specs.declared.facts.Activation.{Activation}
-use Rattle.ev_known.specs.declared.label.Label.{Label}
+use Rattle.ev_links.specs.declared.label.Label.{Label}
 use Rattle.ev_known.specs.Knowing.{Known, KnownStand}
-use Rattle.ev_known.specs.Label.{label}
+use Rattle.ev_links.specs.Label.{label}
 
 abbrev pub label_of : Option Name → Option Label
 label_of None = None

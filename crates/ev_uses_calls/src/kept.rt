@@ -2,6 +2,7 @@
 
 ghost use Rattle.std.specs.Prelude.{◌≡◌, ◌↔◌, ◌∷◌, [], List, IfOk, IsTrue, OnOk};
 ghost use Rattle.def_trace.specs.Uses.{Line};
+ghost use Rattle.ev_links.specs.Chains.{PlanStands};
 ghost use Rattle.ev_uses_calls.specs.Kept.{KeptStand};
 ghost use Rattle.ev_uses_calls.specs.Using.{IsOfKnown};
 
@@ -11,6 +12,7 @@ use crate::using::uses_known;
 use def_event::Event;
 use ev_base::Memory;
 use ev_known::Knowledge;
+use ev_links::Plan;
 use std::alloc::Global;
 use std::marker::Model;
 
@@ -30,13 +32,13 @@ impl Model for Kept {
 }
 
 impl Kept {
-    /// Before the first line. It takes no memory.
+    /// Before the first line, with a plan of the chains of the whole history. It takes no memory.
     #[tactic(auto, using(crate::proofs::Giving::both_stand))]
-    pub fn new(alloc: Global) -> Kept
-        ensures { KeptStand result [] }
+    pub fn new(alloc: Global, plan: Plan) -> Kept
+        ensures { PlanStands plan → KeptStand result [] }
     {
         Kept {
-            knowledge: Knowledge::new(alloc),
+            knowledge: Knowledge::new(alloc, plan),
             calls: Calls::new(alloc),
         }
     }

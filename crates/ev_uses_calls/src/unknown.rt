@@ -8,7 +8,7 @@ ghost use Rattle.ev_uses_calls.specs.Using.{IsOfKnown};
 use crate::kept::Kept;
 use def_event::Event;
 use ev_base::Memory;
-use ev_known::place_after;
+use ev_links::{place_after, plan_of};
 use std::alloc::Global;
 
 /// The first line that fails, where nothing was kept of lines before these.
@@ -32,7 +32,8 @@ fn first_failing(alloc: Global, kept: &mut Kept, events: &[Event]) -> Result<Opt
 pub fn first_unknown(alloc: Global, events: &[Event]) -> Result<Option<u64>, Memory>
     ensures { IfOk result (λ answer. IsFirstFailing IsOfKnown events.now answer) }
 {
-    let mut kept = Kept::new(alloc);
+    let plan = plan_of(alloc, events)?;
+    let mut kept = Kept::new(alloc, plan);
     let answer = first_failing(alloc, &mut kept, events)?;
     Ok(answer)
 }

@@ -7,7 +7,8 @@ ghost use Rattle.ev_uses_calls.specs.Using.{DecidesAll, label_of};
 
 use def_event::{Called, Event, MadeObject, Shown};
 use ev_base::{Memory, Name};
-use ev_known::{Activation, Knowledge, Label, name_label};
+use ev_known::{Activation, Knowledge};
+use ev_links::{Label, name_label};
 use std::alloc::Global;
 
 /// Whether a label is that of what a line makes.

@@ -6,11 +6,11 @@ use mathlib.Core.Former.{Count}
 use denote.Ref.{Bor}
 use Rattle.def_event.specs.declared.shown.Shown.{Shown, Members, Members', Row_of-Shown, end_of-Shown, more_of-Shown, items-the_row-Shown, items_hidden-the_row-Shown-0}
 use Rattle.def_trace.specs.Uses.{IsAmong, Thing, all_parts, member_parts, parts}
-use Rattle.ev_known.specs.declared.label.Label.{Label}
-use Rattle.ev_known.specs.Label.{label}
-use Rattle.ev_known.specs.Links.{with_label}
-use Rattle.ev_known.proofs.Among.{among_left, among_right, among_cases}
-use Rattle.ev_known.proofs.Spreading.{among_label}
+use Rattle.ev_links.specs.declared.label.Label.{Label}
+use Rattle.ev_links.specs.Label.{label}
+use Rattle.ev_links.specs.Links.{with_label}
+use Rattle.ev_links.proofs.Among.{among_left, among_right, among_cases}
+use Rattle.ev_links.proofs.Spreading.{among_label}
 use Rattle.ev_event.specs.Pending.{open_weight, weight, weights}
 use Rattle.ev_event.proofs.ValueLemmas.{open_weight-push, weight_members}
 use Rattle.ev_uses_messages.specs.Left.{IsLeft, IsOf, Leaves}

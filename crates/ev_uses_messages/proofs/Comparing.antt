@@ -4,13 +4,13 @@ use Rattle.std.specs.Prelude.{◌⊎◌, ◌↔◌, if◌then◌else◌}
 use Rattle.ev_base.specs.declared.names.Name.{Name}
 use Rattle.ev_base.specs.declared.names.Name.TheVariants.{Object, Own, Answer, Gift, Root}
 use Rattle.def_trace.specs.Uses.{AList, AName, IsAmong, Thing, is_gift}
-use Rattle.ev_known.specs.declared.label.Label.{Label}
-use Rattle.ev_known.specs.contracts.label.LabelPartialEq.TheImpl.{eq-value}
-use Rattle.ev_known.specs.Label.{label}
-use Rattle.ev_known.specs.Links.{has_label}
-use Rattle.ev_known.proofs.Among.{any_among, among_any}
+use Rattle.ev_links.specs.declared.label.Label.{Label}
+use Rattle.ev_links.specs.contracts.label.LabelPartialEq.TheImpl.{eq-value}
+use Rattle.ev_links.specs.Label.{label}
+use Rattle.ev_links.specs.Links.{has_label}
+use Rattle.ev_links.proofs.Among.{any_among, among_any}
 use Rattle.ev_known.proofs.Keys.{label_same}
-use Rattle.ev_known.proofs.Spreading.{exact_label}
+use Rattle.ev_links.proofs.Spreading.{exact_label}
 use Rattle.ev_uses_messages.specs.declared.sought.Sought.{Sought}
 use Rattle.ev_uses_messages.specs.declared.sought.Sought.TheVariants.{Names, NoGifts}
 use Rattle.ev_uses_messages.specs.Sought.{has_sought, is_sought}

@@ -7,16 +7,18 @@ use Rattle.def_event.specs.declared.event.Event.{Event}
 use Rattle.def_event.specs.declared.event.Event.TheVariants.{Take}
 use Rattle.def_trace.specs.Uses as uses
 use Rattle.def_trace.specs.Uses.{AName, CarriesThese, IsAmong, IsListed, Line, Reaches, TakesSent, Thing, all_parts, arguments_in, line_before}
-use Rattle.ev_known.specs.declared.label.Label.{Label}
-use Rattle.ev_known.specs.declared.links.Link.{Link}
-use Rattle.ev_known.specs.declared.links.Scope.TheVariants.{All, Lists}
-use Rattle.ev_known.specs.Links.{AreReached}
+use Rattle.ev_links.specs.declared.label.Label.{Label}
+use Rattle.ev_links.specs.declared.links.Link.{Link}
+use Rattle.ev_links.specs.declared.links.Scope.TheVariants.{All, Lists}
+use Rattle.ev_links.specs.Label.{label}
+use Rattle.ev_links.specs.Links.{AreReached}
+use Rattle.ev_known.proofs.Keys.{label_same}
 use Rattle.ev_uses_messages.specs.declared.sought.Sought.TheVariants.{Names, NoGifts}
 use Rattle.ev_uses_messages.specs.Lines.{AddsThings, message_of, things_with}
 use Rattle.ev_uses_messages.specs.Onward.{OnwardStand}
-use Rattle.ev_uses_messages.specs.Sought.{has_sought}
+use Rattle.ev_uses_messages.specs.Sought.{ReachesSought, has_sought}
 use Rattle.ev_uses_messages.proofs.Comparing.{no_gifts, other_names, same_names}
-use Rattle.ev_uses_messages.proofs.Reaching.{AreLabels, added_labels, all_open, lists_open, reached_labels, reaches_more, same_parts}
+use Rattle.ev_uses_messages.proofs.Reaching.{AreLabels, added_labels, all_open, lists_open, reached_back, reached_labels, reaches_more, same_parts}
 
 -- ---- what is carried
 
@@ -24,7 +26,7 @@ pub nothing_carried : (past : List Line) (d : Option (Msg × List Thing)) → me
 nothing_carried past None e = (λ h. tt, λ h. refl)
 nothing_carried past (Some x) e = absurd cc
 
-pub carried_decided : (rows : List (Label × List Link)) (past : List Line) (d : Option (Msg × List Thing)) (m : Msg) (ts : List Thing) (carried old known : List Label) (b : Bool)
+carried_decided : (rows : List (Label × List Link)) (past : List Line) (d : Option (Msg × List Thing)) (m : Msg) (ts : List Thing) (carried old known : List Label) (b : Bool)
     → OnwardStand rows past → message_of d ≡ Some m → AddsThings (things_with d) [] carried → AddsThings ts [] old → ts ≡ line_before past m → AreReached rows All old known
     → b ≡ has_sought NoGifts known carried → (b ≡ true) ↔ CarriesThese past d
 carried_decided rows past None m ts carried old known b o is c a before r e = absurd cc
@@ -36,6 +38,30 @@ carried_decided rows past (Some x) m ts carried old known b o is c a before r e 
     let both = no_gifts known carried (Reaches past (λ t. IsAmong t had) (λ w. Unit {0})) (λ t. IsAmong t x.1)
     (reached_labels rows past o All (λ w. Unit {0}) all_open had old started known r) (added_labels x.1 carried c) in
     (λ h. both.0 (sym e ∙ h), λ h. e ∙ both.1 h)
+
+-- all that is carried was found on the way
+carried_found : (rows : List (Label × List Link)) (past : List Line) (d : Option (Msg × List Thing)) (m : Msg) (ts : List Thing) (carried old known : List Label)
+    → OnwardStand rows past → message_of d ≡ Some m → AddsThings (things_with d) [] carried → AddsThings ts [] old → ts ≡ line_before past m → ReachesSought rows old known carried true → CarriesThese past d
+carried_found rows past None m ts carried old known o is c a before r = absurd cc
+carried_found rows past (Some x) m ts carried old known o is c a before r =
+    let same : x.0 ≡ m = cc in
+    let had : List Thing = line_before past x.0 in
+    let started : AreLabels old (λ t. IsAmong t had)
+    = added_labels had old (subst (λ (us : List Thing). AddsThings us [] old) (before ∙ ap (line_before past) (sym same)) a) in
+    let back = reached_back rows past o All (λ w. Unit {0}) all_open had old started in
+    let found : AreLabels known (λ t. IsAmong (label t) known)
+    = record { there = λ t h. h; back = λ l i. let t = back l (r.sound l i) in (t.0, t.1, subst (λ (y : Label). IsAmong y known) (sym t.1) i) } in
+    let both = no_gifts known carried (λ t. IsAmong (label t) known) (λ t. IsAmong t x.1) found (added_labels x.1 carried c) in
+    λ n i. elim (both.0 (sym r.answer) n i) [
+      | inl g ↦ inl g
+      | inr b ↦ inr (let t = back (label (AName n)) (r.sound (label (AName n)) b) in subst (Reaches past (λ u. IsAmong u had) (λ w. Unit {0})) (label_same t.0 (AName n) t.1) t.2)
+    ]
+
+pub carried_sought : (rows : List (Label × List Link)) (past : List Line) (d : Option (Msg × List Thing)) (m : Msg) (ts : List Thing) (carried old known : List Label) (b : Bool)
+    → OnwardStand rows past → message_of d ≡ Some m → AddsThings (things_with d) [] carried → AddsThings ts [] old → ts ≡ line_before past m → ReachesSought rows old known carried b
+    → (b ≡ true) ↔ CarriesThese past d
+carried_sought rows past d m ts carried old known true o is c a before r = (λ _. carried_found rows past d m ts carried old known o is c a before r, λ _. refl)
+carried_sought rows past d m ts carried old known false o is c a before r = carried_decided rows past d m ts carried old known false o is c a before (r.all refl) r.answer
 
 -- all that is carried stands in the line before
 pub carried_there : (past : List Line) (d : Option (Msg × List Thing)) (m : Msg) (ts : List Thing) (carried old : List Label) → message_of d ≡ Some m → AddsThings (things_with d) [] carried

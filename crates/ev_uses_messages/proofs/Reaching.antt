@@ -3,13 +3,13 @@ use Rattle.std.proofs.Common.{◌≡◌, true, List, [], ◌∷◌, map, refl, s
 use Rattle.std.specs.Prelude.{◌↔◌}
 use Rattle.def_trace.specs.Uses as uses
 use Rattle.def_trace.specs.Uses.{IsAmong, IsListed, Line, Reaches, Thing}
-use Rattle.ev_known.specs.declared.label.Label.{Label}
-use Rattle.ev_known.specs.declared.links.Link.{Link}
-use Rattle.ev_known.specs.declared.links.Scope.{Scope}
-use Rattle.ev_known.specs.declared.links.Scope.TheVariants.{All, Lists}
-use Rattle.ev_known.specs.Label.{label}
+use Rattle.ev_links.specs.declared.label.Label.{Label}
+use Rattle.ev_links.specs.declared.links.Link.{Link}
+use Rattle.ev_links.specs.declared.links.Scope.{Scope}
+use Rattle.ev_links.specs.declared.links.Scope.TheVariants.{All, Lists}
+use Rattle.ev_links.specs.Label.{label}
 use Rattle.ev_known.specs.Leads.{way_of}
-use Rattle.ev_known.specs.Links.{AreReached, IsReached, start, onward, is_open}
+use Rattle.ev_links.specs.Links.{AreReached, IsReached, start, onward, is_open}
 use Rattle.ev_known.proofs.Keys.{label_same}
 use Rattle.ev_uses_messages.specs.Lines.{AddsThings}
 use Rattle.ev_uses_messages.specs.Onward.{OnwardStand, forward}
@@ -67,7 +67,7 @@ module _ (rows : List (Label × List Link)) (past : List Line) (h : OnwardStand 
   reached_there t (uses.onward d lead gone r) =
       onward (label d.from) (forward d) ((h.each (label d.from) (forward d)).1 (d, lead, refl, refl)) ((opens d.way).0 gone) (reached_there d.from r)
 
-  reached_back : (l : Label) → IsReached rows scope starts l → (t : Thing) × (label t ≡ l) × Reaches past (λ u. IsAmong u ts) IsOpen t
+  pub reached_back : (l : Label) → IsReached rows scope starts l → (t : Thing) × (label t ≡ l) × Reaches past (λ u. IsAmong u ts) IsOpen t
   unfolding IsScope
   reached_back l (start i) = let t = are.back l i in (t.0, t.1, uses.start t.2)
   reached_back l (onward m link there gone r) =

@@ -2,8 +2,8 @@
 use Rattle.std.proofs.Common.{◌≡◌, ℕ, List, [], ◌∷◌, slice_get, Option, Some, sym, subst}
 use Rattle.def_event.specs.declared.event.Event.{Event}
 use Rattle.def_trace.specs.Uses.{CarriesSent, Line, TakesSent}
-use Rattle.ev_known.specs.declared.label.Label.{Label}
-use Rattle.ev_known.specs.declared.links.Link.{Link}
+use Rattle.ev_links.specs.declared.label.Label.{Label}
+use Rattle.ev_links.specs.declared.links.Link.{Link}
 use Rattle.ev_base.specs.declared.names.Msg.{Msg}
 use Rattle.ev_uses_messages.specs.Places.{PutsFor, Table}
 use Rattle.ev_uses_messages.specs.Lines.{holds, message_of}

@@ -3,8 +3,8 @@ use Rattle.std.specs.Prelude.{◌⊎◌, ◌↔◌, List, [], ◌∷◌, map}
 use denote.Ref.{Bor}
 use Rattle.def_event.specs.declared.shown.Shown.{Shown}
 use Rattle.def_trace.specs.Uses.{IsAmong, all_parts}
-use Rattle.ev_known.specs.declared.label.Label.{Label}
-use Rattle.ev_known.specs.Label.{label}
+use Rattle.ev_links.specs.declared.label.Label.{Label}
+use Rattle.ev_links.specs.Label.{label}
 
 abbrev pub IsOf : Label → List Shown → Type 0
 IsOf l xs = IsAmong l (map label (all_parts xs))

@@ -6,8 +6,8 @@ use Rattle.def_event.specs.declared.note.ShownNote.TheVariants.{Deliver, Deliver
 use Rattle.def_event.specs.declared.event.Event.{Event}
 use Rattle.def_event.specs.declared.event.Event.TheVariants.{Carry, Send, SendOnly, When}
 use Rattle.def_trace.specs.Uses.{AName, IsAmong, Thing, all_parts, delivered, parts}
-use Rattle.ev_known.specs.declared.label.Label.{Label}
-use Rattle.ev_known.specs.Label.{label}
+use Rattle.ev_links.specs.declared.label.Label.{Label}
+use Rattle.ev_links.specs.Label.{label}
 
 -- the labels of these things are added, as a set
 pub record AddsThings (ts : List Thing) (old new : List Label) : Type 0 where

@@ -1,12 +1,12 @@
 -- Links from what leads to what it leads to, and what the lines say of that.
 use Rattle.std.specs.Prelude.{◌≡◌, ◌⊎◌, ◌↔◌, List}
 use Rattle.def_trace.specs.Uses.{IsAmong, IsLead, Lead, Line}
-use Rattle.ev_known.specs.declared.label.Label.{Label}
-use Rattle.ev_known.specs.declared.links.Link.{Link}
-use Rattle.ev_known.specs.declared.links.Way.{Way}
-use Rattle.ev_known.specs.Label.{label}
+use Rattle.ev_links.specs.declared.label.Label.{Label}
+use Rattle.ev_links.specs.declared.links.Link.{Link}
+use Rattle.ev_links.specs.declared.links.Way.{Way}
+use Rattle.ev_links.specs.Label.{label}
 use Rattle.ev_known.specs.Leads.{way_of}
-use Rattle.ev_known.specs.Links.{row}
+use Rattle.ev_links.specs.Links.{row}
 
 -- the link to what is led to, of what leads
 abbrev pub forward : Lead → Link

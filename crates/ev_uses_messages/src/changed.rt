@@ -13,7 +13,7 @@ use crate::sought::{Sought, are_same, has_sought};
 use crate::sources::{Sources, sources_of};
 use def_event::{Addressed, Event, Shown};
 use ev_base::{Memory, Msg};
-use ev_known::{Labels, Links, Scope, place_after};
+use ev_links::{Labels, Links, Scope, place_after};
 use std::alloc::Global;
 
 /// The names and lists in values.

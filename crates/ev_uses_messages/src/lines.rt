@@ -7,7 +7,7 @@ ghost use Rattle.ev_uses_messages.specs.Lines.{AddsThings, carries, given_by, ho
 use crate::parts::{add_value, add_values};
 use def_event::{Event, Sent, Shown, ShownNote};
 use ev_base::{Memory, Msg, Name};
-use ev_known::{Labels, name_label};
+use ev_links::{Labels, name_label};
 use std::alloc::Global;
 
 /// The message that a note delivers, if it delivers one.

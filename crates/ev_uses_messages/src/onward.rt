@@ -2,13 +2,13 @@
 
 ghost use Rattle.std.specs.Prelude.{◌≡◌, ◌∷◌, [], List, OnOk, map};
 ghost use Rattle.def_trace.specs.Uses.{Line, leads, things, things_of};
-ghost use Rattle.ev_known.specs.Label.{label};
-ghost use Rattle.ev_known.specs.declared.links.Way.TheVariants.{Listed as Listing};
+ghost use Rattle.ev_links.specs.Label.{label};
+ghost use Rattle.ev_links.specs.declared.links.Way.TheVariants.{Listed as Listing};
 ghost use Rattle.ev_uses_messages.specs.Onward.{AddsOnward, LeadsTo, OnwardStand};
 
 use def_event::{Event, Shown};
 use ev_base::Memory;
-use ev_known::{Label, Link, Links, Way, list_label, name_label};
+use ev_links::{Label, Link, Links, Way, list_label, name_label};
 use std::alloc::Global;
 
 /// A thing leads to another.

@@ -9,7 +9,7 @@ ghost use Rattle.ev_uses_messages.specs.Lines.{AddsThings};
 
 use def_event::Shown;
 use ev_base::Memory;
-use ev_known::{Labels, list_label, name_label};
+use ev_links::{Labels, list_label, name_label};
 use std::alloc::Global;
 
 /// Adds what a value is. Of a list in a note it hands out the members, and adds nothing.

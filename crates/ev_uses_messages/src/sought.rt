@@ -3,10 +3,10 @@
 ghost use Rattle.std.specs.Prelude.{◌≡◌, ◌↔◌, IsTrue};
 ghost use Rattle.ev_uses_messages.specs.Sought.{has_sought, is_sought};
 
-use ev_known::{Kind, Label, Labels};
+use ev_links::{Kind, Label, Labels};
 
 /// What is sought. A list never is.
-#[derive(Clone, Copy, Debug, PartialEq, Eq)]
+#[derive(Clone, Copy, PartialEq, Eq)]
 pub enum Sought {
     /// Each name.
     Names,

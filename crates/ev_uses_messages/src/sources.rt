@@ -9,7 +9,7 @@ use crate::lines::{add_carried, add_sent, carried_message, sent_message};
 use crate::places::Places;
 use def_event::Event;
 use ev_base::{Memory, Msg};
-use ev_known::Labels;
+use ev_links::Labels;
 use std::alloc::Global;
 use std::marker::Model;
 

@@ -5,6 +5,7 @@ ghost use Rattle.def_trace.specs.Uses.{CarriesSent, CarriesThese, IsFirstFailing
 ghost use Rattle.ev_uses_messages.specs.Finding.{FindsBefore, found_at, things_at};
 ghost use Rattle.ev_uses_messages.specs.Lines.{AddsThings, holds, things_with};
 ghost use Rattle.ev_uses_messages.specs.Onward.{OnwardStand};
+ghost use Rattle.ev_uses_messages.specs.Sought.{ReachesSought};
 
 use crate::lines::{add_delivered, add_held, delivered_message, held_message};
 use crate::onward::tell_onward;
@@ -12,7 +13,7 @@ use crate::places::Places;
 use crate::sought::{Sought, has_sought};
 use def_event::{Event, ShownNote};
 use ev_base::Memory;
-use ev_known::{Labels, Links, Scope, place_after};
+use ev_links::{Label, Labels, Links, Scope, place_after};
 use std::alloc::Global;
 
 /// The names and lists that a note has with the message that it delivers.
@@ -40,6 +41,24 @@ fn held_at(alloc: Global, events: &[Event], place: Option<usize>) -> Result<Labe
     Ok(labels)
 }
 
+/// Adds to labels what is reached from them, the nearest first, until those of others that are no gifts are all there, or all is.
+/// They are looked for each time that twice as many labels were gone on from, so that the nearest are soon found, and the looking takes
+/// little time beside the going.
+fn reach_sought(links: &Links, labels: &mut Labels, others: &[Label]) -> Result<bool, Memory>
+    ensures { IfOk result (λ there. ReachesSought links.now labels.old labels.new others.now there) }
+{
+    let mut index = 0;
+    while index < labels.len() {
+        if index.is_power_of_two() && has_sought(labels, Sought::NoGifts, others) {
+            return Ok(true);
+        }
+        let label = labels.at(index);
+        links.go_on(&Scope::All, label, labels)?;
+        index += 1;
+    }
+    Ok(has_sought(labels, Sought::NoGifts, others))
+}
+
 /// Whether each name that a note carries is a gift, or is reached from what the line before of its message has. Nothing is gone on
 /// from where all of them stand there.
 fn is_note_sent(
@@ -60,8 +79,8 @@ fn is_note_sent(
     if has_sought(&known, Sought::NoGifts, carried.as_slice()) {
         return Ok(true);
     }
-    links.reach(&Scope::All, &mut known)?;
-    Ok(has_sought(&known, Sought::NoGifts, carried.as_slice()))
+    let there = reach_sought(links, &mut known, carried.as_slice())?;
+    Ok(there)
 }
 
 /// Whether a line carries only gifts and what is reached from what the line before of its message has.

@@ -37,7 +37,7 @@ use std::alloc::Global;
 const ROOT: PromId = PromId(0);
 
 /// Why a step of a vat came to no end. What the step did up to there stands, and is of no use any more.
-#[derive(Clone, Copy, Debug, PartialEq, Eq)]
+#[derive(Clone, Copy, PartialEq, Eq)]
 pub enum VatStop {
     /// The fuel did not suffice.
     Fuel,

@@ -11,7 +11,7 @@ use ev_script::VatScript;
 use std::alloc::Global;
 
 /// How a run ended. A step is told by its number: the opening turns from 0, and then the entries of the schedule.
-#[derive(Clone, Copy, Debug, PartialEq, Eq)]
+#[derive(Clone, Copy, PartialEq, Eq)]
 pub enum RunEnd {
     /// It came to its end.
     Done,

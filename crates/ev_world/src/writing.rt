@@ -17,7 +17,7 @@ use ev_resident::VatStop;
 use std::alloc::Global;
 
 /// Why a run was not written to its end.
-#[derive(Clone, Copy, Debug, PartialEq, Eq)]
+#[derive(Clone, Copy, PartialEq, Eq)]
 pub enum Unfinished {
     /// The sink failed.
     WriteFault,

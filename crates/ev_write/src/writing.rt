@@ -14,7 +14,7 @@ use ev_pass::{Interior, Note};
 use ev_tables::Connection;
 
 /// Why a note was not written.
-#[derive(Clone, Copy, Debug, PartialEq, Eq)]
+#[derive(Clone, Copy, PartialEq, Eq)]
 pub enum WriteFault {
     /// The connection is closed.
     Closed,

@@ -91,25 +91,25 @@ module _ {N W : Type 0} (K : Naming N W) where
   firm_mail c = record { after = λ s. tt }
 
   -- what settles no name
-  abbrev Any : N → Type 0
+  abbrev pub Any : N → Type 0
   Any n = Unit {0}
 
-  abbrev each_mail : N → Bool
+  abbrev pub each_mail : N → Bool
   each_mail n = true
 
-  abbrev Always : List (Known N) → Type 0
+  abbrev pub Always : List (Known N) → Type 0
   Always ks = Unit {0}
 
-  none_first : (ks : List (Known N)) → Always ks → zero ≤ length ks
+  pub none_first : (ks : List (Known N)) → Always ks → zero ≤ length ks
   none_first ks i = omega arith
 
-  all_keep : (c : Change N) (n : N) (ks : List (Known N)) → sure.ChangeWaits K each_mail Any c → Always ks → Always (with_change K c n ks)
+  pub all_keep : (c : Change N) (n : N) (ks : List (Known N)) → sure.ChangeWaits K each_mail Any c → Always ks → Always (with_change K c n ks)
   all_keep c n ks w i = tt
 
-  all_come : (h : ℕ) (m : N) (k i : ℕ) (ks : List (Known N)) → each_mail m ≡ true → Always ks → Always (ks ++ begun (K.made (IsAnswer h m) k) i ∷ [])
+  pub all_come : (h : ℕ) (m : N) (k i : ℕ) (ks : List (Known N)) → each_mail m ≡ true → Always ks → Always (ks ++ begun (K.made (IsAnswer h m) k) i ∷ [])
   all_come h m k i ks e w = tt
 
-  abbrev Plain : {A : Type 0} → Act N A → Type 0
+  abbrev pub Plain : {A : Type 0} → Act N A → Type 0
   Plain m = sure.Sure K each_mail Any zero Always none_first all_keep all_come zero m
 
   plain_ends : {A : Type 0} (s : Vat N) (d : Done N A) → sure.EndsSure K each_mail Any zero Always none_first all_keep all_come s d → NotAstray d
@@ -118,7 +118,7 @@ module _ {N W : Type 0} (K : Naming N W) where
   plain_ends s (Ejects n v t) h = tt
   plain_ends s (Stops c t) h = h
 
-  firm_plain : {A : Type 0} {m : Act N A} → Plain m → Firm m
+  pub firm_plain : {A : Type 0} {m : Act N A} → Plain m → Firm m
   firm_plain {m = m} h = record { after = λ s. plain_ends s (m s) (h.after s tt (open_zero s.known)) }
 
   firm_inform : (p : N) (w : ℕ) → Firm (refs.inform K p w)
@@ -127,7 +127,7 @@ module _ {N W : Type 0} (K : Naming N W) where
   firm_waits : (p q : N) → Firm (refs.wait_on K p q)
   firm_waits p q = firm_plain (sure.sure_waits K each_mail Any zero Always none_first all_keep all_come zero p q tt)
 
-  firm_pass_on : (m : Message N) (h : ℕ) (n : N) → Firm (refs.pass_on K m h n)
+  pub firm_pass_on : (m : Message N) (h : ℕ) (n : N) → Firm (refs.pass_on K m h n)
   firm_pass_on m h n = firm_plain (sure.sure_pass_on K each_mail Any zero Always none_first all_keep all_come zero m (refl, where_some Any (λ a. tt) m.answer) h n)
 
   firm_draw : Firm (draw K)
@@ -177,7 +177,7 @@ module _ {N W : Type 0} (K : Naming N W) (S : Care N) (law : Under K S) (mail : 
   pub clear_settle : {C : Fact N} (p : N) (y : Value N) → Clear C (refs.settle K p y)
   clear_settle p y = record { after = λ s g c. settle_sure K mail p y s (awaits s g) }
 
-  clear_send_to : {C : Fact N} (m : Message N) (y : Value N) (q : Place N) → Clear C (refs.send_to K (refs.settle K) m y q)
+  pub clear_send_to : {C : Fact N} (m : Message N) (y : Value N) (q : Place N) → Clear C (refs.send_to K (refs.settle K) m y q)
   unfolding refs.send_to
   clear_send_to m y Near = clear_firm (firm_enqueue _)
   clear_send_to m y (Mine n) = clear_firm (firm_alter K _ n)

@@ -35,7 +35,7 @@ live_is [] i e = cc
 live_is (t ∷ ts) zero e = let same : t ≡ Ejector true = cc in ap is_live same
 live_is (t ∷ ts) (suc i) e = live_is ts i e
 
-none_live : {N : Type 0} (ts : List (Thing N)) → ((i : ℕ) → live_at ts i ≡ false) → NoneIsLive ts
+pub none_live : {N : Type 0} (ts : List (Thing N)) → ((i : ℕ) → live_at ts i ≡ false) → NoneIsLive ts
 none_live ts h i e = false_true (sym (h i) ∙ live_is ts i e)
 
 in_world : (script : Script) (w : World) → NothingLive w → EndsAwaitedIn script w

@@ -38,11 +38,11 @@ module _ {N : Type 0} (many : ℕ) (nouns : List (Binding N)) where
           either y w (inl i) = subst (λ u. Stands many u y (bound_in nouns y)) (sym i.1) (subst (λ z. Stands many false z (bound_in nouns z)) (sym i.0) h)
           either y w (inr i) = c y w i.1
 
-  covers_given : (given : List Words) (scope : List Named) → AllOf (λ x. Stands many false x (bound_in nouns x)) given → Covers many nouns (scope ∷ []) → Covers many nouns (with_given given scope ∷ [])
+  pub covers_given : (given : List Words) (scope : List Named) → AllOf (λ x. Stands many false x (bound_in nouns x)) given → Covers many nouns (scope ∷ []) → Covers many nouns (with_given given scope ∷ [])
   covers_given [] scope h c = c
   covers_given (x ∷ xs) scope h c = covers_given xs (with_name x false scope) h.1 (covers_name x scope h.0 c)
 
-  covers_none : Covers many nouns ([] ∷ [])
+  pub covers_none : Covers many nouns ([] ∷ [])
   covers_none x v e = cc
 
 -- ---- evaluation

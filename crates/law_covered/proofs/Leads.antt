@@ -99,7 +99,7 @@ slot_there (x ∷ xs) (suc i) e l = slot_there xs i e (omega arith)
 -- ---- one thing after another
 
 module _ {N : Type 0} (tree : List Node) (F : AtStops N) where
-  ends_less : {A : Type 0} (n k : ℕ) → n ≤ k → (H : ℕ → A → Type 0) (d : Done N A) → Ends tree F k H d → Ends tree F n H d
+  pub ends_less : {A : Type 0} (n k : ℕ) → n ≤ k → (H : ℕ → A → Type 0) (d : Done N A) → Ends tree F k H d → Ends tree F n H d
   ends_less n k l H (Gives a t) h = let g = h.0.0 in ((omega arith, h.0.1), h.1)
   ends_less n k l H (Throws p t) h = let g = h.0 in (omega arith, h.1)
   ends_less n k l H (Ejects i v t) h = let g = h.0 in (omega arith, h.1)

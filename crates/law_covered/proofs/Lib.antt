@@ -1,17 +1,17 @@
-mod Words
-mod Statics
-mod Parts
-mod Binds
-mod Frees
-mod Captures
-mod Leads
-mod Natives
-mod Forms
-mod Members
-mod Eval
-mod Nodes
-mod Settled
-mod Depths
-mod Laws
-mod Worlds
-mod Finds
+pub mod Words
+pub mod Statics
+pub mod Parts
+pub mod Binds
+pub mod Frees
+pub mod Captures
+pub mod Leads
+pub mod Natives
+pub mod Forms
+pub mod Members
+pub mod Eval
+pub mod Nodes
+pub mod Settled
+pub mod Depths
+pub mod Laws
+pub mod Worlds
+pub mod Finds

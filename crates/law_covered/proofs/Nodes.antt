@@ -27,12 +27,12 @@ use Rattle.law_covered.proofs.Natives.{GoodCaller, lead_failed, lead_handed, lea
 use Rattle.law_covered.proofs.Eval.{answer, answers, environment, GoodEvaluator, opened, opened_all, lead_answered, lead_ejector, lead_leave, lead_unless, lead_all, lead_last, lead_bind_all, lead_inside}
 
 module _ (tree : List Node) where
-  opened_may : (s t : Scopes) (j : Option ℕ) → IsOpen s → WhereSome (Formed tree Expression) j → MayScoped tree s j t → IsOpen t
+  pub opened_may : (s t : Scopes) (j : Option ℕ) → IsOpen s → WhereSome (Formed tree Expression) j → MayScoped tree s j t → IsOpen t
   opened_may s t j o f d = let b = may_binds tree s t j d o (length tree) f in b.opened
 
 module _ {N : Type 0} (tree : List Node) where
   -- the name of an object is bound round it
-  named_covers : (many : ℕ) (s u : Scopes) (p : ℕ) (v : Value N) (here : Scope N) → Formed tree AName p → Scoped tree s p u → Covers many here.nouns s → Covers many (named (slice_get tree p) v here).nouns u
+  pub named_covers : (many : ℕ) (s u : Scopes) (p : ℕ) (v : Value N) (here : Scope N) → Formed tree AName p → Scoped tree s p u → Covers many here.nouns s → Covers many (named (slice_get tree p) v here).nouns u
   unfolding named with_noun
   named_covers many s u p v here f (is_final {name = x} e has_none b) c = subst (λ o. Covers many (named o v here).nouns u) (sym e) (covers_named many here.nouns x (Fixed v scopes.any_guard) false s b tt c)
   named_covers many s u p v here f (is_final e (has_one a) b) c = absurd (formed_parts tree AName p _ f e)
@@ -59,7 +59,7 @@ module _ {N : Type 0} (tree : List Node) where
   named_covers many s u p v here f (is_via e a q) c = absurd (formed_parts tree AName p _ f e)
 
   -- what an object that is made carries
-  object_carries : (many : ℕ) (u t : Scopes) (id p : ℕ) (auditors members : List ℕ) (after : Scope N) (stamps : List (Value N)) → IsOpen u → Has tree id (Object p auditors members) → AllOf (Formed tree Member) members → AllScoped tree u members t
+  pub object_carries : (many : ℕ) (u t : Scopes) (id p : ℕ) (auditors members : List ℕ) (after : Scope N) (stamps : List (Value N)) → IsOpen u → Has tree id (Object p auditors members) → AllOf (Formed tree Member) members → AllScoped tree u members t
       → Covers many after.nouns u → ThingCarries tree many (Made id (scopes.captures after (free_nouns tree members)) stamps)
   unfolding members_of
   object_carries many u t id p auditors members after stamps o e f d c = let x = members_carry tree many after u t members o f d c in

@@ -23,29 +23,37 @@ use Rattle.law_order.proofs.OrderKeeping.{Any, FitsLane, all_put_on, message_all
 
 -- ---- links that are not cut
 
+-- a link is there, and is cut or not as c says
+abbrev pub IsThere : Bool → ℕ → ℕ → List Link → Type 0
+IsThere c a b ls = (l : Link) × (world.link_at a b ls ≡ Some l) × (l.cut ≡ c)
+
 abbrev pub IsOpen : ℕ → ℕ → List Link → Type 0
-IsOpen a b ls = (l : Link) × (world.link_at a b ls ≡ Some l) × (l.cut ≡ false)
+IsOpen a b ls = IsThere false a b ls
 
 pub pushed_cut : (p : Note Name) (l : Link) (c : Bool) → l.cut ≡ c → (world.pushed p l).cut ≡ l.cut
 pushed_cut p l true e = ap (λ j. j.cut) (pushed_shut p l e)
 pushed_cut p l false e = ap (λ j. j.cut) (pushed_open p l e)
 
-still_open : (a b v h : ℕ) (p : Note Name) (ls : List Link) → IsOpen a b ls → IsOpen a b (world.with_link (world.pushed p) v h ls)
+-- it stays so as others change, and as it changes but for that
+pub kept_there : (f : Link → Link) (x : Bool) (a b v h : ℕ) → ((l : Link) → world.is_link a b (f l) ≡ world.is_link a b l) → ((l : Link) → (f l).cut ≡ l.cut) → (ls : List Link) → IsThere x a b ls → IsThere x a b (world.with_link f v h ls)
 unfolding world.with_link world.link_at
-still_open a b v h p [] o = none_some o.0 o.1
-still_open a b v h p (k ∷ ls) o = go (λ q. still_open a b v h p ls q) (world.is_link a b k) (world.is_link v h k) refl refl o
+kept_there f x a b v h same cut [] o = none_some o.0 o.1
+kept_there f x a b v h same cut (k ∷ ls) o = go (λ q. kept_there f x a b v h same cut ls q) (world.is_link a b k) (world.is_link v h k) refl o
   where
-    go : (IsOpen a b ls → IsOpen a b (world.with_link (world.pushed p) v h ls)) → (c d : Bool) → world.is_link a b k ≡ c → world.is_link v h k ≡ d
-        → (l : Link) × (elim c [ true ↦ Some k | false ↦ world.link_at a b ls ] ≡ Some l) × (l.cut ≡ false) → IsOpen a b (elim d [ true ↦ world.pushed p k ∷ ls | false ↦ k ∷ world.with_link (world.pushed p) v h ls ])
-    go f true true i j q = (world.pushed p k, link_here a b (world.pushed p k) ls (pushed_ends k.cut p k a b refl ∙ i), pushed_cut p k k.cut refl ∙ ap (λ x. x.cut) (some_same k q.0 q.1) ∙ q.2)
-    go f true false i j q = (k, link_here a b k (world.with_link (world.pushed p) v h ls) i, ap (λ x. x.cut) (some_same k q.0 q.1) ∙ q.2)
-    go f false true i j q = (q.0, link_behind a b (world.pushed p k) ls (pushed_ends k.cut p k a b refl ∙ i) ∙ q.1, q.2)
-    go f false false i j q = let r = f q in (r.0, link_behind a b k (world.with_link (world.pushed p) v h ls) i ∙ r.1, r.2)
+    go : (IsThere x a b ls → IsThere x a b (world.with_link f v h ls)) → (c d : Bool) → world.is_link a b k ≡ c
+        → (l : Link) × (elim c [ true ↦ Some k | false ↦ world.link_at a b ls ] ≡ Some l) × (l.cut ≡ x) → IsThere x a b (elim d [ true ↦ f k ∷ ls | false ↦ k ∷ world.with_link f v h ls ])
+    go g true true i q = (f k, link_here a b (f k) ls (same k ∙ i), cut k ∙ ap (λ z. z.cut) (some_same k q.0 q.1) ∙ q.2)
+    go g true false i q = (k, link_here a b k (world.with_link f v h ls) i, ap (λ z. z.cut) (some_same k q.0 q.1) ∙ q.2)
+    go g false true i q = (q.0, link_behind a b (f k) ls (same k ∙ i) ∙ q.1, q.2)
+    go g false false i q = let r = g q in (r.0, link_behind a b k (world.with_link f v h ls) i ∙ r.1, r.2)
+
+pub all_there : (x : Bool) (a b v : ℕ) (ps : List (Put Name)) (ls : List Link) → IsThere x a b ls → IsThere x a b (world.push_all v ps ls)
+unfolding world.push_all
+all_there x a b v [] ls o = o
+all_there x a b v (p ∷ ps) ls o = all_there x a b v ps (world.with_link (world.pushed p.note) v p.to ls) (kept_there (world.pushed p.note) x a b v p.to (λ k. pushed_ends k.cut p.note k a b refl) (λ k. pushed_cut p.note k k.cut refl) ls o)
 
 pub all_open : (a b v : ℕ) (ps : List (Put Name)) (ls : List Link) → IsOpen a b ls → IsOpen a b (world.push_all v ps ls)
-unfolding world.push_all
-all_open a b v [] ls o = o
-all_open a b v (p ∷ ps) ls o = all_open a b v ps (world.with_link (world.pushed p.note) v p.to ls) (still_open a b v p.to p.note ls o)
+all_open a b v ps ls o = all_there false a b v ps ls o
 
 -- a note put on such a link stands there
 put_there : (v h : ℕ) (p : Note Name) (ls : List Link) (l : Link) → world.link_at v h ls ≡ Some l → world.link_at v h (world.with_link (world.pushed p) v h ls) ≡ Some (world.pushed p l)
@@ -305,12 +313,20 @@ module _ (script : Script) (honest : ℕ → Bool) (w : World) (a b : ℕ) (r s 
   unfolding ways amid
   after_is t = refl
 
-  went : (t : Vat Name) (k : Lane) (o : Name) → RefersAlike K s t → Within (queued s.queue) (queued t.queue) → (ps : List (Put Name)) → t.outbox ≡ s.outbox ++ ps → NothingGoes ps
+  pub went : (t : Vat Name) (k : Lane) (o : Name) → RefersAlike K s t → Within (queued s.queue) (queued t.queue) → (ps : List (Put Name)) → t.outbox ≡ s.outbox ++ ps → NothingGoes ps
       → leads_in script honest b s (Ref n) ≡ End k o → IsIn (item m.id o) (stands_at script honest (world.put_at b t w.vats) (world.push_all b t.outbox w.links) k) → GoesOn From (To t) (Way a b) (item m.id n) k o
   unfolding ways amid
   went t k o g q ps e h f i = subst (λ u. GoesOn u (To t) (Way a b) (item m.id n) k o) (before_is script honest w a b r s Mailed n verb ys at way) (goes script honest w a b r s Mailed n verb ys at way t (refers_same script honest b s t g) q ps e h k o f i)
 
-  gone : (t : Vat Name) → RefersAlike K s t → Within (queued s.queue) (queued t.queue) → t.outbox ≡ s.outbox → leads_in script honest b s (Ref n) ≡ Nowhere → IsNowhere (To t) m.id → IsLost From (To t) (Way a b) (item m.id n)
+  -- It leaves its link, and that leads where the message is to go, whether it stands there then or not.
+  pub left_for : (t : Vat Name) (k : Lane) (o : Name) → RefersAlike K s t → Within (queued s.queue) (queued t.queue) → (ps : List (Put Name)) → t.outbox ≡ s.outbox ++ ps → NothingGoes ps → leads_in script honest b s (Ref n) ≡ End k o
+      → Leaves From (To t) (Way a b) (item m.id n) × ((l : Lane) (q : Name) → Beheads (Way a b) (item m.id n) (From.onward l q) ((To t).onward l q)) × ((To t).onward (Way a b) n ≡ End k o)
+  unfolding ways ways_of amid
+  left_for t k o g q ps e h f =
+      subst (λ (u : Ways). Leaves u (To t) (Way a b) (item m.id n) × ((l : Lane) (p : Name) → Beheads (Way a b) (item m.id n) (u.onward l p) ((To t).onward l p)) × ((To t).onward (Way a b) n ≡ End k o)) (before_is script honest w a b r s Mailed n verb ys at way)
+      (leaves script honest w a b r s Mailed n verb ys at way t (refers_same script honest b s t g) q ps e h, λ l p. lanes script honest w a b r s Mailed n verb ys at way t (refers_same script honest b s t g) q ps e h l p, leads_to script honest w a b r s Mailed n verb ys at way t (refers_same script honest b s t g) q ps e h ∙ f)
+
+  pub gone : (t : Vat Name) → RefersAlike K s t → Within (queued s.queue) (queued t.queue) → t.outbox ≡ s.outbox → leads_in script honest b s (Ref n) ≡ Nowhere → IsNowhere (To t) m.id → IsLost From (To t) (Way a b) (item m.id n)
   unfolding ways amid
   gone t g q e f h = subst (λ u. IsLost u (To t) (Way a b) (item m.id n)) (before_is script honest w a b r s Mailed n verb ys at way) (lost script honest w a b r s Mailed n verb ys at way t (refers_same script honest b s t g) q [] (e ∙ append_nothing s.outbox) tt f h)
 

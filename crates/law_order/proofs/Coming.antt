@@ -427,7 +427,7 @@ module _ (script : Script) (honest : ℕ → Bool) (v : ℕ) (s : Vat Name) (n :
     pub comes_same : RefersSame script honest v s T
     comes_same = record { leading = λ x. leading x; gifts = refl; standing = λ m. standing m; holding = λ m. holding_by m (refs.entry_of K s.known m) refl }
 
-    coming : (w : World) → Grows (ways script honest (amid v s w)) (ways script honest (amid v T w))
+    pub coming : (w : World) → Grows (ways script honest (amid v s w)) (ways script honest (amid v T w))
     unfolding ways ways_of amid
     coming w = let ls = world.push_all v s.outbox w.links in record {
       stands = λ l i j. stands_grow script honest w.vats ls ls (all_same ls) v s T comes_same (λ q h. h) l i j;

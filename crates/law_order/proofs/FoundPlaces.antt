@@ -86,12 +86,12 @@ module _ (x : Name) where
     in_lacks v s (Broken p) = follow_lacks v s (Broken p)
     in_lacks v s (Items k) = follow_lacks v s (Items k)
 
-    at_lacks : (v : ℕ) (o : Option (Vat Name)) (y : Value Name) → LacksAt x (leads_at script honest v o y)
+    pub at_lacks : (v : ℕ) (o : Option (Vat Name)) (y : Value Name) → LacksAt x (leads_at script honest v o y)
     unfolding leads_at
     at_lacks v (Some s) y = in_lacks v s y
     at_lacks v None y = tt
 
-    leads_lack : (w : World) (v : ℕ) (y : Value Name) → LacksAt x (leads script honest w.vats w.links v y)
+    pub leads_lack : (w : World) (v : ℕ) (y : Value Name) → LacksAt x (leads script honest w.vats w.links v y)
     unfolding leads
     leads_lack w v y = at_lacks v (slice_get w.vats v) y
 

@@ -147,7 +147,7 @@ module _ (script : Script) (honest : ℕ → Bool) (w : World) (v : ℕ) (s : Va
     fixed = λ m h. fixed_new m h.0 h.1 (refs.entry_of K s.known m) refl;
   }
 
-  came_more : (l : Lane) → More (ways script honest (amid v s w)) (ways script honest (amid v Came w)) l
+  pub came_more : (l : Lane) → More (ways script honest (amid v s w)) (ways script honest (amid v Came w)) l
   came_more (Queue u) = queue_more script honest w v s Came u (λ e. ([], sym (append-nil (queued s.queue))))
   came_more (Held u m) = held_more script honest w v s Came u m (λ e. came_holds K s n (host_of n) plain r.ends m)
   came_more (Way a b) = way_more script honest w v s Came [] (sym (append-nil s.outbox)) a b

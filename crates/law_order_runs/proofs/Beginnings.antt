@@ -199,7 +199,7 @@ module _ (script : Script) (v : ℕ) where
     unfolding messages_of
     own_messages = ap (λ o. elim o [ Some q ↦ q.messages | None ↦ zero ]) there
 
-    own_promises : promises_of w.vats v ≡ s.promises
+    pub own_promises : promises_of w.vats v ≡ s.promises
     unfolding promises_of
     own_promises = ap (λ o. elim o [ Some q ↦ q.promises | None ↦ zero ]) there
 

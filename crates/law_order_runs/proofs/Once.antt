@@ -21,7 +21,7 @@ use Rattle.law_order_runs.proofs.Beginnings.{reached_is, entry_name}
 
 -- ---- how often a message is in a list of items
 
-unfoldable tally : Name → List Item → ℕ
+unfoldable pub tally : Name → List Item → ℕ
 tally m [] = 0
 tally m (i ∷ js) = one i.mail m + tally m js
 
@@ -59,7 +59,7 @@ one_place m n o (i ∷ b) (j ∷ c) js ks l e =
 
 -- ---- each list of items has no more than the place that it is of
 
-queued_if : (m : Name) (y : Value Name) (x : Name) (js : List Item) (c : ℕ) → tally m js ≤ c → tally m (elim y [ Ref n ↦ item x n ∷ js | _ ↦ js ]) ≤ one x m + c
+pub queued_if : (m : Name) (y : Value Name) (x : Name) (js : List Item) (c : ℕ) → tally m js ≤ c → tally m (elim y [ Ref n ↦ item x n ∷ js | _ ↦ js ]) ≤ one x m + c
 unfolding tally
 queued_if m (Ref n) x js c h = omega arith
 queued_if m _ x js c h = omega arith
@@ -74,7 +74,7 @@ unfolding tally held_on among
 held_most m n [] = omega arith
 held_most m n (x ∷ ms) = let rest = held_most m n ms in omega arith
 
-delivered_most : (m : Name) (ns : List (Note Name)) → tally m (delivered ns) ≤ total (of_note m) ns
+pub delivered_most : (m : Name) (ns : List (Note Name)) → tally m (delivered ns) ≤ total (of_note m) ns
 unfolding tally delivered total of_note in_note
 delivered_most m [] = omega arith
 delivered_most m (Deliver d n verb ys ∷ ns) = let rest = delivered_most m ns in omega arith
@@ -117,7 +117,7 @@ module _ (script : Script) (v : ℕ) (m : Name) where
   head_held k p o true c h = let here = held_most m p k.held in omega arith
   head_held k p o false c h = omega arith
 
-  name_held : (ks : List (Known Name)) (p : Name) → tally m (HeldAt ks p) ≤ at_names m ks
+  pub name_held : (ks : List (Known Name)) (p : Name) → tally m (HeldAt ks p) ≤ at_names m ks
   unfolding refs.entry_of at_names held_in tally
   name_held [] p = omega arith
   name_held (k ∷ ks) p = let rest = head_held k p (refs.entry_of K ks p) (K.same k.name p) (at_names m ks) (name_held ks p) in omega arith
@@ -168,15 +168,15 @@ module _ (m : Name) where
 -- ---- lanes of a world
 
 module _ (script : Script) (honest : ℕ → Bool) (w : World) (m : Name) where
-  abbrev U : Ways
+  abbrev pub U : Ways
   U = ways_of script honest w.vats w.links
 
   -- how often it stands in a lane
-  abbrev Count : Lane → ℕ
+  abbrev pub Count : Lane → ℕ
   Count l = tally m (U.stands l)
 
   -- of what lies at a vat
-  abbrev AtVat : ℕ → ℕ
+  abbrev pub AtVat : ℕ → ℕ
   AtVat v = elim (slice_get w.vats v) [ Some s ↦ at_vat m s | None ↦ 0 ]
 
   abbrev OnLink : ℕ → ℕ → ℕ
@@ -215,15 +215,15 @@ module _ (script : Script) (honest : ℕ → Bool) (w : World) (m : Name) where
   way_most None = omega arith
 
   -- of each lane
-  queue_most : (v : ℕ) → Count (Queue v) ≤ AtVat v
+  pub queue_most : (v : ℕ) → Count (Queue v) ≤ AtVat v
   unfolding ways_of stands_at
   queue_most v = queue_here (slice_get w.vats v)
 
-  name_most : (v : ℕ) (p : Name) → Count (Held v p) ≤ AtVat v
+  pub name_most : (v : ℕ) (p : Name) → Count (Held v p) ≤ AtVat v
   unfolding ways_of stands_at
   name_most v p = held_here v p (slice_get w.vats v)
 
-  link_most : (a b : ℕ) → Count (Way a b) ≤ OnLink a b
+  pub link_most : (a b : ℕ) → Count (Way a b) ≤ OnLink a b
   unfolding ways_of stands_at
   link_most a b = way_most (world.link_at a b w.links)
 
@@ -236,7 +236,7 @@ module _ (script : Script) (honest : ℕ → Bool) (w : World) (m : Name) where
   name_name v p q n = both_held v p q n (slice_get w.vats v)
 
   -- what a vat has, and another
-  at_most : (v : ℕ) (o : Option (Vat Name)) → slice_get w.vats v ≡ o → elim o [ Some s ↦ at_vat m s | None ↦ 0 ] ≤ total (at_vat m) w.vats
+  pub at_most : (v : ℕ) (o : Option (Vat Name)) → slice_get w.vats v ≡ o → elim o [ Some s ↦ at_vat m s | None ↦ 0 ] ≤ total (at_vat m) w.vats
   at_most v (Some s) e = one_of (at_vat m) w.vats v s e
   at_most v None e = omega arith
 
@@ -246,7 +246,7 @@ module _ (script : Script) (honest : ℕ → Bool) (w : World) (m : Name) where
   two_at u v n None (Some t) e f = let a = one_of (at_vat m) w.vats v t f in omega arith
   two_at u v n None None e f = omega arith
 
-  on_most : (a b : ℕ) (o : Option Link) → world.link_at a b w.links ≡ o → elim o [ Some l ↦ on_link m l | None ↦ 0 ] ≤ total (on_link m) w.links
+  pub on_most : (a b : ℕ) (o : Option Link) → world.link_at a b w.links ≡ o → elim o [ Some l ↦ on_link m l | None ↦ 0 ] ≤ total (on_link m) w.links
   on_most a b (Some l) e = one_link m a b w.links l e
   on_most a b None e = omega arith
 
@@ -257,7 +257,7 @@ module _ (script : Script) (honest : ℕ → Bool) (w : World) (m : Name) where
   two_on a b c d n None None e f = omega arith
 
   -- two lanes at vats
-  vat_vat : (u v a b : ℕ) → a ≤ AtVat u → b ≤ AtVat v → (u ≡ v → a + b ≤ AtVat v) → a + b ≤ total (at_vat m) w.vats
+  pub vat_vat : (u v a b : ℕ) → a ≤ AtVat u → b ≤ AtVat v → (u ≡ v → a + b ≤ AtVat v) → a + b ≤ total (at_vat m) w.vats
   vat_vat u v a b h k f = go (u == v) refl
     where
       go : (c : Bool) → (u == v) ≡ c → a + b ≤ total (at_vat m) w.vats
@@ -278,7 +278,7 @@ module _ (script : Script) (honest : ℕ → Bool) (w : World) (m : Name) where
   pair (Way a b) (Held u p) n = let x = name_most u p in let y = link_most a b in let f = at_most u (slice_get w.vats u) refl in let g = on_most a b (world.link_at a b w.links) refl in omega arith
   pair (Way a b) (Way c d) n = let x = link_most a b in let y = link_most c d in let most = two_on a b c d n (world.link_at a b w.links) (world.link_at c d w.links) refl refl in omega arith
 
-  lane_most : (l : Lane) → Count l ≤ places m w
+  pub lane_most : (l : Lane) → Count l ≤ places m w
   unfolding places
   lane_most (Queue u) = let x = queue_most u in let f = at_most u (slice_get w.vats u) refl in omega arith
   lane_most (Held u p) = let x = name_most u p in let f = at_most u (slice_get w.vats u) refl in omega arith

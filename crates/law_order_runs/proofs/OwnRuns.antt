@@ -181,7 +181,7 @@ module _ (script : Script) (w : World) (v : ℕ) (s : Vat Name) (there : slice_g
   unfolding names
   held_made n k m e a = let known = found_all (draw_word script.key) v (KnownOk (IsMade w.vats w.drawn)) s.known n k made e in (all_among (MessageOk (IsMade w.vats w.drawn)) k.held m known.2 a).0
 
-  numbered : (x : Msg) → IsMessageMade w.vats (Sent x) → x.sender ≡ v → suc x.number ≤ s.messages
+  pub numbered : (x : Msg) → IsMessageMade w.vats (Sent x) → x.sender ≡ v → suc x.number ≤ s.messages
   numbered x h e = let less : suc x.number ≤ messages_of w.vats v = subst (λ u. suc x.number ≤ messages_of w.vats u) e h in subst (λ c. suc x.number ≤ c) (own_messages script v w s there made) less
 
   held_new : (n : Name) (k : Known Name) (m : Message Name) → entry_of (names script v) s.known n ≡ Some k → IsAmong m k.held

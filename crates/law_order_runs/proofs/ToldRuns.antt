@@ -53,13 +53,13 @@ get_or (suc v) t (x ∷ xs) (suc u) q e = go (get_or v t xs u q e)
 
 module _ (script : Script) where
   -- the note of vat u tells truly
-  abbrev NoteTrue : List (Vat Name) → ℕ → Note Name → Type 0
+  abbrev pub NoteTrue : List (Vat Name) → ℕ → Note Name → Type 0
   NoteTrue vats u n = (t : Vat Name) × (slice_get vats u ≡ Some t) × TellsTruly script u t.known n
 
   abbrev LinkTrue : List (Vat Name) → Link → Type 0
   LinkTrue vats l = AllOf (NoteTrue vats l.from) l.notes
 
-  abbrev Holds : World → Type 0
+  abbrev pub Holds : World → Type 0
   Holds w = AllOf (LinkTrue w.vats) w.links
 
   -- ---- a vat goes on
@@ -216,10 +216,10 @@ module _ (script : Script) where
   unfolding world.begins
   begins_holds = links_from_true (world.fresh_from script zero script.vats) script.vats zero script.vats
 
-  reached_holds : (w : World) → IsReached script w → Holds w
+  pub reached_holds : (w : World) → IsReached script w → Holds w
   reached_holds w r = lifted script Nobody AnyNotice NoDeed NoWord Holds begins_holds (λ x y q h m. moved_holds x y h (moves_told script Nobody AnyNotice NoDeed NoWord x y m)) w r
 
-  note_in : (w : World) (u v : ℕ) (l : Link) (n : Note Name) → Holds w → world.link_at u v w.links ≡ Some l → IsAmong n l.notes → NoteTrue w.vats u n
+  pub note_in : (w : World) (u v : ℕ) (l : Link) (n : Note Name) → Holds w → world.link_at u v w.links ≡ Some l → IsAmong n l.notes → NoteTrue w.vats u n
   note_in w u v l n h e a = subst (λ x. NoteTrue w.vats x n) (link_found u v w.links l e).0 (all_among (NoteTrue w.vats l.from) l.notes n (link_all (LinkTrue w.vats) u v w.links l h e) a)
 
   -- ---- an object of that vat

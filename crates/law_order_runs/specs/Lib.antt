@@ -1,4 +1,5 @@
 pub mod Beginnings
+pub mod Carrying
 pub mod Once
 pub mod Owning
 pub mod Telling

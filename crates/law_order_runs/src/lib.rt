@@ -1,6 +1,7 @@
-//! What the laws of order ask of states, in every world of a run.
+//! What the laws of order ask of states, in every world of a run, and steps of runs that keep order.
 #![tactic(auto)]
 
 pub mod beginning;
+pub mod carrying;
 pub mod owning;
 pub mod telling;

@@ -156,7 +156,7 @@ own_spot v i = ap (λ b. elim b [ true ↦ Own i | false ↦ Foreign v ]) (eq-eq
 object_below : (spot : Spot) (n i j : ℕ) → i < n → spot ≡ Own i → spot ≡ Own j → j < n
 object_below spot n i j l e f = let g : i ≡ j = own_is i j (sym e ∙ f) in omega arith
 
-named_counted : (word : ℕ → ℕ) (v : ℕ) → Counted (naming word v) (There (naming word v))
+pub named_counted : (word : ℕ → ℕ) (v : ℕ) → Counted (naming word v) (There (naming word v))
 unfolding naming spot_of name_of answer_of mail_of
 named_counted word v = record {
   up = there_up (naming word v);

@@ -1,8 +1,6 @@
-//! Tests of what vats exchange: operations and their bytes, tables, gifts, links, queues, and the lines that tell of them.
+//! Tests of what vats exchange: operations and their bytes, gifts, and links.
 #![tactic(auto)]
 
-#[cfg(test)]
-mod event;
 #[cfg(test)]
 mod frames;
 #[cfg(test)]
@@ -10,8 +8,4 @@ mod intro;
 #[cfg(test)]
 mod link;
 #[cfg(test)]
-mod queue;
-#[cfg(test)]
 mod rows;
-#[cfg(test)]
-mod tables;

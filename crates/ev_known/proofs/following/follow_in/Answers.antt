@@ -1,10 +1,23 @@
-use Rattle.std.proofs.Common.{◌≡◌, ◌+◌, arith, length, ap, sym, ◌∙◌}
-use Rattle.ev_known.proofs.Walking.{walking_step, walking_back, walking_there, longer}
+use Rattle.std.proofs.Common.{◌≡◌, ◌+◌, arith, length, List, Option, Some, None, ap, subst, sym, ◌∙◌}
+use Rattle.ev_links.specs.declared.label.Label.{Label}
+use Rattle.ev_known.specs.Following.{StridesTo}
+use Rattle.ev_known.proofs.Walking.{Walking, walking_init, walking_step, walking_back, walking_end, walking_there, longer}
 use Rattle.ev_known.proofs.following.follow_in.Goals as goal
 
+pub loop-seen-init : goal.loop-seen-init
+loop-seen-init c h =
+    subst (λ (ls : List Label). Walking c.args.settled.now c.args.viewed.now c.args.at c.args.name ls c.args.name) (sym c.new-seen.ensures)
+    (walking_init c.args.settled.now c.args.viewed.now c.args.at c.args.name)
+
 pub returns-then-has : goal.returns-then-has
-returns-then-has c =
-    walking_back c.args.settled.now c.args.viewed.now c.args.at c.args.name c.loop-seen.seen c.loop-seen.current c.loop-seen.invariant (sym c.has.ensures ∙ c.if-has.true)
+returns-then-has c h =
+    walking_back c.args.settled.now c.args.viewed.now c.args.at c.args.name c.loop-seen.seen c.loop-seen.current (c.loop-seen.invariant h) (sym c.has.ensures ∙ c.if-has.true)
+
+pub returns-in_default : goal.returns-in_default
+returns-in_default c h =
+    walking_end c.args.settled.now c.args.viewed.now c.args.at c.args.name c.loop-seen.seen c.loop-seen.current (c.loop-seen.invariant h) (sym c.is_object.ensures ∙ c.loop-seen-test.true)
+    (subst (StridesTo c.args.settled.now c.args.viewed.now c.args.at c.loop-seen.current) c.in_default.is
+    (c.stride.ensures (sym c.is_object.ensures ∙ c.loop-seen-test.true) h))
 
 pub loop-seen-smaller : goal.loop-seen-smaller
 loop-seen-smaller c =
@@ -13,10 +26,12 @@ loop-seen-smaller c =
     omega (arith, c.len-count.ensures)
 
 pub loop-seen-preserved : goal.loop-seen-preserved
-loop-seen-preserved c =
-    walking_step c.args.settled.now c.args.viewed.now c.args.at c.args.name c.loop-seen.seen c.add.new.self c.loop-seen.current c.in-Some.next c.loop-seen.invariant
-    (sym c.is_object.ensures ∙ c.loop-seen-test.true) c.in_ok-add.ensures (sym c.in-Some.ensures)
+loop-seen-preserved c h =
+    walking_step c.args.settled.now c.args.viewed.now c.args.at c.args.name c.loop-seen.seen c.add.new.self c.loop-seen.current c.in-Some.next (c.loop-seen.invariant h)
+    c.in_ok-add.ensures
+    (subst (StridesTo c.args.settled.now c.args.viewed.now c.args.at c.loop-seen.current) c.in-Some.is
+    (c.stride.ensures (sym c.is_object.ensures ∙ c.loop-seen-test.true) h))
 
 pub returns : goal.returns
-returns c =
-    walking_there c.args.settled.now c.args.viewed.now c.args.at c.args.name c.loop-seen.seen c.loop-seen.current c.loop-seen.invariant (sym c.is_object.ensures ∙ c.loop-seen-test.false)
+returns c h =
+    walking_there c.args.settled.now c.args.viewed.now c.args.at c.args.name c.loop-seen.seen c.loop-seen.current (c.loop-seen.invariant h) (sym c.is_object.ensures ∙ c.loop-seen-test.false)

@@ -1,8 +1,8 @@
 use Rattle.std.proofs.Common.{[], ◌∷◌, sym, ap, subst, ◌∙◌}
 use Rattle.def_event.specs.declared.event.Event.{Event}
 use Rattle.def_trace.specs.Uses.{AName, Settled, leads}
-use Rattle.ev_known.specs.declared.label.Label.{Label}
-use Rattle.ev_known.specs.declared.links.Way.TheVariants.{Settled as Settling}
+use Rattle.ev_links.specs.declared.label.Label.{Label}
+use Rattle.ev_links.specs.declared.links.Way.TheVariants.{Settled as Settling}
 use Rattle.ev_known.specs.Leads.{AddsLeads}
 use Rattle.ev_known.proofs.Leading.{led_added}
 use Rattle.ev_known.proofs.leads.tell_event.Goals as goal

@@ -1,5 +1,5 @@
 use Rattle.std.proofs.Common.{◌≡◌, true, false, Some, sym, ap, ◌∙◌}
-use Rattle.ev_known.specs.declared.label.Label.{Label}
+use Rattle.ev_links.specs.declared.label.Label.{Label}
 use Rattle.ev_uses_calls.proofs.Deciding.{made_decides, name_decides}
 use Rattle.ev_uses_calls.proofs.using.is_name_known.Goals as goal
 

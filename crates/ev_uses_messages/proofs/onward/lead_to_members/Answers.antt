@@ -1,6 +1,6 @@
 use Rattle.std.proofs.Common.{length, refl}
 use Rattle.std.proofs.lemmas.Option.{slice_get_read}
-use Rattle.ev_known.specs.declared.links.Way.TheVariants.{Listed}
+use Rattle.ev_links.specs.declared.links.Way.TheVariants.{Listed}
 use Rattle.ev_uses_messages.proofs.Leading.{next_led}
 use Rattle.ev_uses_messages.proofs.onward.lead_to_members.Goals as goal
 

@@ -1,8 +1,8 @@
 -- The members so far.
 use Rattle.std.proofs.Common.{map, take}
 use Rattle.def_trace.specs.Uses.{things}
-use Rattle.ev_known.specs.Label.{label}
-use Rattle.ev_known.specs.declared.links.Way.TheVariants.{Listed}
+use Rattle.ev_links.specs.Label.{label}
+use Rattle.ev_links.specs.declared.links.Way.TheVariants.{Listed}
 use Rattle.ev_uses_messages.specs.Onward.{LeadsTo}
 use Rattle.ev_uses_messages.proofs.onward.lead_to_members.Given as goal
 

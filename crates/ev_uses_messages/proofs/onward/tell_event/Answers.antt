@@ -1,8 +1,8 @@
 use Rattle.std.proofs.Common.{◌∷◌, [], sym, subst, refl}
 use Rattle.def_event.specs.declared.event.Event.{Event}
 use Rattle.def_trace.specs.Uses.{AName, Settled, leads}
-use Rattle.ev_known.specs.declared.label.Label.{Label}
-use Rattle.ev_known.specs.declared.links.Way.TheVariants.{Settled as Settling}
+use Rattle.ev_links.specs.declared.label.Label.{Label}
+use Rattle.ev_links.specs.declared.links.Way.TheVariants.{Settled as Settling}
 use Rattle.ev_uses_messages.specs.Onward.{AddsOnward, LeadsTo}
 use Rattle.ev_uses_messages.proofs.Leading.{leads_onward}
 use Rattle.ev_uses_messages.proofs.onward.tell_event.Goals as goal

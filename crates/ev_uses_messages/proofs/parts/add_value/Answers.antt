@@ -1,6 +1,6 @@
 use Rattle.std.proofs.Common.{List, subst}
 use Rattle.def_trace.specs.Uses.{all_parts}
-use Rattle.ev_known.specs.declared.label.Label.{Label}
+use Rattle.ev_links.specs.declared.label.Label.{Label}
 use Rattle.ev_uses_messages.specs.Lines.{AddsThings}
 use Rattle.ev_uses_messages.proofs.Adding.{members_added}
 use Rattle.ev_uses_messages.proofs.parts.add_value.Goals as goal

@@ -1,9 +1,9 @@
 use Rattle.std.proofs.Common.{◌≡◌, true, subst}
 use Rattle.std.specs.Bool.{Decides}
 use Rattle.std.proofs.lemmas.Slice.Eq.{slice_eq-Decides}
-use Rattle.ev_known.specs.declared.label.Label.{Label}
-use Rattle.ev_known.specs.contracts.label.LabelPartialEq.TheImpl.{eq-value}
-use Rattle.ev_known.proofs.Spreading.{exact_label}
+use Rattle.ev_links.specs.declared.label.Label.{Label}
+use Rattle.ev_links.specs.contracts.label.LabelPartialEq.TheImpl.{eq-value}
+use Rattle.ev_links.proofs.Spreading.{exact_label}
 use Rattle.ev_uses_messages.proofs.sought.are_same.Goals as goal
 
 label_decides : (a b : Label) → Decides (eq-value.it a b) (a ≡ b)

@@ -1,8 +1,8 @@
 use Rattle.std.proofs.Common.{◌≡◌, ℕ, List, [], Option, Some, None, false, true, refl, sym, ap, subst, ◌∙◌}
 use Rattle.def_trace.specs.Uses as uses
 use Rattle.def_trace.specs.Uses.{AName}
-use Rattle.ev_known.specs.declared.label.Label.{Label}
-use Rattle.ev_known.specs.Links.{with_label}
+use Rattle.ev_links.specs.declared.label.Label.{Label}
+use Rattle.ev_links.specs.Links.{with_label}
 use Rattle.ev_known.specs.Knowing.{Searched}
 use Rattle.ev_known.proofs.Knowing.{found_known, had_known, none_known_of}
 use Rattle.ev_known.proofs.knowledge.Knowledge.knows.Goals as goal

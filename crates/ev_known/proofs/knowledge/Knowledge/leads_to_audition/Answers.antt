@@ -1,7 +1,7 @@
 use Rattle.std.proofs.Common.{◌≡◌, true, false, List, sym, ap, subst, ◌∙◌}
 use Rattle.ev_known.specs.declared.facts.Fact.{Fact}
 use Rattle.ev_known.specs.declared.facts.Fact.TheVariants.{Audition}
-use Rattle.ev_known.specs.declared.label.Label.{Label}
+use Rattle.ev_links.specs.declared.label.Label.{Label}
 use Rattle.ev_known.specs.Following.{FollowedAs, Tables, TablesStand}
 use Rattle.ev_known.specs.Knowing.{Known}
 use Rattle.ev_known.specs.Telling.{is_told}

@@ -1,6 +1,6 @@
 use Rattle.std.proofs.Common.{◌≡◌, ◌≤◌, length, sym, ap, ◌∙◌, arith}
-use Rattle.ev_known.specs.declared.links.Scope.TheVariants.{Place}
-use Rattle.ev_known.specs.Links.{row, with_others}
+use Rattle.ev_links.specs.declared.links.Scope.TheVariants.{Place}
+use Rattle.ev_links.specs.Links.{row, with_others}
 use Rattle.ev_known.specs.Knowing.{Known}
 use Rattle.ev_known.proofs.Going.{going_done, going_found, going_init, going_step}
 use Rattle.ev_known.proofs.knowledge.Knowledge.search.Goals as goal

@@ -1,0 +1,15 @@
+use Rattle.std.proofs.Common.{subst}
+use Rattle.def_trace.specs.Uses.{IsAmong}
+use Rattle.ev_known.specs.declared.facts.Fact.{Fact}
+use Rattle.ev_known.proofs.Marking.{captured_held, given_held}
+use Rattle.ev_known.proofs.marks.Marks.tell_fact.Goals as goal
+
+pub returns-in_ok-mark-in-Given : goal.returns-in_ok-mark-in-Given
+returns-in_ok-mark-in-Given c past s i m =
+    c.in_ok-mark-in-Given.ensures past
+    (given_held c.args.facts.now past c.in-Given.activation c.in-Given.label s (subst (λ (f : Fact). IsAmong f c.args.facts.now) c.in-Given.is i)) m
+
+pub returns-in_ok-mark-in-Captured : goal.returns-in_ok-mark-in-Captured
+returns-in_ok-mark-in-Captured c past s i m =
+    c.in_ok-mark-in-Captured.ensures past
+    (captured_held c.args.facts.now past c.in-Captured.object c.in-Captured.label s (subst (λ (f : Fact). IsAmong f c.args.facts.now) c.in-Captured.is i)) m

@@ -1,0 +1,42 @@
+-- From where on activations and objects have chains, in the terms of a table.
+use Rattle.std.specs.Prelude.{◌≡◌, ℕ, Bool, false, cond, nat_le, List, Option, Some, None}
+use Rattle.std.specs.Map.{lookup}
+use Rattle.ev_base.specs.declared.names.Name.{Name}
+use Rattle.def_trace.specs.Uses as uses
+use Rattle.def_trace.specs.Uses.{AName, IsTold, Line, Thing}
+use Rattle.ev_links.specs.declared.chains.Standing.{Standing}
+use Rattle.ev_links.specs.declared.label.Label.{Label}
+use Rattle.ev_links.specs.Chains.{PlanTables, standing}
+use Rattle.ev_links.specs.Label.{label}
+use Rattle.ev_known.specs.declared.marks.Holder.{Holder}
+use Rattle.ev_known.specs.declared.marks.Holder.TheVariants as holder
+use Rattle.ev_known.specs.declared.marks.Mark.{Mark}
+use Rattle.ev_known.specs.contracts.marks.MarkPartialEq.TheImpl.{eq-value}
+
+-- the place that is marked
+unfoldable pub mark_at : List (Mark × ℕ) → Mark → Option ℕ
+mark_at es m = lookup (eq-value.it m) es
+
+abbrev pub PutsMark : Mark → ℕ → List (Mark × ℕ) → List (Mark × ℕ) → Type 0
+PutsMark m i old new = (q : Mark) → mark_at new q ≡ cond (eq-value.it m q) (Some i) (mark_at old q)
+
+-- what an activation was given, or an object captured
+abbrev pub Held : List Line → Holder → Thing → Type 0
+Held past (holder.Activation a) t = IsTold past (uses.Given (record { at = a.at; number = a.number }) t)
+Held past (holder.Object o) t = (n : Name) → label (AName n) ≡ o → IsTold past (uses.Captured n t)
+
+abbrev pub HeldAs : List Line → Holder → Label → Type 0
+HeldAs past h l = (t : Thing) → label t ≡ l → Held past h t
+
+-- at each place that is marked something stands that is held
+pub record MarksStand (es : List (Mark × ℕ)) (plan : PlanTables) (past : List Line) : Type 0 where
+  pub each : (h : Holder) (at : ℕ) (chain : Label) (i : ℕ) → mark_at es (record { holder = h; chain = record { at = at; name = chain } }) ≡ Some i
+      → (l : Label) × (standing plan.standings (record { at = at; name = l }) ≡ Some (record { chain = chain; place = i })) × HeldAs past h l
+
+abbrev pub is_from : Option ℕ → ℕ → Bool
+is_from None n = false
+is_from (Some i) n = nat_le i n
+
+-- whether something stands there or before that is held
+abbrev pub is_marked : List (Mark × ℕ) → Holder → ℕ → Standing → Bool
+is_marked es h at x = is_from (mark_at es (record { holder = h; chain = record { at = at; name = x.chain } })) x.place

@@ -1,0 +1,163 @@
+//! From where on activations and objects have the chains in which what they hold stands.
+
+ghost use Rattle.std.specs.Prelude.{◌≡◌, ◌<◌, [], List, Some, IsTrue, OnOk, length, nat_le, slice_get};
+ghost use Rattle.def_trace.specs.Uses.{IsAmong, Line};
+ghost use Rattle.ev_known.specs.Marks.{HeldAs, MarksStand, PutsMark, is_from, is_marked, mark_at};
+ghost use Rattle.ev_known.specs.Telling.{StandsFor};
+
+use crate::facts::{Activation, Fact, Facts};
+use crate::following::Following;
+use ev_base::Memory;
+use ev_links::{Label, Spot, Standing};
+use indexmap::IndexMap;
+use std::alloc::Global;
+use std::marker::Model;
+
+/// Who has things.
+#[derive(Clone, Copy, PartialEq, Eq, Hash)]
+pub enum Holder {
+    /// An activation, which was given them.
+    Activation(Activation),
+    /// An object, which captured them.
+    Object(Label),
+}
+
+/// A holder, and a chain of names, by its place and its first name.
+#[derive(Clone, Copy, PartialEq, Eq, Hash)]
+pub struct Mark {
+    pub holder: Holder,
+    pub chain: Spot,
+}
+
+/// Where the first name stands in a chain that its holder has. Contracts see each with its holder and its chain.
+#[derive(Drop)]
+pub struct Marks {
+    places: IndexMap<Mark, u64>,
+}
+
+impl Model for Marks {
+    ghost use Rattle.std.specs.Prelude.{List, ℕ};
+    ghost use Rattle.ev_known.specs.declared.marks.Mark.{Mark};
+
+    ghost Value = { List (Mark × ℕ) };
+
+    ghost view = { λ m. m.places.entries };
+}
+
+/// The place that is marked.
+#[tactic(auto, unfolding(crate::specs::Marks::mark_at))]
+fn find_in(places: &IndexMap<Mark, u64>, mark: Mark) -> Option<u64>
+    ensures { result ≡ mark_at places.now.entries mark }
+{
+    places.get(&mark).copied()
+}
+
+/// Marks a place.
+#[tactic(auto, unfolding(crate::specs::Marks::mark_at))]
+fn put_in(places: &mut IndexMap<Mark, u64>, mark: Mark, place: u64) -> Result<(), Memory>
+    ensures { OnOk result (PutsMark mark place places.old.entries places.new.entries) }
+{
+    places.insert(mark, place)?;
+    Ok(())
+}
+
+/// Whether a place is marked, and no other one comes before it.
+fn is_from(first: Option<u64>, place: u64) -> bool
+    ensures { result ≡ is_from first place }
+{
+    match first {
+        Some(first) => first <= place,
+        None => false,
+    }
+}
+
+impl Marks {
+    /// Nothing is marked. It takes no memory.
+    pub fn new(alloc: Global) -> Marks
+        ensures { result ≡ [] }
+    {
+        Marks {
+            places: IndexMap::new(alloc),
+        }
+    }
+
+    /// The place that is marked.
+    fn find(&self, mark: Mark) -> Option<u64>
+        ensures { result ≡ mark_at self.now mark }
+    {
+        find_in(&self.places, mark)
+    }
+
+    /// Marks a place.
+    fn put(&mut self, mark: Mark, place: u64) -> Result<(), Memory>
+        ensures { OnOk result (PutsMark mark place self.old self.new) }
+    {
+        put_in(&mut self.places, mark, place)
+    }
+
+    /// Whether the holder has something that stands there, or before that in the same chain.
+    pub fn is_marked(&self, holder: Holder, at: u64, standing: Standing) -> bool
+        ensures { result ≡ is_marked self.now holder at standing }
+    {
+        let name = standing.chain;
+        let chain = Spot { at, name };
+        is_from(self.find(Mark { holder, chain }), standing.place)
+    }
+
+    /// A holder has something at a place, which may stand in a chain there.
+    fn mark(
+        &mut self,
+        following: &Following,
+        holder: Holder,
+        at: u64,
+        label: Label,
+    ) -> Result<(), Memory>
+        ensures { (past : List Line) → HeldAs past holder label → MarksStand self.old following.now.plan past → OnOk result (MarksStand self.new following.now.plan past) }
+    {
+        let Some(standing) = following.standing(at, label) else {
+            return Ok(());
+        };
+        if self.is_marked(holder, at, standing) {
+            return Ok(());
+        }
+        let name = standing.chain;
+        let chain = Spot { at, name };
+        self.put(Mark { holder, chain }, standing.place)?;
+        Ok(())
+    }
+
+    /// A fact may tell what an activation was given, or what an object captured. The code of an object runs at the place of its vat.
+    fn tell_fact(&mut self, following: &Following, facts: &Facts, fact: Fact) -> Result<(), Memory>
+        ensures { (past : List Line) → StandsFor facts.now past → IsAmong fact facts.now → MarksStand self.old following.now.plan past → OnOk result (MarksStand self.new following.now.plan past) }
+    {
+        match fact {
+            Fact::Given(activation, label) => {
+                let holder = Holder::Activation(activation);
+                self.mark(following, holder, activation.at, label)?;
+                Ok(())
+            }
+            Fact::Captured(object, label) => {
+                let at = u64::from(object.host) + 1;
+                self.mark(following, Holder::Object(object), at, label)?;
+                Ok(())
+            }
+            _ => Ok(()),
+        }
+    }
+
+    /// The facts from that one on are told.
+    pub fn tell_from(
+        &mut self,
+        following: &Following,
+        facts: &Facts,
+        first: usize,
+    ) -> Result<(), Memory>
+        ensures { (past : List Line) → StandsFor facts.now past → MarksStand self.old following.now.plan past → OnOk result (MarksStand self.new following.now.plan past) }
+    {
+        for index in first..facts.len() {
+            let fact = facts.at(index);
+            self.tell_fact(following, facts, fact)?;
+        }
+        Ok(())
+    }
+}

@@ -1,0 +1,3 @@
+pub mod Among
+pub mod Spreading
+pub mod Chaining

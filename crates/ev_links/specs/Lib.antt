@@ -1,0 +1,3 @@
+pub mod Label
+pub mod Links
+pub mod Chains

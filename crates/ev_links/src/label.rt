@@ -1,0 +1,80 @@
+//! Names and lists as keys of tables.
+
+ghost use Rattle.std.specs.Prelude.{◌≡◌};
+ghost use Rattle.def_trace.specs.Uses.{AList, AName};
+ghost use Rattle.ev_links.specs.Label.{label};
+
+use ev_base::{Name, VatId};
+
+/// What a label stands for.
+#[derive(Clone, Copy, PartialEq, Eq, Hash)]
+pub enum Kind {
+    Object,
+    Own,
+    Answer,
+    Gift,
+    Root,
+    List,
+}
+
+/// A name or a list, by its parts: the vat before its mark, the vat that sent the message of an answer, and its number.
+/// What a kind has not is 0.
+#[derive(Clone, Copy, PartialEq, Eq, Hash)]
+pub struct Label {
+    pub kind: Kind,
+    pub host: u8,
+    pub sender: u8,
+    pub number: u64,
+}
+
+/// The label of a name.
+#[tactic(auto, unfolding(crate::specs::Label::label))]
+pub fn name_label(name: &Name) -> Label
+    ensures { result ≡ label (AName name.now) }
+{
+    match name {
+        Name::Object(vat, number) => Label {
+            kind: Kind::Object,
+            host: vat.0,
+            sender: 0,
+            number: *number,
+        },
+        Name::Own(vat, number) => Label {
+            kind: Kind::Own,
+            host: vat.0,
+            sender: 0,
+            number: *number,
+        },
+        Name::Answer(vat, message) => Label {
+            kind: Kind::Answer,
+            host: vat.0,
+            sender: message.sender.0,
+            number: message.number,
+        },
+        Name::Gift(vat, number) => Label {
+            kind: Kind::Gift,
+            host: vat.0,
+            sender: 0,
+            number: *number,
+        },
+        Name::Root(vat) => Label {
+            kind: Kind::Root,
+            host: vat.0,
+            sender: 0,
+            number: 0,
+        },
+    }
+}
+
+/// The label of a list, by its vat and its number there.
+#[tactic(auto, unfolding(crate::specs::Label::label))]
+pub fn list_label(vat: &VatId, number: u64) -> Label
+    ensures { result ≡ label (AList vat.now number) }
+{
+    Label {
+        kind: Kind::List,
+        host: vat.0,
+        sender: 0,
+        number,
+    }
+}

@@ -1,0 +1,10 @@
+pub mod Fitting
+pub mod Rows
+pub mod Sorts
+pub mod Moves
+pub mod Spelled
+pub mod Parts
+pub mod Literals
+pub mod Forms
+pub mod Arena
+pub mod Texts

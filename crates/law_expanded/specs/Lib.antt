@@ -1,0 +1,4 @@
+pub mod Shapes
+pub mod Fitting
+pub mod Laws
+pub mod Expansions

@@ -1,0 +1,122 @@
+-- In every run the first note of a link that bears a message names nothing that its receiver makes as it takes it, and its receiver is ready.
+use Rattle.std.proofs.Common.{◌≡◌, ℕ, zero, suc, ◌+◌, ◌≤◌, Bool, true, false, List, ◌∷◌, refl, sym, ap, subst, ◌∙◌, ◌⊎◌, inl, inr, arith}
+use Rattle.def_machine.specs.Values.{Words, Value, Null, Flag, Number, Letter, Text, Prim, Broken, Items, Ref, Name, Root, Object, Promise, Answer, Gift, Sent, Msg, Naming}
+use Rattle.def_machine.specs.State.{Passed, Passeds, Plain, AGift, Many, NoMore, More, Delivery, Note, Deliver, Vat}
+use Rattle.def_run.specs.World.{Script, Entry, World, Goes, begins, open_from, steps_from, names}
+use Rattle.law_run.proofs.Honest.{honest_reached}
+use Rattle.law_name.specs.Names.{AllOf, IsAmong, IsKnownIn, IsMade, IsMessageMade, WasMade, ValueOk, PassedOk, PassedsOk, NoteOk, KnownOk, messages_of, promises_of, names_in}
+use Rattle.law_name.specs.Runs.{KnowsOnce}
+use Rattle.law_name.proofs.Laws.{names_made, notes_made}
+use Rattle.law_fate.specs.Fate.{one, total, in_note, of_note, on_link}
+use Rattle.law_reference.specs.Behind.{Avoids, NamesNot, ComesFirst, IsKnownTo}
+use Rattle.law_reference.proofs.FollowRuns.{answers_follow_messages, notes_name_what_is_known}
+use Rattle.law_reference.proofs.OnceLaws.{messages_come_before_answers}
+use Rattle.law_reference.proofs.VatStep.{link_all}
+use Rattle.law_order_carries.specs.Carries.{IsNotNext, ValueNotNext, PassedNotNext, AllNotNext, CanCarry}
+use Rattle.law_order_runs.specs.Carrying.{GiftsLive, AllGiftsLive, BearsLive}
+use Rattle.law_order_runs.proofs.Beginnings.{none_found, own_messages, own_promises, vats_are_ready}
+use Rattle.law_order_runs.proofs.Once.{itself}
+use Rattle.law_order_runs.proofs.OwnRuns.{numbered}
+use Rattle.law_order_runs.proofs.ToldRuns.{NoteTrue, reached_holds, note_in}
+
+not_both : (c : Bool) → c ≡ true → c ≡ false → ⊥
+not_both c e f = cc
+
+module _ (script : Script) (once : KnowsOnce script) (w x : World) (es : List Entry) (k : ℕ) (o : open_from script zero script.vats (begins script) ≡ Goes w) (e : steps_from script es k w ≡ Goes x)
+    (honest : ℕ → Bool) (a b : ℕ) (d : Delivery Name) (n : Name) (verb : Words) (ys : Passeds Name) (c : BearsLive script honest x a b d n verb ys) where
+  abbrev K : Naming Name Name
+  K = names script b
+
+  abbrev D : Note Name
+  D = Deliver d n verb ys
+
+  made : NoteOk (IsMade x.vats x.drawn) D
+  made = (subst (λ ns. AllOf (NoteOk (IsMade x.vats x.drawn)) ns) c.borne.first (link_all (λ l. AllOf (NoteOk (IsMade x.vats x.drawn)) l.notes) a b x.links c.borne.link ((notes_made script once).1 w x es k o e) c.borne.found)).0
+
+  known_made : AllOf (KnownOk (IsMade x.vats x.drawn)) c.borne.vat.known
+  known_made = ((names_made script once).1 w x es k o e b c.borne.vat c.borne.there).known
+
+  -- whose note it is
+  from : NoteTrue script x.vats a D
+  from = note_in script x a b c.borne.link D (reached_holds script x ((honest_reached script).1 w x es k o e)) c.borne.found (subst (λ ns. IsAmong D ns) (sym c.borne.first) (inl refl))
+
+  abbrev Sender : Vat Name
+  Sender = from.0
+
+  known : NoteOk (IsKnownTo Sender) D
+  known = (subst (λ ns. AllOf (NoteOk (IsKnownTo Sender)) ns) c.borne.first ((notes_name_what_is_known script once).1 w x es k o e a b Sender c.borne.link from.1 c.borne.found)).0
+
+  message_of : (z : Name) → d.message ≡ z → IsMessageMade x.vats z → (m : Msg) × (d.message ≡ Sent m) × IsMessageMade x.vats (Sent m)
+  message_of (Sent m) f h = (m, f, h)
+  message_of (Root u) f h = absurd h
+  message_of (Object u i) f h = absurd h
+  message_of (Promise u i) f h = absurd h
+  message_of (Answer u i) f h = absurd h
+  message_of (Gift u i) f h = absurd h
+
+  module _ (m : Msg) (named : d.message ≡ Sent m) (sent : IsMessageMade x.vats (Sent m)) where
+    bears : 1 ≤ on_link (Sent m) c.borne.link
+    unfolding on_link total of_note in_note
+    bears = let here : one d.message (Sent m) ≡ 1 = ap (λ z. one z (Sent m)) named ∙ itself (Sent m) in
+        let whole : total (of_note (Sent m)) c.borne.link.notes ≡ one d.message (Sent m) + total (of_note (Sent m)) c.borne.rest = ap (λ ns. total (of_note (Sent m)) ns) c.borne.first in omega arith
+
+    -- the receiver does not know its answer
+    not_known : IsAmong (Answer b m) (names_in c.borne.vat.known) → ⊥
+    not_known h = let few = (messages_come_before_answers script once).1 w x es k o e a b m c.borne.vat c.borne.link c.borne.there c.borne.found h in let some = bears in omega arith
+
+    first_avoids : ComesFirst m (Answer b m) (D ∷ c.borne.rest) → NamesNot (Answer b m) D
+    first_avoids (inl h) = h.2
+    first_avoids (inr h) = h.0
+
+    -- and where the sender does, the note does not name it
+    avoids : IsAmong (Answer b m) (names_in Sender.known) → NamesNot (Answer b m) D
+    avoids h = go ((answers_follow_messages script once).1 w x es k o e a b m Sender c.borne.vat c.borne.link from.1 c.borne.there c.borne.found h)
+      where
+        go : IsAmong (Answer b m) (names_in c.borne.vat.known) ⊎ ((c.borne.link.cut ≡ true) ⊎ ComesFirst m (Answer b m) c.borne.link.notes) → NamesNot (Answer b m) D
+        go (inl i) = absurd (not_known i)
+        go (inr (inl i)) = absurd (not_both c.borne.link.cut i c.borne.uncut)
+        go (inr (inr i)) = first_avoids (subst (ComesFirst m (Answer b m)) c.borne.first i)
+
+    name_next : (z : Name) → WasMade x.vats x.drawn z → IsKnownIn (names_in Sender.known) z → (IsAmong (Answer b m) (names_in Sender.known) → z ≡ Answer b m → ⊥) → IsNotNext b c.borne.vat (Answer b m) z
+    name_next z p q f = (
+      λ i. f (subst (IsKnownIn (names_in Sender.known)) i q) i,
+      λ u i. subst (WasMade x.vats x.drawn) i p,
+      λ h j l i. let less : suc j ≤ messages_of x.vats b = subst (WasMade x.vats x.drawn) i p in let own = own_messages script b x c.borne.vat c.borne.there known_made in omega arith,
+      λ j l i. let less : suc j ≤ promises_of x.vats b = subst (WasMade x.vats x.drawn) i p in let own = own_promises script b x c.borne.vat c.borne.there known_made in omega arith,
+    )
+
+    value_next : (y : Value Name) → ValueOk (IsMade x.vats x.drawn) y → ValueOk (IsKnownTo Sender) y → (IsAmong (Answer b m) (names_in Sender.known) → ValueOk (Avoids (Answer b m)) y) → ValueNotNext b c.borne.vat (Answer b m) y
+    value_next (Ref z) p q f = name_next z p q f
+    value_next Null p q f = tt
+    value_next (Flag t) p q f = tt
+    value_next (Number z) p q f = tt
+    value_next (Letter l) p q f = tt
+    value_next (Text t) p q f = tt
+    value_next (Prim i) p q f = tt
+    value_next (Broken t) p q f = tt
+    value_next (Items i) p q f = tt
+
+    mutual
+      passed_next : (y : Passed Name) → PassedOk (IsMade x.vats x.drawn) y → PassedOk (IsKnownTo Sender) y → (IsAmong (Answer b m) (names_in Sender.known) → PassedOk (Avoids (Answer b m)) y) → GiftsLive c.borne.vat y → PassedNotNext b c.borne.vat (Answer b m) y
+      passed_next (Plain y) p q f g = value_next y p q f
+      passed_next (AGift h i) p q f g = g
+      passed_next (Many zs) p q f g = all_next zs p q f g
+
+      all_next : (zs : Passeds Name) → PassedsOk (IsMade x.vats x.drawn) zs → PassedsOk (IsKnownTo Sender) zs → (IsAmong (Answer b m) (names_in Sender.known) → PassedsOk (Avoids (Answer b m)) zs) → AllGiftsLive c.borne.vat zs → AllNotNext b c.borne.vat (Answer b m) zs
+      all_next NoMore p q f g = tt
+      all_next (More y zs) p q f g = (passed_next y p.0 q.0 (λ i. (f i).0) g.0, all_next zs p.1 q.1 (λ i. (f i).1) g.1)
+
+    can_with : CanCarry script honest x a b d n verb ys
+    can_with = record {
+      borne = c.borne;
+      ready = (vats_are_ready script once).1 w x es k o e honest b c.borne.vat c.borne.vat.queue c.borne.there;
+      message = m;
+      named = named;
+      before = λ i. numbered script x b c.borne.vat c.borne.there known_made m sent i;
+      fresh = none_found script b c.borne.vat.known (Answer b m) not_known;
+      target = name_next n made.1 known.1 (λ h. (avoids h).1);
+      args = all_next ys made.2 known.2 (λ h. (avoids h).2) c.gifts;
+    }
+
+  pub can_carry : CanCarry script honest x a b d n verb ys
+  can_carry = let m = message_of d.message refl made.0 in can_with m.0 m.1 m.2

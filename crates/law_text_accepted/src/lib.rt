@@ -1,0 +1,15 @@
+//! The text of the run of a script that is read tells its history.
+#![tactic(auto)]
+
+ghost use Rattle.law_text_accepted.specs.Accepted.{TextsTellRunsOfAcceptedScripts};
+
+/// Two runs of scripts that are read and have the same vats, which have one text, have histories that
+/// are alike, event by event, and both go to their ends or stop by one line; with frames, where these
+/// are of bytes.
+///
+/// Of the scripts it is asked that the program of each vat is a kernel tree of texts shorter than
+/// 2^64; of the runs, that no vat made 2^64 things by their ends, lists counted with their members,
+/// and that fewer words were drawn.
+pub fn texts_tell_runs_of_accepted_scripts()
+    ensures { TextsTellRunsOfAcceptedScripts }
+{}

@@ -1,0 +1,12 @@
+mod Fine
+mod Texts
+mod Natives
+mod Refs
+mod Arrive
+mod Perform
+mod Calls
+mod Eval
+mod Worlds
+mod Shown
+mod Trees
+pub mod Runs

@@ -1,0 +1,81 @@
+-- The texts of the runs of scripts.
+use Rattle.def_kernel.specs.declared.node.Node.TheVariants.{Lit, Noun, Set, Call, Method, Final, Var}
+use Rattle.def_kernel.specs.declared.node.Node.{Node}
+use Rattle.def_kernel.specs.declared.node.Literal.TheVariants.{Int, Char, Text}
+use Rattle.def_kernel.specs.declared.node.Literal.{Literal}
+use Rattle.std.specs.Prelude.{◌≡◌, ℕ, ◌+◌, ◌<◌, ◌^◌, Some, filter, length, slice_get}
+use Rattle.def_machine.specs.Values.{Name}
+use Rattle.def_machine.specs.State.{Vat}
+use Rattle.def_event.specs.Lines.{is_no_frame}
+use Rattle.def_run.specs.World.{Script, Program, Entry, Turn, Carry, CutLink, NoticeLink, Event, Carried, World, Run, Goes, Stopped, run}
+use Rattle.def_run.specs.Text.{vat_names, history_of, stop_text, text, wire_text}
+use Rattle.law_kernel_form.specs.Trees.{IsTree}
+use Rattle.law_text.specs.Feeds.{AllOf}
+use Rattle.law_text.specs.Values.{AreVats}
+use Rattle.law_text.specs.Parts.{OneForOne, EventsAlike}
+use Rattle.law_text.specs.Runs.{events_of}
+use Rattle.law_text_runs.specs.Fitting.{size}
+
+-- ---- what is asked of a script
+
+-- its entries are of its vats
+abbrev pub IsEntryOf : ℕ → Entry → Type 0
+IsEntryOf many (Turn v) = v < many
+IsEntryOf many (Carry v w) = (v < many) × (w < many)
+IsEntryOf many (CutLink v w) = (v < many) × (w < many)
+IsEntryOf many (NoticeLink v w) = (v < many) × (w < many)
+
+-- its texts are shorter than 2 ^ 64
+abbrev pub IsShortLiteral : Literal → Type 0
+IsShortLiteral (Int z) = Unit {0}
+IsShortLiteral (Char c) = Unit {0}
+IsShortLiteral (Text t) = length t < 2 ^ 64
+
+abbrev pub IsShort : Node → Type 0
+IsShort (Lit l) = IsShortLiteral l
+IsShort (Noun x) = length x < 2 ^ 64
+IsShort (Set x e) = length x < 2 ^ 64
+IsShort (Call r verb args) = length verb < 2 ^ 64
+IsShort (Method verb ps b) = length verb < 2 ^ 64
+IsShort (Final x g) = length x < 2 ^ 64
+IsShort (Var x g) = length x < 2 ^ 64
+IsShort _ = Unit {0}
+
+-- Each program is a kernel tree of texts shorter than 2 ^ 64, of a vat that knows vats of the script; and the entries are of these, and fewer than 2 ^ 64.
+pub record IsOfVats (script : Script) : Type 0 where
+  pub trees : AllOf (λ (p : Program). IsTree p.tree × AllOf IsShort p.tree) script.vats
+  pub knows : AllOf (λ (p : Program). AllOf (λ (v : ℕ). v < length script.vats) p.knows) script.vats
+  pub entries : AllOf (IsEntryOf (length script.vats)) script.schedule
+  pub short : 1 + length script.schedule < 2 ^ 64
+
+-- ---- what is asked of its run
+
+abbrev pub world_of : Run → World
+world_of (Goes w) = w
+world_of (Stopped c k w) = w
+
+-- No vat made 2 ^ 64 things, var slots, lists with their members, activations, messages and promises together, and fewer words were drawn.
+pub record IsBounded (r : Run) : Type 0 where
+  pub made : (v : ℕ) (s : Vat Name) → slice_get (world_of r).vats v ≡ Some s → size s < 2 ^ 64
+  pub drawn : length (world_of r).drawn < 2 ^ 64
+
+-- its frames are of bytes
+abbrev pub IsOfBytes : Event → Type 0
+IsOfBytes (Carried k v w n bytes) = AllOf (λ (b : ℕ). b < 256) bytes
+IsOfBytes _ = Unit {0}
+
+abbrev pub FramesAreBytes : Run → Type 0
+FramesAreBytes r = AllOf IsOfBytes (history_of r)
+
+-- ---- the law
+
+-- If these runs have one text, their histories are alike, event by event, and both go to their ends or stop by one line; with frames too, where these are of bytes.
+abbrev pub TextsTell : Script → Script → Type 0
+TextsTell script other = (FramesAreBytes (run script) → FramesAreBytes (run other) → wire_text script (run script) ≡ wire_text other (run other)
+    → OneForOne EventsAlike (events_of (run script)) (events_of (run other)) × (stop_text (run script) ≡ stop_text (run other)))
+    × (text script (run script) ≡ text other (run other)
+    → OneForOne EventsAlike (filter is_no_frame (events_of (run script))) (filter is_no_frame (events_of (run other))) × (stop_text (run script) ≡ stop_text (run other)))
+
+-- Of two scripts with the same vats a text tells which run it is of.
+abbrev pub TextsTellRunsOfScripts : Type 0
+TextsTellRunsOfScripts = (script other : Script) → vat_names script ≡ vat_names other → AreVats (vat_names script) → IsOfVats script → IsOfVats other → IsBounded (run script) → IsBounded (run other) → TextsTell script other

@@ -1,0 +1,4 @@
+pub mod Fitting
+pub mod Spelled
+pub mod Worlds
+pub mod Laws

@@ -1,0 +1,16 @@
+//! The text of the run of a script tells its history.
+#![tactic(auto)]
+
+ghost use Rattle.law_text_runs.specs.Laws.{TextsTellRunsOfScripts};
+
+/// Two runs of scripts with the same vats that have one text have histories that are alike, event by
+/// event, and both go to their ends or stop by one line. Of texts with frames it is said where the
+/// frames are of bytes; of texts without, of all events but the frames.
+///
+/// The names of the vats differ and are of letters, digits, `_` and what is not ASCII; each program is
+/// a kernel tree of texts shorter than 2^64, of a vat that knows vats of the script, and the entries
+/// are of these and fewer than 2^64. Of the runs it is asked that no vat made 2^64 things by their
+/// ends, lists counted with their members, and that fewer words were drawn.
+pub fn texts_tell_runs_of_scripts()
+    ensures { TextsTellRunsOfScripts }
+{}
