@@ -20,6 +20,7 @@ use ev_intro::Words;
 use ev_nodes::{evaluate, take_message};
 use ev_pass::{Interior, Post};
 use ev_refs::Refs;
+use ev_room::bindings::Nouns;
 use ev_room::exit::Exit;
 use ev_room::scope::{Binding, Bound, NO_GUARD, Scope};
 use ev_told::Micro;
@@ -234,7 +235,10 @@ fn evaluated(
 ) -> Result<Value, Exit>
     ensures outcome { Gives result inside.new (alone (evaluator program.now depth) 0 (record { act = act; nouns = nouns }) inside.old) }
 {
-    let mut here = Scope { act, nouns };
+    let mut here = Scope {
+        act,
+        nouns: Nouns::of(nouns),
+    };
     let value = evaluate(program, depth, NodeId(0), &mut here, inside)?;
     Ok(value)
 }

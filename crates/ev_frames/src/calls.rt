@@ -21,7 +21,7 @@ use ev_eventual::call_resolver;
 use ev_eventual::sending::NOT_NEAR;
 use ev_room::ejector::call_ejector;
 use ev_room::exit::Exit;
-use ev_room::object::{Code, Object, look_code, turned};
+use ev_room::object::{Code, Object, look_code};
 use ev_room::room::{Room, new_activation, tell_call};
 use ev_room::scope::Scope;
 use ev_room::tree::{first_method, members_of};
@@ -135,7 +135,7 @@ fn call_made(
     let begun = activated(here.act, receiver, object, verb, args, room)?;
     let scope = Scope {
         act: begun,
-        nouns: turned(code.nouns),
+        nouns: code.nouns.scope(room.alloc),
     };
     enter_body(scope, frames, here)?;
     let members = members_of(program.nodes(), code.node);

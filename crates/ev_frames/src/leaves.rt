@@ -4,7 +4,7 @@ ghost use Rattle.std.specs.Prelude.{◌≡◌, Some, drop, length, slice_get};
 ghost use Rattle.ev_steps.specs.Steps.{evaluator, gathered, last_of, literal_node, literal_value, noun_node};
 ghost use Rattle.def_kernel.specs.declared.node.Node.TheVariants.{Lit, Noun};
 ghost use Rattle.ev_room.specs.Acts.{Gives, GivesIn};
-ghost use Rattle.ev_frames.specs.Leaves.{Gathers, LeafGives, Passes};
+ghost use Rattle.ev_frames.specs.Leaves.{Gathers, GathersAll, LeafGives, LeavesNodes, Passes, PassesAll};
 ghost use Rattle.ev_room.specs.declared.scope.Scope.{Scope as Surroundings};
 
 use def_kernel::{Kernel, Literal, Node};
@@ -13,7 +13,7 @@ use ev_room::data::text_kept;
 use ev_room::exit::Exit;
 use ev_room::nouns::read_bound;
 use ev_room::room::{Room, spend};
-use ev_room::scope::{Scope, found};
+use ev_room::scope::Scope;
 use ev_room::tree::node_at;
 use ev_steps::pattern::part_at;
 use ev_word::Word;
@@ -44,7 +44,7 @@ pub fn literal_node(literal: &Literal, here: &Scope, room: &mut Room) -> Result<
 pub fn noun_node(noun: &Word, here: &Scope, room: &mut Room) -> Result<Value, Exit>
     ensures outcome { GivesIn result here.now room.new (noun_node noun.now here.now room.old) }
 {
-    let bound = found(here.nouns.as_slice(), noun);
+    let bound = here.nouns.found(noun);
     let value = read_bound(here.act, bound, noun.as_str(), room)?;
     Ok(value)
 }
@@ -99,7 +99,8 @@ fn leaf_in(
     room: &mut Room,
 ) -> Result<Option<Value>, Exit>
     requires { slice_get program.now id ≡ Some node.now }
-    ensures { LeafGives program.now depth id here.now room.old result room.new }
+    ensures gives { LeafGives program.now depth id here.now room.old result room.new }
+    ensures others { LeavesNodes program.now id result }
 {
     match node {
         Node::Lit(literal) => {
@@ -122,7 +123,8 @@ pub fn leaf(
     here: &Scope,
     room: &mut Room,
 ) -> Result<Option<Value>, Exit>
-    ensures { LeafGives program.now depth id here.now room.old result room.new }
+    ensures gives { LeafGives program.now depth id here.now room.old result room.new }
+    ensures others { LeavesNodes program.now id result }
 {
     match node_at(program.nodes(), id) {
         None => Ok(None),
@@ -142,7 +144,8 @@ pub fn leaves(
     here: &Scope,
     room: &mut Room,
 ) -> Result<(usize, Value), Exit>
-    ensures { Passes program.now depth begun value parts.now here.now room.old result room.new }
+    ensures passes { Passes program.now depth begun value parts.now here.now room.old result room.new }
+    ensures all { PassesAll program.now parts.now result }
 {
     let mut place = begun;
     let mut last = value;
@@ -166,7 +169,8 @@ pub fn leaf_args(
     here: &Scope,
     room: &mut Room,
 ) -> Result<Seq<Value>, Exit>
-    ensures { Gathers program.now depth so_far args.now here.now room.old result room.new }
+    ensures gathers { Gathers program.now depth so_far args.now here.now room.old result room.new }
+    ensures all { GathersAll program.now args.now result }
 {
     let mut values = so_far;
     while let Some(part) = part_at(args, values.len()) {

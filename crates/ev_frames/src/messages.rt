@@ -16,7 +16,7 @@ use ev_base::{ObjId, Value};
 use ev_eventual::resolver_answer;
 use ev_room::ejector::ejector_answer;
 use ev_room::exit::Exit;
-use ev_room::object::{Code, Object, look_code, turned};
+use ev_room::object::{Code, Object, look_code};
 use ev_room::room::Room;
 use ev_room::scope::Scope;
 use ev_room::tree::{first_method, members_of};
@@ -42,7 +42,7 @@ fn run_code(
     guard(depth, Guard::Alone, frames, here)?;
     let scope = Scope {
         act: here.act,
-        nouns: turned(code.nouns),
+        nouns: code.nouns.scope(room.alloc),
     };
     *here = scope;
     let members = members_of(program.nodes(), code.node);

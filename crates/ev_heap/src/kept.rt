@@ -1,5 +1,6 @@
 //! What a heap keeps.
 
+use crate::shared::Shared;
 use ev_base::{NodeId, ObjId, PrimId, PromId, Seq, SlotId, Value};
 use ev_word::Word;
 
@@ -57,10 +58,11 @@ pub struct AuditView {
 /// What bears a number of a vat's one count of objects.
 #[derive(Drop)]
 pub enum Shape {
-    /// An object of the program: the node of its object expression, its captures in order of first use, and its stamps.
+    /// An object of the program: the node of its object expression, its captures in order of first use, which its calls share, and
+    /// its stamps.
     Made {
         node: NodeId,
-        captures: Seq<Caught>,
+        captures: Shared<Caught>,
         stamps: Seq<Value>,
     },
     Ejector,

@@ -5,6 +5,7 @@ pub mod happened;
 pub mod heap;
 pub mod kept;
 pub mod micro;
+pub mod shared;
 
 pub use happened::Happened;
 pub use heap::{Heap, ListFault};
@@ -12,3 +13,4 @@ pub use kept::{
     AuditView, Bound, Capture, Caught, Cell, FreeName, GuardKind, Listed, Shape, Thing,
 };
 pub use micro::Micro;
+pub use shared::Shared;

@@ -4,6 +4,7 @@ ghost use Rattle.std.specs.Prelude.{◌≡◌, ◌+◌, length, IfOk};
 ghost use Rattle.def_kernel_form.specs.Reading.{started, step, read};
 ghost use Rattle.ev_kernel_reader.specs.Answers.{Answers, finished_with};
 
+use crate::machine::Reached;
 use crate::readings::step_in;
 use def_kernel::kernel::Kernel;
 use def_kernel_form::reader::{Frames, Mode, State};
@@ -11,7 +12,7 @@ use def_kernel_form::shape::Kind;
 use ev_base::{Memory, Seq};
 use std::alloc::Global;
 use std::error::Error;
-use std::{fmt, mem};
+use std::fmt;
 
 /// Why a text is no form.
 #[derive(Clone, Copy, Debug, PartialEq, Eq)]
@@ -49,11 +50,15 @@ impl From<Memory> for FormFault {
 }
 
 /// The state behind a character, where some form goes on with it.
-fn step(alloc: Global, c: char, mut state: State) -> Result<Option<State>, Memory>
+fn step(alloc: Global, c: char, state: State) -> Result<Option<State>, Memory>
     ensures { IfOk result (λ next. next ≡ step c state) }
 {
-    let mode = mem::replace(&mut state.mode, Mode::Whole);
-    step_in(alloc, mode, c, state)
+    let State {
+        frames,
+        nodes,
+        mode,
+    } = state;
+    step_in(alloc, mode, c, Reached { frames, nodes })
 }
 
 /// The state before the first character.

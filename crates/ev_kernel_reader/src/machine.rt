@@ -2,6 +2,7 @@
 
 ghost use Rattle.std.specs.Prelude.{◌≡◌, slice_set, IfOk};
 ghost use Rattle.def_kernel_form.specs.Reading.{begin, close_in, close_frame, close, step_behind, item_ends, is_digit, literal_begins, item_begins, open_wanted, begin_wanted, step_before, ends_word, begin_head, step_heading, step_exiting, step_bare};
+ghost use Rattle.ev_kernel_reader.specs.Reached.{reached_by, stood};
 
 use crate::build::{no_node, node_of};
 use crate::steps::{
@@ -16,30 +17,47 @@ use ev_base::{Memory, NodeId, Seq, Str};
 use ev_text::is_identifier;
 use std::alloc::Global;
 
+/// Where reading stands but for what is to come: what is dropped where no form goes on has no case for each mode.
+#[derive(Drop)]
+pub(crate) struct Reached {
+    pub frames: Frames,
+    pub nodes: Seq<Node>,
+}
+
 /// A tree or a group begins.
-pub(crate) fn begin(alloc: Global, head: Head, mut state: State) -> Result<State, Memory>
-    ensures { IfOk result (λ next. next ≡ begin head state) }
+pub(crate) fn begin(alloc: Global, head: Head, reached: Reached) -> Result<State, Memory>
+    ensures { IfOk result (λ next. next ≡ begin head (stood reached)) }
 {
+    let Reached {
+        mut frames,
+        mut nodes,
+    } = reached;
     match head {
         Head::Group(kind) => {
-            state.frames.push(Frame {
+            frames.push(Frame {
                 number: 0,
                 head: Head::Group(kind),
                 items: Seq::new(alloc),
             })?;
-            state.mode = Mode::Grouping;
-            Ok(state)
+            Ok(State {
+                frames,
+                nodes,
+                mode: Mode::Grouping,
+            })
         }
         _ => {
-            let number = state.nodes.len() as u64;
-            state.frames.push(Frame {
+            let number = nodes.len() as u64;
+            frames.push(Frame {
                 number,
                 head,
                 items: Seq::new(alloc),
             })?;
-            state.nodes.push(no_node())?;
-            state.mode = Mode::Behind;
-            Ok(state)
+            nodes.push(no_node())?;
+            Ok(State {
+                frames,
+                nodes,
+                mode: Mode::Behind,
+            })
         }
     }
 }
@@ -101,42 +119,58 @@ fn close_frame(
 }
 
 /// The innermost form is closed, where it may end.
-pub(crate) fn close(alloc: Global, state: State) -> Result<Option<State>, Memory>
-    ensures { IfOk result (λ next. next ≡ close state) }
+pub(crate) fn close(alloc: Global, reached: Reached) -> Result<Option<State>, Memory>
+    ensures { IfOk result (λ next. next ≡ close (stood reached)) }
 {
-    if !innermost_ends(&state.frames) {
+    if !innermost_ends(&reached.frames) {
         return Ok(None);
     }
-    let State {
-        mut frames,
-        nodes,
-        mode: _,
-    } = state;
+    let Reached { mut frames, nodes } = reached;
     match frames.pop() {
         None => Ok(None),
         Some(frame) => close_frame(alloc, frame, frames, nodes),
     }
 }
 
-/// The state with another mode.
-pub(crate) fn turned(mut state: State, mode: Mode) -> State
-    ensures { result ≡ record state { mode = mode } }
+/// The state in a mode.
+pub(crate) fn turned(reached: Reached, mode: Mode) -> State
+    ensures { result ≡ record (stood reached) { mode = mode } }
 {
-    state.mode = mode;
-    state
+    State {
+        frames: reached.frames,
+        nodes: reached.nodes,
+        mode,
+    }
+}
+
+/// What was reached, whatever is to come.
+fn reached_by(state: State) -> Reached
+    ensures { result ≡ reached_by state }
+{
+    Reached {
+        frames: state.frames,
+        nodes: state.nodes,
+    }
 }
 
 /// Behind an item.
-pub(crate) fn step_behind(alloc: Global, c: char, state: State) -> Result<Option<State>, Memory>
-    ensures { IfOk result (λ next. next ≡ step_behind c state) }
+pub(crate) fn step_behind(alloc: Global, c: char, reached: Reached) -> Result<Option<State>, Memory>
+    ensures { IfOk result (λ next. next ≡ step_behind c (stood reached)) }
 {
     if c == ')' {
-        close(alloc, state)
-    } else if c == ' ' && (next_wanted(&state.frames).is_some() || may_exit(&state.frames)) {
-        Ok(Some(turned(state, Mode::Before)))
+        close(alloc, reached)
+    } else if c == ' ' && (next_wanted(&reached.frames).is_some() || may_exit(&reached.frames)) {
+        Ok(Some(turned(reached, Mode::Before)))
     } else {
         Ok(None)
     }
+}
+
+/// Behind the word of a form that was begun.
+pub(crate) fn step_begun(alloc: Global, c: char, begun: State) -> Result<Option<State>, Memory>
+    ensures { IfOk result (λ next. next ≡ step_behind c begun) }
+{
+    step_behind(alloc, c, reached_by(begun))
 }
 
 /// The item ends before the character.
@@ -144,10 +178,10 @@ pub(crate) fn item_ends(
     alloc: Global,
     item: Item,
     c: char,
-    mut state: State,
+    mut reached: Reached,
 ) -> Result<Option<State>, Memory>
-    ensures { IfOk result (λ next. next ≡ item_ends item c state) }
+    ensures { IfOk result (λ next. next ≡ item_ends item c (stood reached)) }
 {
-    add_item(item, &mut state.frames)?;
-    step_behind(alloc, c, state)
+    add_item(item, &mut reached.frames)?;
+    step_behind(alloc, c, reached)
 }

@@ -1,20 +1,16 @@
 -- Lines are judged one after the other, by what stands for the lines before each.
-use Rattle.std.proofs.Common.{◌≡◌, ℕ, zero, suc, ◌+◌, ◌<◌, ◌≤◌, arith, Bool, true, false, List, [], ◌∷◌, take, length, slice_get, Option, Some, None, refl, sym, ap, subst, ◌∙◌, inl, inr}
+use Rattle.std.proofs.Common.{◌≡◌, ℕ, zero, suc, ◌+◌, ◌<◌, ◌≤◌, arith, Bool, true, false, List, [], ◌∷◌, length, slice_get, Option, Some, None, refl, sym, ap, subst, ◌∙◌, inl, inr}
 use Rattle.std.proofs.lemmas.Bool.{cases_lt}
 use Rattle.std.specs.Prelude.{◌⊎◌, ◌↔◌}
 use Rattle.def_event.specs.declared.event.Event.{Event}
-use Rattle.def_trace.specs.Uses.{Line, HoldsAt, IsFirstFailing, and_lines, line_after, lines_before, place_after, place_of}
+use Rattle.def_trace.specs.Uses.{Line, HoldsAt, IsFirstFailing, line_after, lines_before, place_after, place_of}
+use Rattle.ev_links.proofs.Lines.{lines_step}
 
 -- what was kept stands for the lines so far, all of which hold
 pub record Judging (Holds : List Line → Line → Type 0) (Stands : List Line → Type 0) (at : ℕ) (events : List Event) (i : ℕ) : Type 0 where
   pub stands : Stands (lines_before events i)
   pub here : at ≡ place_of (lines_before events i)
   pub all : (j : ℕ) → j < i → HoldsAt Holds events j
-
-lines_step : (past : List Line) (es : List Event) (i : ℕ) (e : Event) → slice_get es i ≡ Some e → and_lines past (take (suc i) es) ≡ line_after (and_lines past (take i es)) e ∷ and_lines past (take i es)
-lines_step past [] i e h = absurd cc
-lines_step past (x ∷ es) zero e h = let same : x ≡ e = cc in ap (λ (y : Event). line_after past y ∷ past) same
-lines_step past (x ∷ es) (suc i) e h = lines_step (line_after past x ∷ past) es i e h
 
 in_list : {A : Type 0} (xs : List A) (i : ℕ) (x : A) → slice_get xs i ≡ Some x → i < length xs
 in_list [] i x e = absurd cc

@@ -319,7 +319,8 @@ impl Following {
     /// Nothing, with a plan of chains, which may be any. It takes no memory.
     #[tactic(auto, using(crate::proofs::Followed::none_stand))]
     pub fn new(alloc: Global, plan: Plan) -> Following
-        ensures { PlanStands plan → TablesStand result [] }
+        ensures stands { PlanStands plan → TablesStand result [] }
+        ensures plan { result.plan ≡ plan }
     {
         Following {
             settled: Firsts::new(alloc),

@@ -76,7 +76,8 @@ impl Knowledge {
     /// names are sought from one to the next. It takes no memory.
     #[tactic(auto, using(crate::proofs::Knowing::none_known))]
     pub fn new(alloc: Global, plan: Plan) -> Knowledge
-        ensures { PlanStands plan → KnownStand result [] }
+        ensures stands { PlanStands plan → KnownStand result [] }
+        ensures plan { result.following.plan ≡ plan }
     {
         Knowledge {
             facts: Facts::new(alloc),

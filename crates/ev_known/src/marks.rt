@@ -2,7 +2,7 @@
 
 ghost use Rattle.std.specs.Prelude.{◌≡◌, ◌<◌, [], List, Some, IsTrue, OnOk, length, nat_le, slice_get};
 ghost use Rattle.def_trace.specs.Uses.{IsAmong, Line};
-ghost use Rattle.ev_known.specs.Marks.{HeldAs, MarksStand, PutsMark, is_from, is_marked, mark_at};
+ghost use Rattle.ev_known.specs.Marks.{AreKept, AreMarked, HeldAs, IsMarkedFor, MarksStand, PutsMark, holding, is_from, is_marked, mark_at};
 ghost use Rattle.ev_known.specs.Telling.{StandsFor};
 
 use crate::facts::{Activation, Fact, Facts};
@@ -112,7 +112,9 @@ impl Marks {
         at: u64,
         label: Label,
     ) -> Result<(), Memory>
-        ensures { (past : List Line) → HeldAs past holder label → MarksStand self.old following.now.plan past → OnOk result (MarksStand self.new following.now.plan past) }
+        ensures stands { (past : List Line) → HeldAs past holder label → MarksStand self.old following.now.plan past → OnOk result (MarksStand self.new following.now.plan past) }
+        ensures kept { OnOk result (AreKept self.old self.new) }
+        ensures marked { OnOk result (IsMarkedFor self.new following.now.plan (Some (record { holder = holder; at = at; label = label }))) }
     {
         let Some(standing) = following.standing(at, label) else {
             return Ok(());
@@ -128,7 +130,9 @@ impl Marks {
 
     /// A fact may tell what an activation was given, or what an object captured. The code of an object runs at the place of its vat.
     fn tell_fact(&mut self, following: &Following, facts: &Facts, fact: Fact) -> Result<(), Memory>
-        ensures { (past : List Line) → StandsFor facts.now past → IsAmong fact facts.now → MarksStand self.old following.now.plan past → OnOk result (MarksStand self.new following.now.plan past) }
+        ensures stands { (past : List Line) → StandsFor facts.now past → IsAmong fact facts.now → MarksStand self.old following.now.plan past → OnOk result (MarksStand self.new following.now.plan past) }
+        ensures kept { OnOk result (AreKept self.old self.new) }
+        ensures marked { OnOk result (IsMarkedFor self.new following.now.plan (holding fact)) }
     {
         match fact {
             Fact::Given(activation, label) => {
@@ -145,14 +149,15 @@ impl Marks {
         }
     }
 
-    /// The facts from that one on are told.
+    /// The facts from that one on are told. Of what they tell that is held, all that stands in a chain is marked.
     pub fn tell_from(
         &mut self,
         following: &Following,
         facts: &Facts,
         first: usize,
     ) -> Result<(), Memory>
-        ensures { (past : List Line) → StandsFor facts.now past → MarksStand self.old following.now.plan past → OnOk result (MarksStand self.new following.now.plan past) }
+        ensures stands { (past : List Line) → StandsFor facts.now past → MarksStand self.old following.now.plan past → OnOk result (MarksStand self.new following.now.plan past) }
+        ensures marked { OnOk result (AreMarked following.now.plan facts.now first (length facts.now) self.old self.new) }
     {
         for index in first..facts.len() {
             let fact = facts.at(index);

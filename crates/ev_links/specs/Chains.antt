@@ -1,5 +1,5 @@
 -- Chains of names at places, in the terms of tables.
-use Rattle.std.specs.Prelude.{◌≡◌, ◌≤◌, ℕ, zero, ◌+◌, cond, List, Option, Some, None}
+use Rattle.std.specs.Prelude.{◌≡◌, ◌≤◌, ℕ, ◌+◌, ◌^◌, cond, List, Option, Some, None}
 use Rattle.std.specs.Map.{lookup}
 use Rattle.ev_links.specs.declared.chains.End.{End}
 use Rattle.ev_links.specs.declared.chains.Spot.{Spot}
@@ -24,9 +24,10 @@ PutsStanding s x old new = (q : Spot) → standing new q ≡ cond (eq-value.it s
 abbrev pub PutsEnd : Spot → End → List (Spot × End) → List (Spot × End) → Type 0
 PutsEnd s x old new = (q : Spot) → end_of new q ≡ cond (eq-value.it s q) (Some x) (end_of old q)
 
--- the place after the end, where there is one
+-- the place after the end, where numbers reach so far
 abbrev pub IsNextPlace : Option End → Option ℕ → Type 0
-IsNextPlace o None = Unit {0}
+IsNextPlace None None = ⊥
+IsNextPlace (Some e) None = 2 ^ 64 ≤ e.place + 1
 IsNextPlace None (Some n) = n ≡ 0
 IsNextPlace (Some e) (Some n) = n ≡ e.place + 1
 

@@ -1,3 +1,4 @@
 pub mod Label
 pub mod Links
 pub mod Chains
+pub mod Plan

@@ -1,12 +1,16 @@
 //! Chains of names at places, in which each settles to the next: a plan of them, by a whole history.
 
-ghost use Rattle.std.specs.Prelude.{◌≡◌, [], IfOk, OnOk};
-ghost use Rattle.ev_links.specs.Chains.{IsNextPlace, PlanStands, PutsEnd, PutsStanding, end_of, standing};
+ghost use Rattle.std.specs.Prelude.{◌≡◌, ◌<◌, ◌^◌, [], ◌∷◌, IfOk, IfSome, List, OnOk, Some};
+ghost use Rattle.def_event.specs.declared.event.Event.{Event as EventValue};
+ghost use Rattle.def_event.specs.declared.event.Event.TheVariants.{Settle as Settles};
+ghost use Rattle.def_trace.specs.Uses.{Line, and_lines};
+ghost use Rattle.ev_links.specs.Chains.{IsNextPlace, PutsEnd, PutsStanding, end_of, standing};
+ghost use Rattle.ev_links.specs.Plan.{Appended, IsPlanOf, settling};
 
 use crate::label::{Label, name_label};
 use crate::place::place_after;
 use def_event::{Event, Shown};
-use ev_base::Memory;
+use ev_base::{Memory, Name};
 use indexmap::IndexMap;
 use std::alloc::Global;
 use std::marker::Model;
@@ -154,7 +158,8 @@ impl Ends {
 
 /// The place after the end of a chain, where numbers reach so far.
 fn next_place(end: Option<End>) -> Option<u64>
-    ensures { IsNextPlace end result }
+    ensures next { IsNextPlace end result }
+    ensures fits { IfSome result (λ place. place < 2 ^ 64) }
 {
     let Some(end) = end else {
         return Some(0);
@@ -165,7 +170,7 @@ fn next_place(end: Option<End>) -> Option<u64>
     Some(end.place + 1)
 }
 
-/// Adds a name to the end of a chain, unless it stands in one.
+/// Adds a name to the end of a chain, unless it stands in one, or numbers reach no further.
 fn append_in(
     standings: &mut Standings,
     ends: &mut Ends,
@@ -173,7 +178,7 @@ fn append_in(
     name: Label,
     chain: Label,
 ) -> Result<(), Memory>
-    ensures { PlanStands (record { standings = standings.old; ends = ends.old }) → OnOk result (PlanStands (record { standings = standings.new; ends = ends.new })) }
+    ensures { OnOk result (Appended at name chain (record { standings = standings.old; ends = ends.old }) (record { standings = standings.new; ends = ends.new })) }
 {
     if standings.find(at, name).is_some() {
         return Ok(());
@@ -187,6 +192,8 @@ fn append_in(
 }
 
 /// Chains of names. No two names stand at one place of a chain, and each name stands in one chain at a place.
+///
+/// It is a shortcut: what is known stands in the lines, whatever is planned, and a search by them finds the same, one name after the other.
 #[derive(Drop)]
 pub struct Plan {
     standings: Standings,
@@ -203,9 +210,8 @@ impl Model for Plan {
 
 impl Plan {
     /// No chain. It takes no memory.
-    #[tactic(auto, using(crate::proofs::Chaining::none_planned))]
     pub fn new(alloc: Global) -> Plan
-        ensures { PlanStands result }
+        ensures { IsPlanOf [] result }
     {
         Plan {
             standings: Standings::new(alloc),
@@ -220,35 +226,51 @@ impl Plan {
         self.standings.find(at, name)
     }
 
-    /// Adds a name to the end of a chain, unless it stands in one.
+    /// Adds a name to the end of a chain, unless it stands in one, or numbers reach no further.
     fn append(&mut self, at: u64, name: Label, chain: Label) -> Result<(), Memory>
-        ensures { PlanStands self.old → OnOk result (PlanStands self.new) }
+        ensures { OnOk result (Appended at name chain self.old self.new) }
     {
         append_in(&mut self.standings, &mut self.ends, at, name, chain)
     }
 
     /// A name settles to another, which stands after it, unless that stands elsewhere or it has another after it.
     fn extend(&mut self, at: u64, from: Label, to: Label) -> Result<(), Memory>
-        ensures { PlanStands self.old → OnOk result (PlanStands self.new) }
+        ensures { (past : List Line) (event : EventValue) → settling event ≡ Some (record { from = from; to = to }) → IsPlanOf past self.old
+            → OnOk result (IsPlanOf (record { at = at; event = event } ∷ past) self.new) }
     {
         self.append(at, from, from)?;
         let Some(standing) = self.find(at, from) else {
             return Ok(());
         };
-        match self.ends.find(at, standing.chain) {
-            Some(end) if end.name == from => self.append(at, to, standing.chain),
+        let Some(end) = self.ends.find(at, standing.chain) else {
+            return Ok(());
+        };
+        if end.name != from {
+            return Ok(());
+        }
+        self.append(at, to, standing.chain)
+    }
+
+    /// A line at a place settles a name to a value, which may be another name.
+    fn settle(&mut self, at: u64, name: &Name, value: &Shown) -> Result<(), Memory>
+        ensures { (past : List Line) → IsPlanOf past self.old → OnOk result (IsPlanOf (record { at = at; event = Settles name.now value.now } ∷ past) self.new) }
+    {
+        match value {
+            Shown::Name(other) => {
+                let from = name_label(name);
+                let to = name_label(other);
+                self.extend(at, from, to)
+            }
             _ => Ok(()),
         }
     }
 
-    /// A line at a place may settle a name to another.
+    /// A line at a place may settle a name. The plan of the lines before it becomes that of these and the line.
     fn tell_line(&mut self, at: u64, event: &Event) -> Result<(), Memory>
-        ensures { PlanStands self.old → OnOk result (PlanStands self.new) }
+        ensures { (past : List Line) → IsPlanOf past self.old → OnOk result (IsPlanOf (record { at = at; event = event.now } ∷ past) self.new) }
     {
         match event {
-            Event::Settle(name, Shown::Name(other)) => {
-                self.extend(at, name_label(name), name_label(other))
-            }
+            Event::Settle(name, value) => self.settle(at, name, value),
             _ => Ok(()),
         }
     }
@@ -256,7 +278,7 @@ impl Plan {
 
 /// The chains of a whole history, which is gone through once: as its lines settle names to one another.
 pub fn plan_of(alloc: Global, events: &[Event]) -> Result<Plan, Memory>
-    ensures { IfOk result (λ plan. PlanStands plan) }
+    ensures { IfOk result (λ plan. IsPlanOf (and_lines [] events.now) plan) }
 {
     let mut plan = Plan::new(alloc);
     let mut at = 0;

@@ -16,7 +16,7 @@ use crate::nodes::begin;
 use crate::parts::part_gave;
 use crate::patterns::{bind, match_resumes};
 use def_kernel::Kernel;
-use ev_base::{ActId, NodeId, ObjId, Seq, TextId, Value};
+use ev_base::{ActId, NodeId, ObjId, TextId, Value};
 use ev_eventual::message_in;
 use ev_eventual::sending::BAD_MESSAGE;
 use ev_frames::calls::call_again;
@@ -24,6 +24,7 @@ use ev_frames::frames::{Frame, Frames, Guard, Part};
 use ev_frames::matchers::case_resumes;
 use ev_frames::messages::takes;
 use ev_frames::now::Now;
+use ev_room::bindings::Nouns;
 use ev_room::call::closed;
 use ev_room::exit::{Came, Exit};
 use ev_room::room::Room;
@@ -550,7 +551,7 @@ pub fn take_message(
     let mut frames = Frames::new(room.alloc);
     let mut here = Scope {
         act,
-        nouns: Seq::new(room.alloc),
+        nouns: Nouns::new(room.alloc),
     };
     match taken(
         program,

@@ -18,7 +18,7 @@ use ev_frames::leaves::{leaf, literal_node, noun_node};
 use ev_frames::now::{Now, enter};
 use ev_room::exit::{Came, Exit};
 use ev_room::room::{Room, spend};
-use ev_room::scope::{Scope, found};
+use ev_room::scope::Scope;
 use ev_room::tree::node_at;
 use ev_steps::pattern::part_at;
 use ev_word::Word;
@@ -38,7 +38,7 @@ fn set_node(
     ensures rest { Goes program.now result frames.new here.now room.new (rest program.now frames.old here.now (set_node program.now (evaluator program.now depth) noun.now value here.now room.old)) }
     ensures nested { Stays result frames.new here.now }
 {
-    let bound = found(here.nouns.as_slice(), noun);
+    let bound = here.nouns.found(noun);
     enter(depth, Part::Assign(bound), frames, here)?;
     Ok(Now::Begin(depth, value))
 }

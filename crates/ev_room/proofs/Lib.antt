@@ -1,6 +1,7 @@
 pub mod Cells
 pub mod Ejectors
 pub mod Exits
+pub mod Finding
 pub mod Forming
 pub mod Fronts
 pub mod Guarding

@@ -44,6 +44,7 @@ use Rattle.ev_room.specs.declared.scope.Binding.{Binding}
 use Rattle.ev_room.specs.declared.scope.Bound.{Bound}
 use Rattle.ev_room.specs.declared.scope.Bound.TheVariants.{Fixed, Slot}
 use Rattle.ev_room.specs.declared.scope.Scope.{Scope}
+use Rattle.ev_room.specs.Held.{binding_back}
 
 -- what something gives, or how it ends without a value, and the state after
 abbrev pub Out : Type 0 → Type 0
@@ -303,14 +304,6 @@ unfoldable pub call_there : Contents → Value → List Value → Bool
 call_there h x args = if is_there h x then are_there h args else false
 
 -- ---- objects
-
--- what a name was bound to that an object holds
-abbrev pub bound_back : Capture → Bound
-bound_back (capture.Fixed v g) = Fixed v g
-bound_back (capture.Slot k) = Slot k
-
-abbrev pub binding_back : Caught → Binding
-binding_back c = record { noun = c.noun; bound = bound_back c.capture }
 
 -- the bindings of these names, of those that are bound, behind others
 unfoldable pub captures : List Binding → List Binding → List Words → List Binding

@@ -1,3 +1,4 @@
+pub mod Held
 pub mod Acts
 pub mod Coercion
 pub mod Takings

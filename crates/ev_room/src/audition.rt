@@ -4,11 +4,12 @@ ghost use Rattle.std.specs.Prelude.{◌≡◌, IfOk, Some, map, option_map};
 ghost use Rattle.def_machine.specs.Scopes.{own_noun};
 ghost use Rattle.ev_room.specs.Acts.{Gives, guard_asked, is_stamped, keep_audition, name_seen, new_audition, prim_verdict, view_at, view_of};
 
+use crate::bindings::Nouns;
 use crate::data::{problem_id, text_of};
 use crate::exit::Exit;
 use crate::object::capture_of;
 use crate::room::{Room, tell};
-use crate::scope::{Binding, Scope, found_text};
+use crate::scope::Scope;
 use crate::tree::node_at;
 use def_kernel::{Kernel, Node};
 use ev_audit::{
@@ -74,12 +75,13 @@ fn own_noun(pattern: Option<&Node>) -> Option<&str>
 fn name_seen(
     alloc: Global,
     own: Option<&str>,
-    nouns: &[Binding],
+    nouns: &Nouns,
     noun: &str,
 ) -> Result<FreeName, Memory>
     ensures { IfOk result (λ name. name ≡ name_seen (option_map (λ x. x.now) own.entry) nouns.now noun.now) }
 {
-    match found_text(nouns, noun) {
+    let sought = Word::copy_of(alloc, noun)?;
+    match nouns.found(&sought) {
         Some(bound) => free_name(alloc, own, noun, Some(capture_of(bound))),
         None => free_name(alloc, own, noun, None),
     }
@@ -91,7 +93,7 @@ fn view_of(
     node: NodeId,
     pattern: Option<&Node>,
     free: &[Str],
-    nouns: &[Binding],
+    nouns: &Nouns,
 ) -> Result<AuditView, Memory>
     ensures { IfOk result (λ view. view ≡ view_of node (option_map (λ node. node.now) pattern.entry) free.now nouns.now) }
 {
@@ -116,7 +118,7 @@ pub fn view_at(
 {
     let free = free_names(alloc, program, id)?;
     let pattern = node_at(program.nodes(), pattern);
-    view_of(alloc, id, pattern, free.as_slice(), here.nouns.as_slice())
+    view_of(alloc, id, pattern, free.as_slice(), &here.nouns)
 }
 
 /// Keeps an audition, which is alive.

@@ -2,6 +2,7 @@
 #![tactic(auto)]
 
 pub mod audition;
+pub mod bindings;
 pub mod call;
 pub mod coercion;
 pub mod data;

@@ -6,26 +6,54 @@ ghost use Rattle.ev_heap.specs.declared.happened.Happened.TheVariants.{Made};
 ghost use Rattle.ev_kernel_printer.specs.FreeNames.{free_names};
 ghost use Rattle.def_machine.specs.Scopes.{name_of};
 ghost use Rattle.ev_room.specs.Sound.{capture_of, caught_of};
-ghost use Rattle.ev_room.specs.Acts.{Answers, Extends, Gives, GivesIn, binding_back, bound_back, captures, code_of, look_code, named, new_object, object_as, object_at, object_made};
+ghost use Rattle.ev_room.specs.Acts.{Answers, Extends, Gives, GivesIn, captures, code_of, look_code, named, new_object, object_as, object_at, object_made};
 
 use crate::audition::view_copy;
+use crate::bindings::Nouns;
 use crate::data::copied_values;
 use crate::exit::Exit;
 use crate::room::{Room, tell};
-use crate::scope::{Binding, Bound, NO_GUARD, Scope, found_text};
+use crate::scope::{Binding, Bound, NO_GUARD, Scope};
 use crate::tree::node_at;
 use def_kernel::{Kernel, Node};
 use ev_base::{ActId, Memory, NodeId, ObjId, PromId, Seq, Str, Value};
-use ev_heap::{AuditView, Capture, Caught, Happened, Shape};
+use ev_heap::{AuditView, Capture, Caught, Happened, Shape, Shared};
 use ev_kernel_printer::free_names;
 use ev_word::Word;
 use std::alloc::Global;
+use std::marker::Model;
+
+/// What an object holds of its free names, which it shares. Contracts see what they are bound to.
+#[derive(Drop)]
+pub struct Held {
+    caught: Shared<Caught>,
+}
+
+impl Model for Held {
+    ghost use Rattle.std.specs.Prelude.{List, map};
+    ghost use Rattle.ev_room.specs.Held.{binding_back};
+    ghost use Rattle.ev_room.specs.declared.scope.Binding.{Binding};
+
+    ghost Value = { List Binding };
+
+    ghost view = { λ h. map binding_back h.caught };
+}
+
+impl Held {
+    /// The scope of a call, in which the first of the names stands last, as the innermost.
+    pub fn scope(self, alloc: Global) -> Nouns
+        ensures { result ≡ reverse self }
+    {
+        let Held { caught } = self;
+        Nouns::inside(alloc, caught)
+    }
+}
 
 /// An object: the node of its object expression, and what its free names are bound to, in order of first use.
 #[derive(Drop)]
 pub struct Object {
     pub node: NodeId,
-    pub nouns: Seq<Binding>,
+    pub nouns: Held,
 }
 
 /// What a call on something that bears a number runs.
@@ -51,29 +79,6 @@ pub(crate) fn capture_of(bound: Bound) -> Capture
     }
 }
 
-/// What a name was bound to that an object holds so.
-fn bound_back(capture: Capture) -> Bound
-    ensures { result ≡ bound_back capture }
-{
-    match capture {
-        Capture::Fixed { value, guard } => Bound::Fixed { value, guard },
-        Capture::Slot(slot) => Bound::Slot(slot),
-    }
-}
-
-/// What the names were bound to that an object holds.
-fn all_back(alloc: Global, caught: &[Caught]) -> Result<Seq<Binding>, Memory>
-    ensures { IfOk result (λ all. all ≡ map binding_back caught.now) }
-{
-    let mut all = Seq::new(alloc);
-    for one in caught {
-        let bound = bound_back(one.capture);
-        let noun = one.noun.share()?;
-        all.push(Binding { noun, bound })?;
-    }
-    Ok(all)
-}
-
 /// The code of a shape that is alive or dead.
 #[tactic(auto, unfolding(crate::specs::Acts::opened_acts))]
 fn shape_code(alloc: Global, shape: &Shape, alive: bool) -> Result<Code, Exit>
@@ -81,7 +86,8 @@ fn shape_code(alloc: Global, shape: &Shape, alive: bool) -> Result<Code, Exit>
 {
     match shape {
         Shape::Made { node, captures, .. } => {
-            let nouns = all_back(alloc, captures.as_slice())?;
+            let caught = captures.share()?;
+            let nouns = Held { caught };
             Ok(Code::Runs(Object { node: *node, nouns }))
         }
         Shape::Ejector => Ok(Code::Leaves(alive)),
@@ -105,24 +111,15 @@ pub fn look_code(object: ObjId, room: &Room) -> Result<Code, Exit>
     shape_code(room.alloc, room.heap.shape(object), alive)
 }
 
-/// Bindings, the last one first.
-pub fn turned(nouns: Seq<Binding>) -> Seq<Binding>
-    ensures { result ≡ reverse nouns }
-{
-    let mut nouns = nouns.into_vec();
-    nouns.reverse();
-    Seq::of(nouns)
-}
-
 /// What is bound of these names.
 #[tactic(auto, unfolding(crate::specs::Acts::captures, crate::specs::Acts::with_bound))]
-fn captures(alloc: Global, nouns: &[Binding], free: &[Str]) -> Result<Seq<Binding>, Memory>
+fn captures(alloc: Global, nouns: &Nouns, free: &[Str]) -> Result<Seq<Binding>, Memory>
     ensures { IfOk result (λ all. all ≡ captures [] nouns.now free.now) }
 {
     let mut all = Seq::new(alloc);
     for noun in free {
-        if let Some(bound) = found_text(nouns, noun.as_str()) {
-            let noun = Word::copy_of(alloc, noun.as_str())?;
+        let noun = Word::copy_of(alloc, noun.as_str())?;
+        if let Some(bound) = nouns.found(&noun) {
             all.push(Binding { noun, bound })?;
         }
     }
@@ -179,6 +176,7 @@ fn new_object(
     ensures outcome { Gives result room.new (new_object node nouns.now stamps.now room.old) }
 {
     let captures = kept(room.alloc, nouns)?;
+    let captures = Shared::of(room.alloc, captures)?;
     let stamps = copied_values(room.alloc, stamps)?;
     let shape = Shape::Made {
         node,
@@ -288,7 +286,7 @@ fn object_as(
 {
     let object = ObjId(room.heap.object_count());
     bind_name(room.alloc, pattern, object, here)?;
-    let nouns = captures(room.alloc, here.nouns.as_slice(), free)?;
+    let nouns = captures(room.alloc, &here.nouns, free)?;
     object_made(
         node,
         name_of(pattern),

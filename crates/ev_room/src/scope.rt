@@ -1,13 +1,13 @@
 //! What nouns stand for.
 
-ghost use Rattle.std.specs.Prelude.{◌≡◌, None};
-ghost use Rattle.ev_room.specs.Acts.{cut, found_from};
+ghost use Rattle.std.specs.Prelude.{◌≡◌};
+ghost use Rattle.ev_room.specs.Acts.{cut};
 
-use ev_base::{ActId, PrimId, Seq, SlotId, Value};
+use crate::bindings::Nouns;
+use ev_base::{ActId, PrimId, SlotId, Value};
 use ev_heap::GuardKind;
 use ev_word::Word;
 use std::alloc::Global;
-use std::mem;
 
 /// The guard of a name that has none, which takes any value.
 pub const NO_GUARD: GuardKind = GuardKind::Native(PrimId(8));
@@ -32,35 +32,7 @@ pub struct Binding {
 #[derive(Drop)]
 pub struct Scope {
     pub act: ActId,
-    pub nouns: Seq<Binding>,
-}
-
-/// What the innermost binding of a noun binds it to.
-#[tactic(auto, unfolding(crate::specs::Acts::found_from))]
-pub fn found(nouns: &[Binding], noun: &Word) -> Option<Bound>
-    ensures { result ≡ found_from None nouns.now noun.now }
-{
-    let mut found = None;
-    for binding in nouns {
-        if binding.noun.is(noun) {
-            found = Some(binding.bound);
-        }
-    }
-    found
-}
-
-/// The same of a noun as a text.
-#[tactic(auto, unfolding(crate::specs::Acts::found_from))]
-pub fn found_text(nouns: &[Binding], noun: &str) -> Option<Bound>
-    ensures { result ≡ found_from None nouns.now noun.now }
-{
-    let mut found = None;
-    for binding in nouns {
-        if binding.noun.as_str() == noun {
-            found = Some(binding.bound);
-        }
-    }
-    found
+    pub nouns: Nouns,
 }
 
 /// Takes away the bindings behind so many. What was bound before a node of a tree stands in front of what it binds, so this
@@ -68,7 +40,5 @@ pub fn found_text(nouns: &[Binding], noun: &str) -> Option<Bound>
 pub fn cut(alloc: Global, mark: usize, here: &mut Scope)
     ensures { here.new ≡ cut mark here.old }
 {
-    let mut nouns = mem::replace(&mut here.nouns, Seq::new(alloc)).into_vec();
-    nouns.truncate(mark);
-    here.nouns = Seq::of(nouns);
+    here.nouns.cut(alloc, mark);
 }

@@ -2,7 +2,7 @@
 
 ghost use Rattle.std.specs.Prelude.{◌≡◌, None, OnOk, Some, slice_get};
 ghost use Rattle.def_kernel.specs.declared.node.Node.TheVariants.{Any, Final, Var};
-ghost use Rattle.ev_steps.specs.AtOnce.{BindsAtOnce, BindsFrom};
+ghost use Rattle.ev_steps.specs.AtOnce.{BindsAtOnce, BindsFrom, EndsWhereLeft, LeavesOthers};
 ghost use Rattle.ev_steps.specs.Steps.{bind_coerced, evaluator};
 ghost use Rattle.ev_steps.specs.declared.target.Target.TheVariants as target;
 ghost use Rattle.ev_room.specs.Acts.{Binds, Extends, with_noun};
@@ -191,6 +191,7 @@ fn bind_in(
 ) -> Result<Early, Exit>
     requires { slice_get program.now id ≡ Some node.now }
     ensures bound { BindsAtOnce program.now depth id value ejector here.old room.old result here.new room.new }
+    ensures later { LeavesOthers program.now id result }
     ensures front { Extends here.old here.new }
 {
     match node {
@@ -222,6 +223,7 @@ pub fn bind_at_once(
     room: &mut Room,
 ) -> Result<Early, Exit>
     ensures bound { BindsAtOnce program.now depth id value ejector here.old room.old result here.new room.new }
+    ensures later { LeavesOthers program.now id result }
     ensures front { Extends here.old here.new }
 {
     match node_at(program.nodes(), id) {
@@ -243,6 +245,7 @@ pub fn bind_from(
     room: &mut Room,
 ) -> Result<usize, Exit>
     ensures bound { BindsFrom program.now depth begun patterns.now values.now ejector here.old room.old result here.new room.new }
+    ensures far { EndsWhereLeft program.now patterns.now values.now result }
     ensures front { Extends here.old here.new }
 {
     let mut place = begun;

@@ -29,7 +29,7 @@ use Rattle.ev_top.specs.Expansion.{text_from, nameless, IsDueOfText, IsDueOfForm
 use Rattle.ev_world.specs.Running.{script_of}
 use Rattle.ev_top.specs.Machine.{greatest_depth, text_of, vat_of_step}
 use Rattle.ev_top.specs.Due.{IsDue, IsDueOfInput, IsDueOfBytes, IsDueOfAnswer, IsDueOfScript, IsDueOfTrees, IsDueOfVats, Pays, PaysWith, due_of_run, astray, Telling}
-use Rattle.ev_top.specs.Causes.{IsInterrupted, Follows, ComesWhere, IsLong, Breaks, HasScript, HasPrograms, HasText, HasFault, HasNoTree, HasRefused, IsProgramRefused, GoesAstray, RepeatsWord, Stops, StopsIn, run_of}
+use Rattle.ev_top.specs.Causes.{IsInterrupted, Follows, ComesWhere, IsLong, Breaks, HasScript, HasPrograms, HasText, HasFault, HasNoTree, HasRefused, IsAstray, IsProgramRefused, RepeatsWord, Stops, StopsIn, run_of}
 use Rattle.ev_top.specs.declared.command.Command.{Command}
 use Rattle.ev_top.specs.declared.command.Command.TheVariants.{Run, Expand, Generate, Sum, Sturdy, Mint, Check}
 use Rattle.ev_top.specs.declared.status.Status.{Status}
@@ -39,6 +39,7 @@ use Rattle.ev_top.specs.declared.status.Stage.TheVariants as stages
 use Rattle.ev_top.proofs.DueLemmas.{is_few, too_many}
 use Rattle.ev_top.proofs.ReadLemmas.{one_behind, read_more, trees_count}
 use Rattle.ev_top.proofs.OneReading.{IsTree, fault_once, tree_once}
+use Rattle.ev_top.proofs.Astray.{no_run_goes_astray}
 
 -- ---- why a status is due
 
@@ -500,23 +501,22 @@ drew_stop first second script text (Stopped (Repeated i j) k w) e =
     let firsts : i ≡ first = cc in let seconds : j ≡ second = cc in (k, w, rw (firsts, seconds) refl)
 drew_stop first second script text (Stopped Astray k w) e = cc
 
-astray_stop : (vat : ℕ) (script : Script) (text : List ℕ) (r : machine.Run) → (due_of_run script text r).status ≡ ProgramRefused (astray vat)
-    → (step : ℕ) × (vat_of_step script step ≡ vat) × (world : World) × (r ≡ Stopped Astray step world)
-astray_stop vat script text (Goes w) e = cc
-astray_stop vat script text (Stopped Fuel k w) e = cc
-astray_stop vat script text (Stopped Deep k w) e = cc
-astray_stop vat script text (Stopped (Repeated i j) k w) e = cc
-astray_stop vat script text (Stopped Astray k w) e = (k, ap vat_in e, w, refl)
+astray_stop : (script : Script) (text : List ℕ) (r : machine.Run) → IsAstray (due_of_run script text r).status → (step : ℕ) × (world : World) × (r ≡ Stopped Astray step world)
+astray_stop script text (Goes w) is = absurd is
+astray_stop script text (Stopped Fuel k w) is = absurd is
+astray_stop script text (Stopped Deep k w) is = absurd is
+astray_stop script text (Stopped (Repeated i j) k w) is = absurd is
+astray_stop script text (Stopped Astray k w) is = (k, w, refl)
 
-astray_only : (vat : ℕ) (command : Option Command) (input : List ℕ) (status : Status) → Why command input status → status ≡ ProgramRefused (astray vat) → GoesAstray vat command input
-astray_only vat command input status (Misused e) is = cc
-astray_only vat command input status (Long long e) is = cc
-astray_only vat command input status (Broken rule breaks e) is = cc
-astray_only vat command input status (Faulty u part kind place fault e) is = absurd (astray_apart vat u part kind place (sym is ∙ e))
-astray_only vat command input status (Ran tell script programs has e) is =
-    let stop = astray_stop vat script _ (run_of script programs) (sym e ∙ is) in (script, stop.0, (programs, has, stop.2, stop.3), stop.1)
-astray_only vat command input status (Drew first second repeats e) is = cc
-astray_only vat command input status (Finished e) is = cc
+astray_never : (command : Option Command) (input : List ℕ) (status : Status) → Why command input status → IsAstray status → ⊥
+astray_never command input status (Misused e) is = subst IsAstray e is
+astray_never command input status (Long long e) is = subst IsAstray e is
+astray_never command input status (Broken rule breaks e) is = subst IsAstray e is
+astray_never command input status (Faulty vat part kind place fault e) is = stage_apart part (subst IsAstray e is)
+astray_never command input status (Ran tell script programs has e) is =
+    let stop = astray_stop script _ (run_of script programs) (subst IsAstray e is) in no_run_goes_astray command input script programs has stop.0 stop.1 stop.2
+astray_never command input status (Drew first second repeats e) is = subst IsAstray e is
+astray_never command input status (Finished e) is = subst IsAstray e is
 
 fuel_only : (step : ℕ) (command : Option Command) (input : List ℕ) (status : Status) → Why command input status → status ≡ FuelSpent step → Stops Fuel step command input
 fuel_only step command input status (Misused e) is = cc
@@ -586,11 +586,6 @@ stop_there script stop step command input status text due (programs, has, world,
     (read_due command input script programs status text has due).0 ∙ ap (λ (r : machine.Run). (due_of_run script written r).status) stops
     ∙ stop_due script written stop step world
 
-astray_there : (vat : ℕ) (command : Option Command) (input : List ℕ) (status : Status) (text : List ℕ) → IsDue command input status text
-    → GoesAstray vat command input → status ≡ ProgramRefused (astray vat)
-astray_there vat command input status text due (script, step, stops, whose) =
-    stop_there script Astray step command input status text due stops ∙ ap (λ (v : ℕ). ProgramRefused (astray v)) whose
-
 drew_there : (first second : ℕ) (command : Option Command) (input : List ℕ) (status : Status) (text : List ℕ) → IsDue command input status text
     → RepeatsWord first second command input → status ≡ WordRepeated first second
 drew_there first second command input status text due (inl (is, few, ending, e, repeated)) =
@@ -639,14 +634,16 @@ no_tree_comes None held held' result command pays = tt
 no_tree_comes (Some input) held held' result command (written, appends, pays) =
     there IsProgramRefused (HasNoTree command input) result command input written (tree_there command input result written) pays
 
-pub astray_comes : (left held held' : Option (List ℕ)) (result : Status) (command : Option Command) → OfLeft left held held' result command
-    → IfSome left (λ input. (vat : ℕ) → ComesWhere (λ s. s ≡ ProgramRefused (astray vat)) result (GoesAstray vat command input))
-astray_comes None held held' result command pays = tt
-astray_comes (Some input) held held' result command (written, appends, pays) = λ vat. (
-  only (λ s. s ≡ ProgramRefused (astray vat)) (GoesAstray vat command input) result command input written (λ stopped is. subst IsInterrupted is stopped)
-      (astray_only vat command input result) pays,
-  there (λ s. s ≡ ProgramRefused (astray vat)) (GoesAstray vat command input) result command input written (astray_there vat command input result written) pays,
-)
+none_interrupted : (status : Status) → IsInterrupted status → IsAstray status → ⊥
+none_interrupted ReadFault stopped is = is
+none_interrupted WriteFault stopped is = is
+none_interrupted Memory stopped is = is
+none_interrupted _ stopped is = stopped
+
+pub none_astray : (left held held' : Option (List ℕ)) (result : Status) (command : Option Command) → OfLeft left held held' result command → IfSome left (λ input. IsAstray result → ⊥)
+none_astray None held held' result command pays = tt
+none_astray (Some input) held held' result command (written, appends, pays) =
+    only IsAstray ⊥ result command input written (none_interrupted result) (astray_never command input result) pays
 
 pub fuel_comes : (left held held' : Option (List ℕ)) (result : Status) (command : Option Command) → OfLeft left held held' result command
     → IfSome left (λ input. (step : ℕ) → ComesWhere (λ s. s ≡ FuelSpent step) result (Stops Fuel step command input))

@@ -15,7 +15,7 @@ use Rattle.ev_top.specs.declared.command.Command.{Command}
 use Rattle.ev_top.specs.declared.command.Command.TheVariants.{Run, Expand, Generate, Sum, Sturdy, Mint, Check}
 
 -- it is read from bytes
-bytes_of : (command : Option Command) (input : List ℕ) (script : Script) → HasScript command input script → (bytes : List ℕ) × (script_from bytes ≡ Ok script)
+pub bytes_of : (command : Option Command) (input : List ℕ) (script : Script) → HasScript command input script → (bytes : List ℕ) × (script_from bytes ≡ Ok script)
 bytes_of None input script has = absurd has
 bytes_of (Some (Run wire)) input script has = (input, has.1)
 bytes_of (Some (Sum n)) input script has = (generated n, has)

@@ -5,8 +5,9 @@ pub mod Steady
 pub mod Ended
 pub mod Summed
 pub mod ReadLemmas
-pub mod CauseLemmas
 pub mod Lawful
+pub mod Astray
+pub mod CauseLemmas
 pub mod Fates
 pub mod Reach
 pub mod Severed

@@ -1,7 +1,7 @@
 -- Why each answer comes.
 use Rattle.std.specs.Prelude.{◌≡◌, ◌⊎◌, ◌<◌, ◌≤◌, ℕ, true, List, length, slice_get, Some, None, Ok, Err}
 use Rattle.std.specs.declared.option.Option.{Option}
-use Rattle.def_machine.specs.State.{Stop, Repeated, Astray}
+use Rattle.def_machine.specs.State.{Stop, Repeated}
 use Rattle.ev_reader.specs.Program.{Answers}
 use Rattle.ev_reader.specs.declared.fault.ProgramFault.TheVariants.{At}
 use Rattle.ev_reader.specs.declared.fault.Stage.{Stage as Part}
@@ -17,11 +17,12 @@ use Rattle.ev_top.specs.Commands.{reads}
 use Rattle.ev_top.specs.Debt.{most_bytes}
 use Rattle.ev_top.specs.Expansion.{text_from}
 use Rattle.ev_world.specs.Running.{script_of}
-use Rattle.ev_top.specs.Machine.{greatest_depth, vat_of_step}
+use Rattle.ev_top.specs.Machine.{greatest_depth}
 use Rattle.ev_top.specs.Programs.{AreRead, IsFirstRefused, IsRead, safe_names}
 use Rattle.ev_script.specs.Script.{read as script_from}
 use Rattle.ev_top.specs.declared.command.Command.{Command}
 use Rattle.ev_top.specs.declared.command.Command.TheVariants.{Run, Expand, Generate, Sum, Sturdy, Mint, Check}
+use Rattle.ev_top.specs.declared.status.Stage.TheVariants as stages
 use Rattle.ev_top.specs.declared.status.Status.{Status}
 use Rattle.ev_top.specs.declared.status.Status.TheVariants.{ReadFault, WriteFault, ProgramRefused, Memory}
 
@@ -107,6 +108,11 @@ abbrev pub IsProgramRefused : Status → Type 0
 IsProgramRefused (ProgramRefused r) = Unit {0}
 IsProgramRefused _ = ⊥
 
+-- a program is refused because its run goes astray
+abbrev pub IsAstray : Status → Type 0
+IsAstray (ProgramRefused r) = r.stage ≡ stages.Astray
+IsAstray _ = ⊥
+
 -- the machine's run of a script whose programs are these
 abbrev pub run_of : Script → List Scoped → Machine
 run_of script programs = run (script_of script programs greatest_depth)
@@ -119,10 +125,6 @@ StopsIn script stop step command input = (programs : List Scoped) × HasPrograms
 -- the same of some script
 abbrev pub Stops : Stop → ℕ → Option Command → List ℕ → Type 0
 Stops stop step command input = (script : Script) × StopsIn script stop step command input
-
--- it stops in a step of that vat, in which it meets a noun that nothing binds
-abbrev pub GoesAstray : ℕ → Option Command → List ℕ → Type 0
-GoesAstray vat command input = (script : Script) × (step : ℕ) × StopsIn script Astray step command input × (vat_of_step script step ≡ vat)
 
 -- the second of these draws gives what the first gave, in those answers or in a step of that run
 abbrev pub RepeatsWord : ℕ → ℕ → Option Command → List ℕ → Type 0

@@ -3,7 +3,7 @@ use Rattle.std.specs.Prelude.{◌≡◌, ◌⊎◌, ◌≤◌, ◌+◌, ◌*◌,
 use Rattle.std.specs.declared.option.Option.{Option}
 use Rattle.def_kernel.specs.declared.node.Node.{Node}
 use Rattle.def_machine.specs.Values.{Words, Value, Broken, Ref, Name, Foreign, spot_of}
-use Rattle.def_machine.specs.State.{Stop, Vat, is_in}
+use Rattle.def_machine.specs.State.{Stop, Astray, Vat, is_in}
 use Rattle.def_machine.specs.Refs.{follow}
 use Rattle.def_run.specs.World as machine
 use Rattle.def_run.specs.World.{Program, Entry, NoticeLink, World, Goes, Stopped, begins, names, open_from, run, steps_from}
@@ -20,7 +20,7 @@ use Rattle.law_connected.specs.UseLaws.{RunConnected}
 use Rattle.ev_scope.specs.declared.accepted.Scoped.{Scoped}
 use Rattle.ev_script.specs.declared.script.Script.{Script}
 use Rattle.law_generated.specs.Accepted.{generated_script}
-use Rattle.ev_top.specs.Causes.{HasPrograms, HasScript}
+use Rattle.ev_top.specs.Causes.{HasPrograms, HasScript, run_of}
 use Rattle.law_schedule.specs.Scripts.{machine_script, tree_at}
 use Rattle.ev_world.specs.Running.{script_of}
 use Rattle.ev_top.specs.Machine.{greatest_depth}
@@ -34,6 +34,11 @@ use Rattle.ev_top.specs.declared.status.Status.TheVariants.{Usage, ReadFault, To
 abbrev pub IsToRun : Option Command → List ℕ → machine.Script → Type 0
 IsToRun command input script = (read : Script) × (programs : List Scoped) × HasPrograms command input read programs
     × (script ≡ script_of read programs greatest_depth)
+
+-- the run of a script whose programs are read stops in no step as astray
+abbrev pub NoRunGoesAstray : Type 0
+NoRunGoesAstray = (command : Option Command) (input : List ℕ) (script : Script) (programs : List Scoped) → HasPrograms command input script programs
+    → (step : ℕ) (world : World) → run_of script programs ≡ Stopped Astray step world → ⊥
 
 -- ---- the worlds of a run
 

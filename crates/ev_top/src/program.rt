@@ -7,8 +7,8 @@ ghost use Rattle.ev_top.specs.Commands.{command_of, reads};
 ghost use Rattle.ev_top.specs.Debt.{most_bytes};
 ghost use Rattle.def_machine.specs.State.{Fuel, Deep};
 ghost use Rattle.ev_reader.specs.declared.fault.Stage.{Stage as Part};
-ghost use Rattle.ev_top.specs.Causes.{Breaks, ComesWhere, Follows, GoesAstray, HasFault, HasNoTree, IsLong, IsProgramRefused, RepeatsWord, Stops};
-ghost use Rattle.ev_top.specs.Due.{IsDue, IsOfWhole, IsReading, Pays, IsOfRead, Finishes, MayRun, Reads, ReadsFor, Settles, astray, debt_of};
+ghost use Rattle.ev_top.specs.Causes.{Breaks, ComesWhere, Follows, HasFault, HasNoTree, IsAstray, IsLong, IsProgramRefused, RepeatsWord, Stops};
+ghost use Rattle.ev_top.specs.Due.{IsDue, IsOfWhole, IsReading, Pays, IsOfRead, Finishes, MayRun, Reads, ReadsFor, Settles, debt_of};
 ghost use Rattle.ev_top.specs.Headline.{MessagesHaveOneFate, SeveredStaysBroken, StampedReachFrozenAlone, StopsAsItCame, SumsUp, UsesAreConnected};
 ghost use Rattle.ev_top.specs.Programs.{refusal};
 
@@ -193,8 +193,8 @@ pub fn top<S: Source, K: Sink>(alloc: Global, words: &Seq<Str>, src: &mut S, out
     ensures refused { IfSome (S.left src.old) (λ input. (vat : ℕ) (part : Part) (kind place : ℕ)
         → ComesWhere (λ s. s ≡ Status.ProgramRefused (refusal vat part kind place)) result (HasFault vat part kind place (command_of words.now) input)) }
     ensures no_tree { IfSome (S.left src.old) (λ input. Follows IsProgramRefused result (HasNoTree (command_of words.now) input)) }
-    ensures astray { IfSome (S.left src.old) (λ input. (vat : ℕ) → ComesWhere (λ s. s ≡ Status.ProgramRefused (astray vat)) result
-        (GoesAstray vat (command_of words.now) input)) }
+    // None is that a run goes astray.
+    ensures never_astray { IfSome (S.left src.old) (λ input. ¬ IsAstray result) }
     ensures fuel { IfSome (S.left src.old) (λ input. (step : ℕ) → ComesWhere (λ s. s ≡ Status.FuelSpent step) result
         (Stops Fuel step (command_of words.now) input)) }
     ensures depth { IfSome (S.left src.old) (λ input. (step : ℕ) → ComesWhere (λ s. s ≡ Status.TooDeep step) result

@@ -11,12 +11,14 @@ use Rattle.def_event.specs.declared.shown.Shown.{Shown}
 use Rattle.def_event.specs.declared.note.ShownNote.{ShownNote}
 use Rattle.def_event.specs.declared.note.ShownNote.TheVariants.{Deliver, DeliverOnly, Settled, Elsewhere, Open as Opens, Ask, Shorten}
 use Rattle.def_event.specs.declared.event.Addressed.{Addressed}
+use Rattle.def_event.specs.declared.event.MadeObject.{MadeObject}
 use Rattle.def_event.specs.declared.event.Event.{Event}
 use Rattle.def_event.specs.declared.event.Event.TheVariants.{Open, Turn, Idle, Carry, Cut, Notice, Frame, Take, Call, Back, Thrown, Gone, Got, Slot, Read, Wrote, List as ListMade, Arrived, Ejector, Audition, Promise, Made, Send, SendOnly, When, Done, Threw, Settle, Wait, View, LostCut, LostBroken, LeftQueue, LeftHeld, LeftWait, LeftLink, End}
 use Rattle.hex.specs.Hex.{decode_of}
 use Rattle.ev_command_lines.specs.Lines.{is_lower_digit}
 use Rattle.ev_script.specs.Script.{rule, ◌>>=◌}
 use Rattle.ev_script.specs.Vats.{place_of}
+use Rattle.ev_trace_lines.specs.declared.acts.Request.{Request}
 use Rattle.ev_trace_lines.specs.declared.notes.Delivered.{Delivered}
 use Rattle.ev_trace_words.specs.Parts.{activation, count, message, name, numbered}
 use Rattle.ev_trace_words.specs.Texts.{object_name, verb}
@@ -24,6 +26,15 @@ use Rattle.ev_trace_words.specs.Values.{note_value, note_values, value, values}
 
 abbrev pub Words : Type 0
 Words = List (List ℕ)
+
+-- so many words, where there are no others
+unfoldable pub two_words : Words → Option (List ℕ × List ℕ)
+two_words (a ∷ b ∷ []) = Some (a, b)
+two_words _ = None
+
+unfoldable pub three_words : Words → Option (List ℕ × (List ℕ × List ℕ))
+three_words (a ∷ b ∷ c ∷ []) = Some (a, (b, c))
+three_words _ = None
 
 -- ---- words that stand between values
 
@@ -49,6 +60,17 @@ begun (Some (b ∷ [])) = do
   id ← rule 42 (activation b)
   Ok (Some id)
 begun (Some _) = Err 42
+
+-- what is asked by a call, and by a send with its message and its answer
+abbrev pub call_of : ℕ → Request → Option ℕ → Event
+call_of a s b = Call (record { activation = a; target = s.target; verb = s.verb; args = s.args; begun = b })
+
+abbrev pub send_of : ℕ → Msg → Request → Name → Event
+send_of a m s answer = Send (record { activation = a; message = m; target = s.target; verb = s.verb; args = s.args; answer = answer })
+
+-- a reaction to a value
+abbrev pub when_of : ℕ → Msg → Shown × Shown → Name → Event
+when_of a m x answer = When (record { activation = a; message = m; value = x.0; reaction = x.1; answer = answer })
 
 abbrev pub valued : ℕ → List ℕ → Shown → Option Event
 valued a word x =
@@ -99,8 +121,9 @@ strange_of kind what =
     else Err 42
 
 abbrev pub strange_note : Words → Result ShownNote ℕ
-strange_note (kind ∷ what ∷ []) = strange_of kind what
-strange_note _ = Err 42
+strange_note words = do
+  w ← rule 42 (two_words words)
+  strange_of w.0 w.1
 
 abbrev pub is_strange : Words → Bool
 is_strange [] = false
@@ -132,35 +155,39 @@ module _ (names : List (List ℕ)) where
 
   -- ---- a note
 
+  unfoldable pub delivery_with : Msg → Name → List ℕ → Words → Result Delivered ℕ
+  delivery_with id target v args = do
+    asked ← verb v
+    xs ← note_values names args
+    Ok (record { message = id; target = target; verb = asked; args = xs })
+
   abbrev pub delivery : Words → Result Delivered ℕ
   delivery (m ∷ t ∷ v ∷ args) = do
     id ← rule 42 (message names m)
     target ← rule 42 (name names t)
-    asked ← verb v
-    xs ← note_values names args
-    Ok (record { message = id; target = target; verb = asked; args = xs })
+    delivery_with id target v args
   delivery _ = Err 42
 
   abbrev pub two_names : Words → Result (Name × Name) ℕ
-  two_names (a ∷ b ∷ []) = do
-    first ← rule 42 (name names a)
-    second ← rule 42 (name names b)
+  two_names words = do
+    w ← rule 42 (two_words words)
+    first ← rule 42 (name names w.0)
+    second ← rule 42 (name names w.1)
     Ok (first, second)
-  two_names _ = Err 42
 
   abbrev pub name_and_vat : Words → Result (Name × ℕ) ℕ
-  name_and_vat (a ∷ b ∷ []) = do
-    first ← rule 42 (name names a)
-    v ← vat b
+  name_and_vat words = do
+    w ← rule 42 (two_words words)
+    first ← rule 42 (name names w.0)
+    v ← vat w.1
     Ok (first, v)
-  name_and_vat _ = Err 42
 
   abbrev pub settled_note : Words → Result ShownNote ℕ
-  settled_note (a ∷ b ∷ []) = do
-    first ← rule 42 (name names a)
-    x ← note_value names 100 b
+  settled_note words = do
+    w ← rule 42 (two_words words)
+    first ← rule 42 (name names w.0)
+    x ← note_value names 100 w.1
     Ok (Settled first x)
-  settled_note _ = Err 42
 
   -- a delivery, whose message has no answer where it is only delivered
   abbrev pub delivering : Bool → Words → Result ShownNote ℕ
@@ -205,11 +232,11 @@ module _ (names : List (List ℕ)) where
 
   -- an object or a promise, and a value
   abbrev pub name_and_value : Words → Result (Name × Shown) ℕ
-  name_and_value (n ∷ x ∷ []) = do
-    first ← rule 42 (name names n)
-    second ← value names x
+  name_and_value words = do
+    w ← rule 42 (two_words words)
+    first ← rule 42 (name names w.0)
+    second ← value names w.1
     Ok (first, second)
-  name_and_value _ = Err 42
 
   -- ---- what an activation does
 
@@ -218,11 +245,11 @@ module _ (names : List (List ℕ)) where
   one_value _ = Err 42
 
   abbrev pub slot_and_value : Words → Result ((ℕ × ℕ) × Shown) ℕ
-  slot_and_value (s ∷ x ∷ []) = do
-    slot ← rule 42 (numbered names 38 s)
-    held ← value names x
+  slot_and_value words = do
+    w ← rule 42 (two_words words)
+    slot ← rule 42 (numbered names 38 w.0)
+    held ← value names w.1
     Ok (slot, held)
-  slot_and_value _ = Err 42
 
   abbrev pub list_and_members : Words → Result ((ℕ × ℕ) × List Shown) ℕ
   list_and_members [] = Err 42
@@ -231,22 +258,30 @@ module _ (names : List (List ℕ)) where
     xs ← values names rest
     Ok (list, xs)
 
+  -- what is asked: of whom, by which verb and with which values
+  unfoldable pub asked_with : Shown → List ℕ → Words → Result Request ℕ
+  asked_with target v args = do
+    asked ← verb v
+    xs ← values names args
+    Ok (record { target = target; verb = asked; args = xs })
+
+  unfoldable pub asked : List ℕ → List ℕ → Words → Result Request ℕ
+  asked t v args = do
+    target ← value names t
+    asked_with target v args
+
   abbrev pub addressed : ℕ → Words → Result Addressed ℕ
   addressed a (m ∷ t ∷ v ∷ args) = do
     id ← rule 42 (message names m)
-    target ← value names t
-    asked ← verb v
-    xs ← values names args
-    Ok (record { activation = a; message = id; target = target; verb = asked; args = xs })
+    s ← asked t v args
+    Ok (record { activation = a; message = id; target = s.target; verb = s.verb; args = s.args })
   addressed a _ = Err 42
 
   abbrev pub called : ℕ → Words → Result Event ℕ
   called a (t ∷ v ∷ rest) = do
-    target ← value names t
-    asked ← verb v
-    xs ← values names (before_word (codes "as") rest)
+    s ← asked t v (before_word (codes "as") rest)
     b ← begun (behind_word (codes "as") rest)
-    Ok (Call (record { activation = a; target = target; verb = asked; args = xs; begun = b }))
+    Ok (call_of a s b)
   called a _ = Err 42
 
   -- a word and the values behind it, at least one, or nothing
@@ -262,13 +297,18 @@ module _ (names : List (List ℕ)) where
   captures [] = Ok []
   captures (w ∷ rest) = if bytes_eq w (codes "caps") then some_values rest else Err 42
 
+  unfoldable pub made_with : ℕ → Shown → List ℕ → Words → Result MadeObject ℕ
+  made_with a object called rest = do
+    caps ← captures (before_word (codes "stamps") rest)
+    stamps ← part_behind (behind_word (codes "stamps") rest)
+    Ok (record { activation = a; object = object; name = called; caps = caps; stamps = stamps })
+
   abbrev pub made : ℕ → Words → Result Event ℕ
   made a (o ∷ n ∷ rest) = do
     object ← value names o
     called ← object_name n
-    caps ← captures (before_word (codes "stamps") rest)
-    stamps ← part_behind (behind_word (codes "stamps") rest)
-    Ok (Made (record { activation = a; object = object; name = called; caps = caps; stamps = stamps }))
+    m ← made_with a object called rest
+    Ok (Made m)
   made a _ = Err 42
 
   abbrev pub answered : Option Words → Result Name ℕ
@@ -278,24 +318,28 @@ module _ (names : List (List ℕ)) where
   abbrev pub sent : ℕ → Words → Result Event ℕ
   sent a (m ∷ t ∷ v ∷ rest) = do
     id ← rule 42 (message names m)
-    target ← value names t
-    asked ← verb v
-    xs ← values names (before_word (codes "->") rest)
+    s ← asked t v (before_word (codes "->") rest)
     answer ← answered (behind_word (codes "->") rest)
-    Ok (Send (record { activation = a; message = id; target = target; verb = asked; args = xs; answer = answer }))
+    Ok (send_of a id s answer)
   sent a _ = Err 42
 
   abbrev pub arrow_name : Words → Result Name ℕ
-  arrow_name (w ∷ n ∷ []) = if bytes_eq w (codes "->") then rule 42 (name names n) else Err 42
-  arrow_name _ = Err 42
+  arrow_name words = do
+    w ← rule 42 (two_words words)
+    if bytes_eq w.0 (codes "->") then rule 42 (name names w.1) else Err 42
+
+  unfoldable pub two_values : List ℕ → List ℕ → Result (Shown × Shown) ℕ
+  two_values x y = do
+    first ← value names x
+    second ← value names y
+    Ok (first, second)
 
   abbrev pub reacting : ℕ → Words → Result Event ℕ
   reacting a (m ∷ x ∷ o ∷ rest) = do
     id ← rule 42 (message names m)
-    awaited ← value names x
-    reaction ← value names o
+    both ← two_values x o
     answer ← arrow_name rest
-    Ok (When (record { activation = a; message = id; value = awaited; reaction = reaction; answer = answer }))
+    Ok (when_of a id both answer)
   reacting a _ = Err 42
 
   -- an act of one value
@@ -366,18 +410,18 @@ module _ (names : List (List ℕ)) where
   one_vat _ = Err 42
 
   abbrev pub two_vats : Words → Result (ℕ × ℕ) ℕ
-  two_vats (v ∷ w ∷ []) = do
-    from ← vat v
-    to ← vat w
+  two_vats words = do
+    w ← rule 42 (two_words words)
+    from ← vat w.0
+    to ← vat w.1
     Ok (from, to)
-  two_vats _ = Err 42
 
   abbrev pub inject : Words → Result Event ℕ
-  inject (v ∷ w ∷ what ∷ []) = do
-    from ← vat v
-    to ← vat w
-    injection what
-  inject _ = Err 42
+  inject words = do
+    w ← rule 42 (three_words words)
+    from ← vat w.0
+    to ← vat w.1.0
+    injection w.1.1
 
   abbrev pub carried : Words → Result ShownNote ℕ
   carried words = if is_strange words then strange_note words else note words
@@ -425,33 +469,33 @@ module _ (names : List (List ℕ)) where
   -- ---- what is left, and other lines
 
   abbrev pub lost : Words → Result Event ℕ
-  lost (m ∷ word ∷ []) = do
-    id ← rule 42 (message names m)
-    rule 42 (lost_how id word)
-  lost _ = Err 42
+  lost words = do
+    w ← rule 42 (two_words words)
+    id ← rule 42 (message names w.0)
+    rule 42 (lost_how id w.1)
 
   abbrev pub left_queue : Words → Result Event ℕ
-  left_queue (v ∷ m ∷ []) = do
-    host ← vat v
-    id ← rule 42 (message names m)
+  left_queue words = do
+    w ← rule 42 (two_words words)
+    host ← vat w.0
+    id ← rule 42 (message names w.1)
     Ok (LeftQueue host id)
-  left_queue _ = Err 42
 
   abbrev pub left_held : Words → Result Event ℕ
-  left_held (v ∷ p ∷ m ∷ []) = do
-    host ← vat v
-    promise ← rule 42 (name names p)
-    id ← rule 42 (message names m)
+  left_held words = do
+    w ← rule 42 (three_words words)
+    host ← vat w.0
+    promise ← rule 42 (name names w.1.0)
+    id ← rule 42 (message names w.1.1)
     Ok (LeftHeld host promise id)
-  left_held _ = Err 42
 
   abbrev pub left_wait : Words → Result Event ℕ
-  left_wait (v ∷ x ∷ m ∷ []) = do
-    host ← vat v
-    awaited ← value names x
-    id ← rule 42 (message names m)
+  left_wait words = do
+    w ← rule 42 (three_words words)
+    host ← vat w.0
+    awaited ← value names w.1.0
+    id ← rule 42 (message names w.1.1)
     Ok (LeftWait host awaited id)
-  left_wait _ = Err 42
 
   abbrev pub left_link : Words → Result Event ℕ
   left_link (v ∷ w ∷ rest) = do

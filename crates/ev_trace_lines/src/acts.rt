@@ -2,13 +2,13 @@
 
 ghost use Rattle.std.specs.Prelude.{◌≡◌, ◌≤◌, IfOk, length, option_map};
 ghost use Rattle.ev_script.specs.Script.{Reads};
-ghost use Rattle.ev_trace_lines.specs.Events.{act, act_of, act_on_value, addressed, answered, arrow_name, before_word, begun, behind_word, called, captures, gone, list_and_members, list_made, made, name_and_value, one_value, part_behind, place_of_word, promised, reacting, sent, sent_only, slot_and_value, slot_made, slot_read, slot_wrote, some_values, take_of, valued};
+ghost use Rattle.ev_trace_lines.specs.Events.{act, act_of, act_on_value, addressed, answered, arrow_name, asked, asked_with, before_word, begun, behind_word, call_of, called, captures, gone, list_and_members, list_made, made, made_with, name_and_value, one_value, part_behind, place_of_word, promised, reacting, send_of, sent, sent_only, slot_and_value, slot_made, slot_read, slot_wrote, some_values, take_of, two_values, valued, when_of};
 
-use crate::notes::{message, name};
+use crate::notes::{message, name, two_words};
 use def_event::boxed::Boxed;
 use def_event::event::{Addressed, Called, Event, MadeObject, Reacting, Sent};
 use def_event::shown::Shown;
-use ev_base::{Memory, Name, Seq, Str, VatId};
+use ev_base::{Memory, Msg, Name, Seq, Str, VatId};
 use ev_script::ScriptFault;
 use ev_trace_words::parts::{activation, numbered};
 use ev_trace_words::texts::{object_name, verb};
@@ -73,16 +73,14 @@ fn slot_and_value(
     requires { length names.now ≤ 16 }
     ensures { Reads result (slot_and_value names.now words.now) }
 {
-    match words {
-        [slot, x] => {
-            let Some(slot) = numbered(names, slot.as_str(), '&') else {
-                return Err(ScriptFault::Rule(42));
-            };
-            let held = value(alloc, names, x.as_str())?;
-            Ok((slot, held))
-        }
-        _ => Err(ScriptFault::Rule(42)),
-    }
+    let Some((slot, x)) = two_words(words) else {
+        return Err(ScriptFault::Rule(42));
+    };
+    let Some(slot) = numbered(names, slot, '&') else {
+        return Err(ScriptFault::Rule(42));
+    };
+    let held = value(alloc, names, x)?;
+    Ok((slot, held))
 }
 
 /// A list by its number, and its members.
@@ -115,14 +113,54 @@ pub(crate) fn name_and_value(
     requires { length names.now ≤ 16 }
     ensures { Reads result (name_and_value names.now words.now) }
 {
-    match words {
-        [first, second] => {
-            let subject = name(names, first.as_str())?;
-            let x = value(alloc, names, second.as_str())?;
+    match two_words(words) {
+        Some((first, second)) => {
+            let subject = name(names, first)?;
+            let x = value(alloc, names, second)?;
             Ok((subject, x))
         }
-        _ => Err(ScriptFault::Rule(42)),
+        None => Err(ScriptFault::Rule(42)),
     }
+}
+
+/// What a message or a call asks: of whom, by which verb and with which values.
+#[derive(Drop)]
+struct Request {
+    target: Shown,
+    verb: Str,
+    args: Seq<Shown>,
+}
+
+/// What is asked of a target.
+#[tactic(auto, unfolding(crate::specs::Events::asked_with))]
+fn asked_with(
+    alloc: Global,
+    names: &[Str],
+    target: Shown,
+    word: &str,
+    args: &[Str],
+) -> Result<Request, ScriptFault>
+    requires { length names.now ≤ 16 }
+    ensures { Reads result (asked_with names.now target word.now args.now) }
+{
+    let verb = verb(alloc, word)?;
+    let args = values(alloc, names, args)?;
+    Ok(Request { target, verb, args })
+}
+
+#[tactic(auto, unfolding(crate::specs::Events::asked))]
+fn asked(
+    alloc: Global,
+    names: &[Str],
+    target: &str,
+    word: &str,
+    args: &[Str],
+) -> Result<Request, ScriptFault>
+    requires { length names.now ≤ 16 }
+    ensures { Reads result (asked names.now target.now word.now args.now) }
+{
+    let target = value(alloc, names, target)?;
+    asked_with(alloc, names, target, word, args)
 }
 
 fn addressed(alloc: Global, names: &[Str], a: u64, words: &[Str]) -> Result<Addressed, ScriptFault>
@@ -130,11 +168,15 @@ fn addressed(alloc: Global, names: &[Str], a: u64, words: &[Str]) -> Result<Addr
     ensures { Reads result (addressed names.now a words.now) }
 {
     match words {
-        [id, target, asked, args @ ..] => {
+        [id, target, verb, args @ ..] => {
             let message = message(names, id.as_str())?;
-            let target = value(alloc, names, target.as_str())?;
-            let verb = verb(alloc, asked.as_str())?;
-            let args = values(alloc, names, args)?;
+            let Request { target, verb, args } = asked(
+                alloc,
+                names,
+                target.as_str(),
+                verb.as_str(),
+                args,
+            )?;
             Ok(Addressed {
                 activation: a,
                 message,
@@ -161,24 +203,35 @@ fn begun(words: Option<&[Str]>) -> Result<Option<u64>, ScriptFault>
     }
 }
 
+fn call_of(
+    alloc: Global,
+    activation: u64,
+    call: Request,
+    begun: Option<u64>,
+) -> Result<Event, Memory>
+    ensures { IfOk result (λ event. event ≡ call_of activation call begun) }
+{
+    let Request { target, verb, args } = call;
+    let call = Called {
+        activation,
+        target,
+        verb,
+        args,
+        begun,
+    };
+    Ok(Event::Call(boxed(alloc, call)?))
+}
+
 fn called(alloc: Global, names: &[Str], a: u64, words: &[Str]) -> Result<Event, ScriptFault>
     requires { length names.now ≤ 16 }
     ensures { Reads result (called names.now a words.now) }
 {
     match words {
-        [target, asked, rest @ ..] => {
-            let target = value(alloc, names, target.as_str())?;
-            let verb = verb(alloc, asked.as_str())?;
-            let args = values(alloc, names, before_word(rest, "as"))?;
+        [target, verb, rest @ ..] => {
+            let args = before_word(rest, "as");
+            let call = asked(alloc, names, target.as_str(), verb.as_str(), args)?;
             let begun = begun(behind_word(rest, "as"))?;
-            let call = Called {
-                activation: a,
-                target,
-                verb,
-                args,
-                begun,
-            };
-            Ok(Event::Call(boxed(alloc, call)?))
+            Ok(call_of(alloc, a, call, begun)?)
         }
         _ => Err(ScriptFault::Rule(42)),
     }
@@ -225,6 +278,30 @@ fn captures(alloc: Global, names: &[Str], words: &[Str]) -> Result<Seq<Shown>, S
     }
 }
 
+/// An object of a name is made.
+#[tactic(auto, unfolding(crate::specs::Events::made_with))]
+fn made_with(
+    alloc: Global,
+    names: &[Str],
+    a: u64,
+    object: Shown,
+    name: Str,
+    rest: &[Str],
+) -> Result<MadeObject, ScriptFault>
+    requires { length names.now ≤ 16 }
+    ensures { Reads result (made_with names.now a object name rest.now) }
+{
+    let caps = captures(alloc, names, before_word(rest, "stamps"))?;
+    let stamps = part_behind(alloc, names, behind_word(rest, "stamps"))?;
+    Ok(MadeObject {
+        activation: a,
+        object,
+        name,
+        caps,
+        stamps,
+    })
+}
+
 fn made(alloc: Global, names: &[Str], a: u64, words: &[Str]) -> Result<Event, ScriptFault>
     requires { length names.now ≤ 16 }
     ensures { Reads result (made names.now a words.now) }
@@ -233,15 +310,7 @@ fn made(alloc: Global, names: &[Str], a: u64, words: &[Str]) -> Result<Event, Sc
         [object, called, rest @ ..] => {
             let object = value(alloc, names, object.as_str())?;
             let name = object_name(alloc, called.as_str())?;
-            let caps = captures(alloc, names, before_word(rest, "stamps"))?;
-            let stamps = part_behind(alloc, names, behind_word(rest, "stamps"))?;
-            let made = MadeObject {
-                activation: a,
-                object,
-                name,
-                caps,
-                stamps,
-            };
+            let made = made_with(alloc, names, a, object, name, rest)?;
             Ok(Event::Made(boxed(alloc, made)?))
         }
         _ => Err(ScriptFault::Rule(42)),
@@ -259,26 +328,38 @@ fn answered(names: &[Str], words: Option<&[Str]>) -> Result<Name, ScriptFault>
     }
 }
 
+fn send_of(
+    alloc: Global,
+    activation: u64,
+    message: Msg,
+    send: Request,
+    answer: Name,
+) -> Result<Event, Memory>
+    ensures { IfOk result (λ event. event ≡ send_of activation message send answer) }
+{
+    let Request { target, verb, args } = send;
+    let sent = Sent {
+        activation,
+        message,
+        target,
+        verb,
+        args,
+        answer,
+    };
+    Ok(Event::Send(boxed(alloc, sent)?))
+}
+
 fn sent(alloc: Global, names: &[Str], a: u64, words: &[Str]) -> Result<Event, ScriptFault>
     requires { length names.now ≤ 16 }
     ensures { Reads result (sent names.now a words.now) }
 {
     match words {
-        [id, target, asked, rest @ ..] => {
+        [id, target, verb, rest @ ..] => {
             let message = message(names, id.as_str())?;
-            let target = value(alloc, names, target.as_str())?;
-            let verb = verb(alloc, asked.as_str())?;
-            let args = values(alloc, names, before_word(rest, "->"))?;
+            let args = before_word(rest, "->");
+            let send = asked(alloc, names, target.as_str(), verb.as_str(), args)?;
             let answer = answered(names, behind_word(rest, "->"))?;
-            let sent = Sent {
-                activation: a,
-                message,
-                target,
-                verb,
-                args,
-                answer,
-            };
-            Ok(Event::Send(boxed(alloc, sent)?))
+            Ok(send_of(alloc, a, message, send, answer)?)
         }
         _ => Err(ScriptFault::Rule(42)),
     }
@@ -289,16 +370,51 @@ fn arrow_name(names: &[Str], words: &[Str]) -> Result<Name, ScriptFault>
     requires { length names.now ≤ 16 }
     ensures { Reads result (arrow_name names.now words.now) }
 {
-    match words {
-        [arrow, answer] => {
-            if arrow.as_str() == "->" {
-                name(names, answer.as_str())
+    match two_words(words) {
+        Some((arrow, answer)) => {
+            if arrow == "->" {
+                name(names, answer)
             } else {
                 Err(ScriptFault::Rule(42))
             }
         }
-        _ => Err(ScriptFault::Rule(42)),
+        None => Err(ScriptFault::Rule(42)),
     }
+}
+
+#[tactic(auto, unfolding(crate::specs::Events::two_values))]
+fn two_values(
+    alloc: Global,
+    names: &[Str],
+    first: &str,
+    second: &str,
+) -> Result<(Shown, Shown), ScriptFault>
+    requires { length names.now ≤ 16 }
+    ensures { Reads result (two_values names.now first.now second.now) }
+{
+    let first = value(alloc, names, first)?;
+    let second = value(alloc, names, second)?;
+    Ok((first, second))
+}
+
+fn when_of(
+    alloc: Global,
+    activation: u64,
+    message: Msg,
+    values: (Shown, Shown),
+    answer: Name,
+) -> Result<Event, Memory>
+    ensures { IfOk result (λ event. event ≡ when_of activation message values answer) }
+{
+    let (value, reaction) = values;
+    let reacting = Reacting {
+        activation,
+        message,
+        value,
+        reaction,
+        answer,
+    };
+    Ok(Event::When(boxed(alloc, reacting)?))
 }
 
 fn reacting(alloc: Global, names: &[Str], a: u64, words: &[Str]) -> Result<Event, ScriptFault>
@@ -308,17 +424,9 @@ fn reacting(alloc: Global, names: &[Str], a: u64, words: &[Str]) -> Result<Event
     match words {
         [id, awaited, reaction, rest @ ..] => {
             let message = message(names, id.as_str())?;
-            let value_awaited = value(alloc, names, awaited.as_str())?;
-            let reaction = value(alloc, names, reaction.as_str())?;
+            let values = two_values(alloc, names, awaited.as_str(), reaction.as_str())?;
             let answer = arrow_name(names, rest)?;
-            let reacting = Reacting {
-                activation: a,
-                message,
-                value: value_awaited,
-                reaction,
-                answer,
-            };
-            Ok(Event::When(boxed(alloc, reacting)?))
+            Ok(when_of(alloc, a, message, values, answer)?)
         }
         _ => Err(ScriptFault::Rule(42)),
     }

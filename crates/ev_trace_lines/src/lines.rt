@@ -7,7 +7,7 @@ ghost use Rattle.ev_script.specs.Script.{Reads};
 ghost use Rattle.ev_trace_lines.specs.Events.{arrived, bytes_of, carried, carry, cut_of, ended, entry, entry_of, event_of, frame, idle, inject, injected, injected_by, injection, is_raw, is_strange, left, left_held, left_link, left_of, left_queue, left_wait, line_by, lost, lost_how, malformed, notice_of, one_vat, opened, other_line, raw, settled, strange_note, strange_of, turn_of, two_vats, unnumbered, viewed, waited, waiting};
 
 use crate::acts::{act, boxed, list_and_members, name_and_value};
-use crate::notes::{message, name, note, two_names, vat};
+use crate::notes::{message, name, note, three_words, two_names, two_words, vat};
 use def_event::event::Event;
 use def_event::note::ShownNote;
 use ev_base::{Msg, Seq, Str, VatId};
@@ -57,13 +57,9 @@ fn two_vats(names: &[Str], words: &[Str]) -> Result<(VatId, VatId), ScriptFault>
     requires { length names.now ≤ 16 }
     ensures { Reads result (two_vats names.now words.now) }
 {
-    match words {
-        [v, w] => {
-            let from = vat(names, v.as_str())?;
-            let to = vat(names, w.as_str())?;
-            Ok((from, to))
-        }
-        _ => Err(ScriptFault::Rule(42)),
+    match two_words(words) {
+        Some((v, w)) => Ok((vat(names, v)?, vat(names, w)?)),
+        None => Err(ScriptFault::Rule(42)),
     }
 }
 
@@ -109,13 +105,13 @@ fn inject(alloc: Global, names: &[Str], words: &[Str]) -> Result<Event, ScriptFa
     requires { length names.now ≤ 16 }
     ensures { Reads result (inject names.now words.now) }
 {
-    match words {
-        [v, w, what] => {
-            let _from = vat(names, v.as_str())?;
-            let _to = vat(names, w.as_str())?;
-            injection(alloc, what.as_str())
+    match three_words(words) {
+        Some((v, w, what)) => {
+            let _from = vat(names, v)?;
+            let _to = vat(names, w)?;
+            injection(alloc, what)
         }
-        _ => Err(ScriptFault::Rule(42)),
+        None => Err(ScriptFault::Rule(42)),
     }
 }
 
@@ -149,9 +145,9 @@ fn strange_of(alloc: Global, kind: &str, what: &str) -> Result<ShownNote, Script
 fn strange_note(alloc: Global, words: &[Str]) -> Result<ShownNote, ScriptFault>
     ensures { Reads result (strange_note words.now) }
 {
-    match words {
-        [kind, what] => strange_of(alloc, kind.as_str(), what.as_str()),
-        _ => Err(ScriptFault::Rule(42)),
+    match two_words(words) {
+        Some((kind, what)) => strange_of(alloc, kind, what),
+        None => Err(ScriptFault::Rule(42)),
     }
 }
 
@@ -291,15 +287,13 @@ fn lost(names: &[Str], words: &[Str]) -> Result<Event, ScriptFault>
     requires { length names.now ≤ 16 }
     ensures { Reads result (lost names.now words.now) }
 {
-    match words {
-        [id, word] => {
-            let id = message(names, id.as_str())?;
-            match lost_how(id, word.as_str()) {
-                Some(event) => Ok(event),
-                None => Err(ScriptFault::Rule(42)),
-            }
-        }
-        _ => Err(ScriptFault::Rule(42)),
+    let Some((id, word)) = two_words(words) else {
+        return Err(ScriptFault::Rule(42));
+    };
+    let id = message(names, id)?;
+    match lost_how(id, word) {
+        Some(event) => Ok(event),
+        None => Err(ScriptFault::Rule(42)),
     }
 }
 
@@ -307,13 +301,13 @@ fn left_queue(names: &[Str], words: &[Str]) -> Result<Event, ScriptFault>
     requires { length names.now ≤ 16 }
     ensures { Reads result (left_queue names.now words.now) }
 {
-    match words {
-        [v, id] => {
-            let host = vat(names, v.as_str())?;
-            let id = message(names, id.as_str())?;
+    match two_words(words) {
+        Some((v, id)) => {
+            let host = vat(names, v)?;
+            let id = message(names, id)?;
             Ok(Event::LeftQueue(host, id))
         }
-        _ => Err(ScriptFault::Rule(42)),
+        None => Err(ScriptFault::Rule(42)),
     }
 }
 
@@ -321,14 +315,14 @@ fn left_held(names: &[Str], words: &[Str]) -> Result<Event, ScriptFault>
     requires { length names.now ≤ 16 }
     ensures { Reads result (left_held names.now words.now) }
 {
-    match words {
-        [v, promise, id] => {
-            let host = vat(names, v.as_str())?;
-            let promise = name(names, promise.as_str())?;
-            let id = message(names, id.as_str())?;
+    match three_words(words) {
+        Some((v, promise, id)) => {
+            let host = vat(names, v)?;
+            let promise = name(names, promise)?;
+            let id = message(names, id)?;
             Ok(Event::LeftHeld(host, promise, id))
         }
-        _ => Err(ScriptFault::Rule(42)),
+        None => Err(ScriptFault::Rule(42)),
     }
 }
 
@@ -336,14 +330,14 @@ fn left_wait(alloc: Global, names: &[Str], words: &[Str]) -> Result<Event, Scrip
     requires { length names.now ≤ 16 }
     ensures { Reads result (left_wait names.now words.now) }
 {
-    match words {
-        [v, awaited, id] => {
-            let host = vat(names, v.as_str())?;
-            let awaited = value(alloc, names, awaited.as_str())?;
-            let id = message(names, id.as_str())?;
+    match three_words(words) {
+        Some((v, awaited, id)) => {
+            let host = vat(names, v)?;
+            let awaited = value(alloc, names, awaited)?;
+            let id = message(names, id)?;
             Ok(Event::LeftWait(host, awaited, id))
         }
-        _ => Err(ScriptFault::Rule(42)),
+        None => Err(ScriptFault::Rule(42)),
     }
 }
 

@@ -1,10 +1,10 @@
 //! What the words of notes stand for.
 
-ghost use Rattle.std.specs.Prelude.{◌≡◌, ◌≤◌, length};
+ghost use Rattle.std.specs.Prelude.{◌≡◌, ◌≤◌, length, option_map};
 ghost use Rattle.ev_script.specs.Script.{Reads, rule};
 ghost use Rattle.ev_script.specs.Vats.{place_of};
 ghost use Rattle.ev_trace_words.specs.Parts.{message, name};
-ghost use Rattle.ev_trace_lines.specs.Events.{asking, delivering, delivery, elsewhere, name_and_vat, note, note_of, opening, settled_note, shortening, two_names, vat};
+ghost use Rattle.ev_trace_lines.specs.Events.{asking, delivering, delivery, delivery_with, elsewhere, name_and_vat, note, note_of, opening, settled_note, shortening, three_words, two_names, two_words, vat};
 
 use def_event::note::ShownNote;
 use def_event::shown::Shown;
@@ -22,6 +22,28 @@ pub(crate) struct Delivered {
     pub target: Name,
     pub verb: Str,
     pub args: Seq<Shown>,
+}
+
+/// Two words, where there are no others.
+#[tactic(auto, unfolding(crate::specs::Events::two_words))]
+pub(crate) fn two_words<'w>(words: &'w [Str]) -> Option<(&'w str, &'w str)>
+    ensures { option_map (λ both. (both.0.now, both.1.now)) result ≡ two_words words.now }
+{
+    match words {
+        [first, second] => Some((first.as_str(), second.as_str())),
+        _ => None,
+    }
+}
+
+/// Three words, where there are no others.
+#[tactic(auto, unfolding(crate::specs::Events::three_words))]
+pub(crate) fn three_words<'w>(words: &'w [Str]) -> Option<(&'w str, &'w str, &'w str)>
+    ensures { option_map (λ all. (all.0.now, (all.1.now, all.2.now))) result ≡ three_words words.now }
+{
+    match words {
+        [first, second, third] => Some((first.as_str(), second.as_str(), third.as_str())),
+        _ => None,
+    }
 }
 
 /// The vat of this name.
@@ -55,17 +77,39 @@ pub(crate) fn message(names: &[Str], word: &str) -> Result<Msg, ScriptFault>
     }
 }
 
+/// A message to a target is delivered.
+#[tactic(auto, unfolding(crate::specs::Events::delivery_with))]
+fn delivery_with(
+    alloc: Global,
+    names: &[Str],
+    message: Msg,
+    target: Name,
+    word: &str,
+    args: &[Str],
+) -> Result<Delivered, ScriptFault>
+    requires { length names.now ≤ 16 }
+    ensures { Reads result (delivery_with names.now message target word.now args.now) }
+{
+    let verb = verb(alloc, word)?;
+    let args = note_values(alloc, names, args)?;
+    Ok(Delivered {
+        message,
+        target,
+        verb,
+        args,
+    })
+}
+
 fn delivery(alloc: Global, names: &[Str], words: &[Str]) -> Result<Delivered, ScriptFault>
     requires { length names.now ≤ 16 }
     ensures { Reads result (delivery names.now words.now) }
 {
     match words {
-        [id, target, asked, args @ ..] => Ok(Delivered {
-            message: message(names, id.as_str())?,
-            target: name(names, target.as_str())?,
-            verb: verb(alloc, asked.as_str())?,
-            args: note_values(alloc, names, args)?,
-        }),
+        [id, target, word, args @ ..] => {
+            let id = message(names, id.as_str())?;
+            let target = name(names, target.as_str())?;
+            delivery_with(alloc, names, id, target, word.as_str(), args)
+        }
         _ => Err(ScriptFault::Rule(42)),
     }
 }
@@ -75,9 +119,9 @@ pub(crate) fn two_names(names: &[Str], words: &[Str]) -> Result<(Name, Name), Sc
     requires { length names.now ≤ 16 }
     ensures { Reads result (two_names names.now words.now) }
 {
-    match words {
-        [first, second] => Ok((name(names, first.as_str())?, name(names, second.as_str())?)),
-        _ => Err(ScriptFault::Rule(42)),
+    match two_words(words) {
+        Some((first, second)) => Ok((name(names, first)?, name(names, second)?)),
+        None => Err(ScriptFault::Rule(42)),
     }
 }
 
@@ -85,9 +129,9 @@ fn name_and_vat(names: &[Str], words: &[Str]) -> Result<(Name, VatId), ScriptFau
     requires { length names.now ≤ 16 }
     ensures { Reads result (name_and_vat names.now words.now) }
 {
-    match words {
-        [first, second] => Ok((name(names, first.as_str())?, vat(names, second.as_str())?)),
-        _ => Err(ScriptFault::Rule(42)),
+    match two_words(words) {
+        Some((first, second)) => Ok((name(names, first)?, vat(names, second)?)),
+        None => Err(ScriptFault::Rule(42)),
     }
 }
 
@@ -95,13 +139,13 @@ fn settled_note(alloc: Global, names: &[Str], words: &[Str]) -> Result<ShownNote
     requires { length names.now ≤ 16 }
     ensures { Reads result (settled_note names.now words.now) }
 {
-    match words {
-        [first, second] => {
-            let subject = name(names, first.as_str())?;
-            let x = note_value(alloc, names, 100, second.as_str())?;
+    match two_words(words) {
+        Some((first, second)) => {
+            let subject = name(names, first)?;
+            let x = note_value(alloc, names, 100, second)?;
             Ok(ShownNote::Settled(subject, x))
         }
-        _ => Err(ScriptFault::Rule(42)),
+        None => Err(ScriptFault::Rule(42)),
     }
 }
 

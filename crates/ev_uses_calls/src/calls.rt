@@ -164,22 +164,10 @@ impl Calls {
         ensures { (past : List Line) → KnownStand knowledge.now past → OnOk result (CallsAfter past at event.now self.old self.new) }
     {
         match event {
-            Event::Call(called) => {
-                self.open(alloc, knowledge, at, called.get())?;
-                Ok(())
-            }
-            Event::Back(number, _) => {
-                self.close(alloc, at, *number)?;
-                Ok(())
-            }
-            Event::Thrown(number, _) => {
-                self.close(alloc, at, *number)?;
-                Ok(())
-            }
-            Event::Gone(number) => {
-                self.close(alloc, at, *number)?;
-                Ok(())
-            }
+            Event::Call(called) => self.open(alloc, knowledge, at, called.get()),
+            Event::Back(number, _) => self.close(alloc, at, *number),
+            Event::Thrown(number, _) => self.close(alloc, at, *number),
+            Event::Gone(number) => self.close(alloc, at, *number),
             _ => Ok(()),
         }
     }

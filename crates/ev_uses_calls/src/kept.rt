@@ -35,7 +35,8 @@ impl Kept {
     /// Before the first line, with a plan of the chains of the whole history. It takes no memory.
     #[tactic(auto, using(crate::proofs::Giving::both_stand))]
     pub fn new(alloc: Global, plan: Plan) -> Kept
-        ensures { PlanStands plan → KeptStand result [] }
+        ensures stands { PlanStands plan → KeptStand result [] }
+        ensures plan { result.knowledge.following.plan ≡ plan }
     {
         Kept {
             knowledge: Knowledge::new(alloc, plan),

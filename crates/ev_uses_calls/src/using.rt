@@ -50,10 +50,7 @@ fn is_known(
     ensures { IfOk result (λ known. DecidesAll knowledge.old knowledge.new activation made (names_of value.now) known) }
 {
     match value {
-        Shown::Name(name) => {
-            let known = is_name_known(knowledge, alloc, activation, made, name)?;
-            Ok(known)
-        }
+        Shown::Name(name) => is_name_known(knowledge, alloc, activation, made, name),
         _ => Ok(true),
     }
 }
@@ -149,18 +146,16 @@ fn is_call_known(
     ensures { IfOk result (λ known. DecidesAll knowledge.old knowledge.new activation made (receivers called.now ++ names called.now.args) known) }
 {
     if is_guarding(called) {
-        let known = are_known(knowledge, alloc, activation, made, called.args.as_slice())?;
-        return Ok(known);
+        return are_known(knowledge, alloc, activation, made, called.args.as_slice());
     }
-    let known = are_all_known(
+    are_all_known(
         knowledge,
         alloc,
         activation,
         made,
         &called.target,
         called.args.as_slice(),
-    )?;
-    Ok(known)
+    )
 }
 
 /// The name that a value is.
@@ -217,43 +212,25 @@ fn is_event_known(
     ensures { IfOk result (λ known. DecidesAll knowledge.old knowledge.new by made (names_used event.now) known) }
 {
     match event {
-        Event::Call(called) => {
-            let known = is_call_known(knowledge, alloc, by, made, called.get())?;
-            Ok(known)
-        }
-        Event::List(_, _, members) => {
-            let known = are_known(knowledge, alloc, by, made, members.as_slice())?;
-            Ok(known)
-        }
-        Event::Made(object) => {
-            let known = are_parts_known(knowledge, alloc, by, made, object.get())?;
-            Ok(known)
-        }
+        Event::Call(called) => is_call_known(knowledge, alloc, by, made, called.get()),
+        Event::List(_, _, members) => are_known(knowledge, alloc, by, made, members.as_slice()),
+        Event::Made(object) => are_parts_known(knowledge, alloc, by, made, object.get()),
         Event::Send(sent) => {
             let sent = sent.get();
             let args = sent.args.as_slice();
-            let known = are_all_known(knowledge, alloc, by, made, &sent.target, args)?;
-            Ok(known)
+            are_all_known(knowledge, alloc, by, made, &sent.target, args)
         }
         Event::SendOnly(sent) => {
             let sent = sent.get();
             let args = sent.args.as_slice();
-            let known = are_all_known(knowledge, alloc, by, made, &sent.target, args)?;
-            Ok(known)
+            are_all_known(knowledge, alloc, by, made, &sent.target, args)
         }
         Event::When(when) => {
             let when = when.get();
-            let known = are_both_known(knowledge, alloc, by, made, &when.value, &when.reaction)?;
-            Ok(known)
+            are_both_known(knowledge, alloc, by, made, &when.value, &when.reaction)
         }
-        Event::Wrote(_, _, value) => {
-            let known = is_known(knowledge, alloc, by, made, value)?;
-            Ok(known)
-        }
-        Event::Done(_, value) => {
-            let known = is_known(knowledge, alloc, by, made, value)?;
-            Ok(known)
-        }
+        Event::Wrote(_, _, value) => is_known(knowledge, alloc, by, made, value),
+        Event::Done(_, value) => is_known(knowledge, alloc, by, made, value),
         _ => Ok(true),
     }
 }

@@ -31,7 +31,8 @@ use Rattle.ev_audit.specs.Views.{capture_by}
 use Rattle.ev_audit.specs.Views.{view_of as seen_of}
 use Rattle.ev_audit.proofs.Told as told
 use Rattle.ev_room.specs.Sound.{IsSound, are_there, is_bound, are_bound, no_guard, object_thing, capture_of, caught_of}
-use Rattle.ev_room.specs.Acts.{◌>>=◌, ◌>>◌, found_from, bound_back, binding_back, with_bound, captures, new_object, named, object_made, object_in, object_as, object_at, view_at, suits, first_method, code_of}
+use Rattle.ev_room.specs.Held.{bound_back, binding_back}
+use Rattle.ev_room.specs.Acts.{◌>>=◌, ◌>>◌, found_from, with_bound, captures, new_object, named, object_made, object_in, object_as, object_at, view_at, suits, first_method, code_of}
 use Rattle.law_acts.proofs.Bindings.{FoundThere, found_of, found_is, found_there, none_bound, onto_more, bound_more}
 use Rattle.law_acts.proofs.Sounds.{scope_on, all_and, thing_grown, thing_sound}
 use Rattle.law_acts.proofs.Stands.{Met, vat, an_answer, itself, bound_of, bond_of, bonds_onto, scope_of, then_met, give_met, tell_met}

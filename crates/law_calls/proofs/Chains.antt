@@ -11,7 +11,7 @@ use Rattle.def_machine.specs.Calls as calls
 use Rattle.def_kernel.specs.declared.node.Node.{Node}
 use Rattle.law_name.specs.Names.{AllOf}
 use Rattle.law_name.proofs.Facts.{all_map}
-use Rattle.law_name.proofs.Natives.{entry_has}
+use Rattle.law_natives.proofs.Natives.{entry_has}
 use Rattle.law_calls.specs.Levels.{EndsIn, ListsEnd, call_by, CallsEnd}
 use Rattle.law_calls.proofs.Alike.{Alike, Agree, AgreeOn, ReplyAlike, AuditionAlike, AskedAlike, Suits, CallsAlike, each_reply, alike_call}
 use Rattle.law_calls.proofs.Spoken.{runs_suit, pairs_suit, audits_suit, ones_suit}

@@ -8,7 +8,7 @@ use Rattle.def_machine.specs.Native.{Reply, Says, Writes, Lists as Listed, Itera
 use Rattle.def_machine.specs.Scopes.{Answer, Answers, AuditionAsk, GetsForm, GetsGuard, Asks, NoAuditionAsk, ResolverAsk, Resolves, Smashes, NoResolverAsk}
 use Rattle.law_machine.proofs.StepLaws.{get_append}
 use Rattle.law_connected.specs.Known.{Item, AValue, ASlot, IsAmong, AllOf, IsThing, Knows, told as told_by, tells, by, values}
-use Rattle.law_connected.specs.Natives.{ReplyHas}
+use Rattle.law_natives.specs.Natives.{ReplyHas, AskedHas}
 use Rattle.law_connected.specs.Connected.{served, open_after, Judges, GivenBack, LineWell, uses, itself}
 use Rattle.law_connected.specs.ConnectedLaws as laws
 use Rattle.law_connected.proofs.Traces.{among_last}
@@ -20,7 +20,6 @@ use Rattle.law_connected.specs.Told.{ReadTold}
 use Rattle.law_connected.specs.News.{thing_made, slot_made, list_made}
 use Rattle.law_connected.proofs.Rising.{rises_line, rises_new, length_end}
 use Rattle.law_connected.proofs.Idle.{Idle, IdleEnds}
-use Rattle.law_connected.proofs.Asked.{AskedHas}
 use Rattle.law_connected.proofs.Ground.{Ground, all_map, opens, with_line, opens_last, idles_opens, held, Has, Knew, ViewKnown, Judged, Grows, Good, has_up, resolver_up, thing_up, among_up, judges_up, view_up, judged_up, given_up, grows_same, grows_line, grows_trans, grows_by, PutTold, put_up, CellTold, makes_none, good_block, good_line, good_by, idles_grows, idles_good}
 
 abbrev pub MayBe : {A : Type 0} → (A → Type 0) → Option A → Type 0
@@ -304,13 +303,13 @@ module _ {N W : Type 0} (K : Naming N W) (E : Ground N W) (a : ℕ) where
     asked_up (SendsTo only x v l) h = (knew_up x h.0, knew_up v h.1, knew_up l h.2)
     asked_up (CallsTo x v l) h = (knew_up x h.0, knew_up v h.1, knew_up l h.2)
     asked_up MakesPromise h = tt
-    asked_up (Breaks x) h = tt
+    asked_up (Breaks x) h = knew_up x h
     asked_up (Tells c x) h = knew_up x h
     asked_up (Whens x o) h = (knew_up x h.0, knew_up o h.1)
     asked_up (ThrowsIt x) h = tt
     asked_up (IsStamped b x) h = tt
     asked_up (Coerces k x j) h = (knew_up x h.0, knew_up j h.1)
-    asked_up (AddsNull x) h = tt
+    asked_up (AddsNull x) h = knew_up x h
     asked_up NoMethod h = tt
 
     ask_up : (q : AuditionAsk N) → AuditionAskKnown s q → AuditionAskKnown t q

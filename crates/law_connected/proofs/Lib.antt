@@ -19,7 +19,6 @@ pub mod Causes
 pub mod RefsCauses
 pub mod ArriveCauses
 pub mod Ground
-pub mod Asked
 pub mod Fine
 pub mod Looks
 pub mod Rules

@@ -17,14 +17,14 @@ use Rattle.def_machine.specs.Eval as eval
 use Rattle.def_kernel.specs.declared.node.Node.{Node}
 use Rattle.def_kernel.specs.declared.node.Literal.{Literal}
 use Rattle.def_kernel.specs.declared.node.Literal.TheVariants as literal
-use Rattle.law_connected.specs.Known.{ASlot, IsAmong, AllOf, Reaches, itself, onward, IsPlain, plain, member, followed, guard}
-use Rattle.law_connected.specs.Natives.{ReplyHas}
-use Rattle.law_connected.proofs.Natives.{either_has, entry_has, answers_known}
+use Rattle.law_connected.specs.Known.{ASlot, IsAmong, AllOf, Reaches, itself, onward, plain, member, followed, guard}
+use Rattle.law_natives.specs.Natives.{IsPlain, ReplyHas}
+use Rattle.law_natives.proofs.Natives.{either_has, entry_has, compared_has, range_has, null_reply_has, asked_has}
+use Rattle.law_connected.proofs.Natives.{answers_known}
 use Rattle.law_connected.specs.Settlings.{IsHanded}
 use Rattle.law_connected.proofs.StepTraces.{told_follows}
 use Rattle.law_connected.proofs.RefsCauses.{follows_now, placed}
 use Rattle.law_connected.proofs.Ground.{Ground, held, Has, Knew, FreedomKnown, Good, PutTold}
-use Rattle.law_connected.proofs.Asked.{compared_has, range_has, null_reply_has, asked_has}
 use Rattle.law_connected.proofs.Fine.{MayBe, Fact, Nothing, Also, IsAct, IsValue, AreValues, AreLists, IsSlot, IsBound, IsScope, MayValue, MayBound, MayCell, Leads, IsReply, IsAsked, IsAuditionAsk, MayHand, WasCalled, IsAt, IsJudging, IsJudged, MayGive, MayThing, MayAsk, IsPlaced, AskHas, BoundKnown, NounKnown, AuditionAskKnown, Handed, ThingThere, Gets, Fine, fine_sees}
 
 module _ {N W : Type 0} (K : Naming N W) (E : Ground N W) (a : ℕ) where

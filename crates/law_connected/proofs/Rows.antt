@@ -3,7 +3,8 @@ use Rattle.std.proofs.Common.{◌≡◌, ℕ, zero, suc, List, [], ◌∷◌, Op
 use Rattle.std.specs.Prelude.{slice_get, codes, take, drop}
 use Rattle.def_machine.specs.Values.{Words, Value, Ref, Name, Root, Object, Answer, naming, Prim, Text, Null, Broken}
 use Rattle.def_machine.specs.State.{Binding, Cell, Thing, Made, Happened, Took, Called, Finished, PromiseMade, Fixed, ObjectMade, AuditionMade, Back}
-use Rattle.law_connected.specs.Known.{Item, Start, Reaches, onward, AValue, ASlot, IsAmong, IsPlain, parts_of_all, tells, Leads, settled, viewed, settles, views, called, itself, Knows, plain, endowed, told, opened_known}
+use Rattle.law_natives.specs.Natives.{IsPlain}
+use Rattle.law_connected.specs.Known.{Item, Start, Reaches, onward, AValue, ASlot, IsAmong, parts_of_all, tells, Leads, settled, viewed, settles, views, called, itself, Knows, plain, endowed, told, opened_known}
 use Rattle.def_machine.specs.Eval.{opened_eval}
 use Rattle.law_machine.specs.Steps.{Opens, Takes, does}
 use Rattle.law_connected.specs.Connected.{evaluates, asks, Connected, StepConnected, given_to, held_from, opened_connected}

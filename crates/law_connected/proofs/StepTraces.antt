@@ -5,7 +5,8 @@ use Rattle.def_machine.specs.Values.{Value, Null, Flag, Number, Letter, Text, Pr
 use Rattle.def_machine.specs.State.{Standing, Unsettled, WaitsOn, Viewed, Settled, Known, Happened, Vat, Done, Gives, Throws, Ejects, Stops, is_in}
 use Rattle.def_machine.specs.Refs.{standing_of, led, follow_at, severed_by, severed_at, severed, follow, host_at}
 use Rattle.law_machine.specs.Steps.{Step, Opens, Takes, Receives, Notices, does, After}
-use Rattle.law_connected.specs.Known.{IsPlain, settled, viewed, Reaches, itself, onward}
+use Rattle.law_natives.specs.Natives.{IsPlain}
+use Rattle.law_connected.specs.Known.{settled, viewed, Reaches, itself, onward}
 use Rattle.law_connected.specs.Following.{FollowsTold, StepsFollow}
 use Rattle.law_connected.proofs.Traces.{TracesBy, traces_whole, IsTold, AllTold, Told, Ends, Traces}
 use Rattle.law_machine.proofs.Whole.{whole_opening, whole_taking, whole_arrive, whole_notice}

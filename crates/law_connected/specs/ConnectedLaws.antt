@@ -3,7 +3,8 @@ use Rattle.std.specs.Prelude.{◌≡◌, ℕ, Bool, true, List, [], ◌∷◌, �
 use Rattle.def_machine.specs.Values.{Value, Items, Name, Root, Naming, naming, numbering}
 use Rattle.def_machine.specs.State.{Binding, Cell, Made, Happened}
 use Rattle.law_machine.specs.Steps.{Opens}
-use Rattle.law_connected.specs.Known.{Item, AValue, ASlot, IsAmong, Holdings, IsPlain, parts_of_all, tells, Leads, Runs, Knows}
+use Rattle.law_natives.specs.Natives.{IsPlain}
+use Rattle.law_connected.specs.Known.{Item, AValue, ASlot, IsAmong, Holdings, parts_of_all, tells, Leads, Runs, Knows}
 use Rattle.law_connected.specs.Connected.{Connected, StepConnected}
 use Rattle.law_connected.specs.Rows.{one_object, secret, handed, answering, stray, program, escaping, auditing, fresh}
 

@@ -4,7 +4,8 @@ use Rattle.def_machine.specs.Values.{Value, Name, Naming, naming, numbering}
 use Rattle.def_machine.specs.State.{Known, Vat}
 use Rattle.def_machine.specs.Refs.{follow}
 use Rattle.law_machine.specs.Steps.{Step, does, After}
-use Rattle.law_connected.specs.Known.{IsPlain, Reaches}
+use Rattle.law_natives.specs.Natives.{IsPlain}
+use Rattle.law_connected.specs.Known.{Reaches}
 
 -- a value is followed to what these lines lead it to, or is broken
 abbrev pub FollowsTold : {N W : Type 0} → Naming N W → List (Known N) → Vat N → Type 0

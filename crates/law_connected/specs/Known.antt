@@ -4,6 +4,7 @@ use Rattle.def_machine.specs.Values.{Words, Value, Null, Flag, Number, Letter, T
 use Rattle.def_machine.specs.State.{Bound, Fixed, Slot, Binding, Cell, Thing, Made, Message, Viewed, Settled, Known, Happened, Took, Called, Back, Got, SlotMade, SlotRead, ListMade, EjectorMade, AuditionMade, PromiseMade, ObjectMade, Sends, Reacts, Settles, Views, Vat}
 use Rattle.def_machine.specs.Refs.{standing_of}
 use Rattle.law_machine.specs.Steps.{Step}
+use Rattle.law_natives.specs.Natives.{IsPlain}
 
 -- what may be known: a value, or a var slot
 pub data Item (N : Type 0) : Type 0 where
@@ -34,18 +35,6 @@ pub record Holdings (N W : Type 0) : Type 0 where
   -- what an opening activation is given, each with the number of that activation
   pub given : List (ℕ × Item N)
   pub start : Start N W
-
--- data in which no name and no list stands: everyone has it
-abbrev pub IsPlain : {N : Type 0} → Value N → Type 0
-IsPlain (Ref n) = ⊥
-IsPlain (Items k) = ⊥
-IsPlain Null = Unit {0}
-IsPlain (Flag b) = Unit {0}
-IsPlain (Number z) = Unit {0}
-IsPlain (Letter c) = Unit {0}
-IsPlain (Text t) = Unit {0}
-IsPlain (Prim p) = Unit {0}
-IsPlain (Broken p) = Unit {0}
 
 -- what is in a capture: a fixed value and its guard, or a var slot
 unfoldable pub parts_of : {N : Type 0} → Bound N → List (Item N)

@@ -2,16 +2,9 @@
 use Rattle.std.specs.Prelude.{ℕ, List}
 use Rattle.def_machine.specs.Values.{Words, Value, Name, Naming, naming, numbering}
 use Rattle.def_machine.specs.State.{Happened}
-use Rattle.def_machine.specs.Native.{Reply, Says, Writes, Lists, Iterates, Fails, data_reply}
+use Rattle.def_machine.specs.Native.{data_reply}
+use Rattle.law_natives.specs.Natives.{ReplyHas}
 use Rattle.law_connected.specs.Known.{AValue, AllOf, Holdings, Knows}
-
--- what is said of each value in an answer
-abbrev pub ReplyHas : {N : Type 0} → (Value N → Type 0) → Reply N → Type 0
-ReplyHas P (Says v) = P v
-ReplyHas P (Writes t) = Unit {0}
-ReplyHas P (Lists vs) = AllOf P vs
-ReplyHas P (Iterates o vs) = P o × AllOf P vs
-ReplyHas P (Fails p) = Unit {0}
 
 -- Data on which an activation calls answers with what that activation knows: the value that it gives, the members of a list that is made of it, and what it calls in turn.
 abbrev pub AnswersKnown : {N W : Type 0} → Naming N W → Type 0

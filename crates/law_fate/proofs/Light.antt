@@ -229,11 +229,11 @@ module _ (v : ℕ) (x : Name) where
   Added (ToTell w) = 0
   Added (Settle y) = 0
 
-  -- A name is viewed that has another host; and whom v is to tell of a name, it tells as its host.
+  -- A name is viewed that has another host; and whom v is to tell of a name, it tells as its host, and as its host it holds a message.
   abbrev pub Suits : Change Name → Name → Option (Known Name) → Type 0
   Suits (See q) n o = host_of n ≡ v → ⊥
   Suits (ToTell w) n o = host_in v o ≡ v
-  Suits (Hold m) n o = Unit {0}
+  Suits (Hold m) n o = host_in v o ≡ v
   Suits (Wait q) n o = Unit {0}
   Suits (WaitOn q) n o = Unit {0}
   Suits (React m) n o = Unit {0}
@@ -249,13 +249,13 @@ module _ (v : ℕ) (x : Name) where
 
   to_sound : (c : Change Name) (k : Known Name) → Suits c k.name (Some k) → KnownSound v k → KnownSound v (changed_to c k) × (among x (changed_to c k).held ≤ among x k.held + Added c)
   unfolding changed_to host_in among
-  to_sound (Hold m) k g h = let more = among_end x k.held m in (record { host = h.host; viewed = h.viewed; told = h.told }, omega arith)
-  to_sound (Settle y) k g h = (record { host = h.host; viewed = tt; told = tt }, omega arith)
-  to_sound (Wait q) k g h = (record { host = h.host; viewed = h.viewed; told = h.told }, omega arith)
-  to_sound (WaitOn q) k g h = (record { host = h.host; viewed = tt; told = h.told }, omega arith)
-  to_sound (See q) k g h = (record { host = h.host; viewed = g; told = h.told }, omega arith)
-  to_sound (React m) k g h = (record { host = h.host; viewed = h.viewed; told = h.told }, omega arith)
-  to_sound (ToTell u) k g h = (record { host = h.host; viewed = h.viewed; told = told_vat (host_of k.name ≡ v) u k.told (sym h.host ∙ g) h.told }, omega arith)
+  to_sound (Hold m) k g h = let more = among_end x k.held m in (record { host = h.host; viewed = h.viewed; told = h.told; held = each_end (λ (j : Message Name). host_of k.name ≡ v) k.held m h.held (sym h.host ∙ g) }, omega arith)
+  to_sound (Settle y) k g h = (record { host = h.host; viewed = tt; told = tt; held = tt }, omega arith)
+  to_sound (Wait q) k g h = (record { host = h.host; viewed = h.viewed; told = h.told; held = h.held }, omega arith)
+  to_sound (WaitOn q) k g h = (record { host = h.host; viewed = tt; told = h.told; held = h.held }, omega arith)
+  to_sound (See q) k g h = (record { host = h.host; viewed = g; told = h.told; held = h.held }, omega arith)
+  to_sound (React m) k g h = (record { host = h.host; viewed = h.viewed; told = h.told; held = h.held }, omega arith)
+  to_sound (ToTell u) k g h = (record { host = h.host; viewed = h.viewed; told = told_vat (host_of k.name ≡ v) u k.told (sym h.host ∙ g) h.told; held = h.held }, omega arith)
 
   unless_sound : (t : Standing Name) (k new : Known Name) (c : ℕ) → KnownSound v k → KnownSound v new × (among x new.held ≤ among x k.held + c) → KnownSound v (unless_settled t k new) × (among x (unless_settled t k new).held ≤ among x k.held + c)
   unfolding unless_settled
@@ -286,8 +286,8 @@ module _ (v : ℕ) (x : Name) where
     alter_at c n s g h w = let a = change_well (λ u. false) x K v global c n s.known g w.well in let b = change_sound c n s.known h w.names in let more = b.1 in
         record { sound = record { same = w.same; well = a.0; names = b.0; own = w.own; notes = w.notes }; kept = omega arith }
 
-    pub cost_hold : (m : Message Name) (n : Name) → HeldWell n m → Light v x (one m.id x) (alter K (Hold m) n)
-    cost_hold m n g = record { after = λ s w. alter_at (Hold m) n s g tt w }
+    pub hold_at : (m : Message Name) (n : Name) (s : Vat Name) → HeldWell n m → host_in v (entry_of K s.known n) ≡ v → Sound v s → LightAt v x (one m.id x) s (alter K (Hold m) n s)
+    hold_at m n s g h w = alter_at (Hold m) n s g h w
 
     pub light_wait : (q n : Name) → Light v x 0 (alter K (Wait q) n)
     light_wait q n = record { after = λ s w. alter_at (Wait q) n s tt tt w }
@@ -335,7 +335,7 @@ module _ (v : ℕ) (x : Name) where
 
     pub begun_sound : (n : Name) (h : ℕ) → h ≡ host_of n → KnownSound v (begun n h)
     unfolding begun
-    begun_sound n h e = record { host = e; viewed = tt; told = tt }
+    begun_sound n h e = record { host = e; viewed = tt; told = tt; held = tt }
 
     -- a name comes to be known
     pub come_sound : (s : Vat Name) (n : Name) (h : ℕ) → NamesNoObject n → h ≡ host_of n → Sound v s → Parts v s.number (s.known ++ begun n h ∷ []) s.gifts s.outbox

@@ -19,7 +19,7 @@ use Rattle.law_fate.proofs.PlacesLast.{Global}
 use Rattle.law_fate.proofs.PlacesRefs.{Fits, IsEnd, IsHere, fits_at, of_end, settled_follow, target_last, found_well, settle_well, settled_entry, settled_standing, new_named}
 use Rattle.law_fate.specs.Carry.{fare, weight, held_at, load}
 use Rattle.law_fate.specs.Sound.{Sound}
-use Rattle.law_fate.proofs.Light.{cost_some, LightAt, Light, held_end, light_on, lighter, cost_bind_last, cost_then_first, cost_then_last, then_at, light, light_bind, light_look, light_if, light_then, light_give, light_tell, light_enqueue, light_each, light_out_elsewhere, light_out_settled, unmoved, cost_out, cost_hold, light_react, tell_at, change_sound, found_sound, host_known, come_sound, light_answer}
+use Rattle.law_fate.proofs.Light.{cost_some, LightAt, Light, held_end, light_on, lighter, cost_bind_last, cost_then_first, cost_then_last, then_at, light, light_bind, light_look, light_if, light_then, light_give, light_tell, light_enqueue, light_each, light_out_elsewhere, light_out_settled, unmoved, cost_out, hold_at, light_react, tell_at, change_sound, found_sound, host_known, come_sound, light_answer}
 
 true_false : true ≡ false → ⊥
 true_false e = cc
@@ -191,18 +191,18 @@ module _ (K : Naming Name Name) (v : ℕ) (global : Global K v) where
     cost_pass_on m h n g e = cost_some v x (fare n (one m.id x)) m.answer (λ p. cost_bind_last v x (fare n (one m.id x)) (light_answer v x K global h m.id g) (λ a. cost_then_first v x (fare n (one m.id x)) (cost_deliver (record m { answer = Some a }) h n e) (light_waits_on p a))) (cost_deliver m h n e)
 
     module _ (settle : Name → Value Name → Act Name (Unit {0})) (good : LightSettler settle) where
-      pub cost_send_to : (m : Message Name) (y : Value Name) (p : Place Name) (ks : List (Known Name)) → NamesMessage m.id → Fits y p → PlaceSound ks p → Light v x (ride p (one m.id x)) (refs.send_to K settle m y p)
+      pub send_to_at : (m : Message Name) (y : Value Name) (p : Place Name) (s : Vat Name) → NamesMessage m.id → Fits y p → PlaceSound s.known p → Sound v s → LightAt v x (ride p (one m.id x)) s (refs.send_to K settle m y p s)
       unfolding refs.send_to ride
-      cost_send_to m y Near ks g f h = light_enqueue v x (record m { target = y })
-      cost_send_to m y (Mine n) ks g f h = cost_hold v x K global (record m { target = y }) n (f, g)
-      cost_send_to m y (Away u n o) ks g f h = cost_pass_on m u n g h
-      cost_send_to m y (Gone p) ks g f h = light_then v x (light_tell v x (Lost m.id)) (cost_some v x 0 m.answer (λ a. good a (Broken p) tt) (light_give v x tt))
+      send_to_at m y Near s g f h w = (light_enqueue v x (record m { target = y })).after s w
+      send_to_at m y (Mine n) s g f h w = hold_at v x K global (record m { target = y }) n s (f, g) h w
+      send_to_at m y (Away u n o) s g f h w = (cost_pass_on m u n g h).after s w
+      send_to_at m y (Gone p) s g f h w = (light_then v x (light_tell v x (Lost m.id)) (cost_some v x 0 m.answer (λ a. good a (Broken p) tt) (light_give v x tt))).after s w
 
       -- a message is sent on at a state, from where its target is followed to goes so much
       pub sent_at : (c : ℕ) (m : Message Name) (s : Vat Name) → NamesMessage m.id → Sound v s → ride (refs.place K s (refs.follow K s m.target)) (one m.id x) ≤ c → LightAt v x c s (refs.send_on K settle m s)
       unfolding refs.send_on ◌>>=◌ and_then look
       sent_at c m s g w h = let y = refs.follow K s m.target in let p = refs.place K s y in
-          lighter v x (ride p (one m.id x)) c s _ h ((cost_send_to m y p s.known g (fits_at K v global s y p refl) (place_sound s y w)).after s w)
+          lighter v x (ride p (one m.id x)) c s _ h (send_to_at m y p s g (fits_at K v global s y p refl) (place_sound s y w) w)
 
       -- a message that was held at a name that settled since
       sent_on : (s : Vat Name) (p : Name) (k : Known Name) (y : Value Name) (m : Message Name) → entry_of K s.known p ≡ Some k → k.standing ≡ Settled y → NoPromise y → HeldWell p m → Sound v s
@@ -349,12 +349,34 @@ module _ (K : Naming Name Name) (v : ℕ) (global : Global K v) where
 
     -- ---- new messages
 
-    cost_send_first : (m : Message Name) (y : Value Name) (p : Place Name) (ks : List (Known Name)) → NamesMessage m.id → Fits y p → PlaceSound ks p → Light v x (ride p (one m.id x)) (refs.send_first K m y p)
+    send_first_at : (m : Message Name) (y : Value Name) (p : Place Name) (s : Vat Name) → NamesMessage m.id → Fits y p → PlaceSound s.known p → Sound v s → LightAt v x (ride p (one m.id x)) s (refs.send_first K m y p s)
     unfolding refs.send_first ride
-    cost_send_first m y (Away h n o) ks g f e = cost_deliver m h n e
-    cost_send_first m y Near ks g f e = cost_send_to (refs.settle K) light_settle m y Near ks g f e
-    cost_send_first m y (Mine n) ks g f e = cost_send_to (refs.settle K) light_settle m y (Mine n) ks g f e
-    cost_send_first m y (Gone p) ks g f e = cost_send_to (refs.settle K) light_settle m y (Gone p) ks g f e
+    send_first_at m y (Away h n o) s g f e w = (cost_deliver m h n e).after s w
+    send_first_at m y Near s g f e w = send_to_at (refs.settle K) light_settle m y Near s g f e w
+    send_first_at m y (Mine n) s g f e w = send_to_at (refs.settle K) light_settle m y (Mine n) s g f e w
+    send_first_at m y (Gone p) s g f e w = send_to_at (refs.settle K) light_settle m y (Gone p) s g f e w
+
+    -- a name that comes to be known as one of this vat leaves that vat the host of what it hosts
+    pub host_later : (n a : Name) (h : ℕ) → h ≡ v → (ks : List (Known Name)) → host_in v (entry_of K ks n) ≡ v → host_in v (entry_of K (ks ++ begun a h ∷ []) n) ≡ v
+    unfolding entry_of host_in begun
+    host_later n a h e [] i = only (K.same a n)
+      where
+        only : (b : Bool) → host_in v (elim b [ true ↦ Some (begun a h) | false ↦ None ]) ≡ v
+        only true = e
+        only false = refl
+    host_later n a h e (k ∷ ks) i = go (host_later n a h e ks) (K.same k.name n) i
+      where
+        go : (host_in v (entry_of K ks n) ≡ v → host_in v (entry_of K (ks ++ begun a h ∷ []) n) ≡ v) → (b : Bool) → host_in v (elim b [ true ↦ Some k | false ↦ entry_of K ks n ]) ≡ v
+            → host_in v (elim b [ true ↦ Some k | false ↦ entry_of K (ks ++ begun a h ∷ []) n ]) ≡ v
+        go f true j = j
+        go f false j = f j
+
+    place_later : (s : Vat Name) (a : Name) (p : Place Name) → s.number ≡ v → PlaceSound s.known p → PlaceSound (s.known ++ begun a (refs.answer_host K s.number p) ∷ []) p
+    unfolding refs.answer_host
+    place_later s a Near e g = tt
+    place_later s a (Mine n) e g = host_later n a s.number e s.known g
+    place_later s a (Away h n o) e g = g
+    place_later s a (Gone p) e g = tt
 
     light_react_at : (m : Message Name) (p : Place Name) → Light v x 0 (refs.react_at K m p)
     unfolding refs.react_at
@@ -390,7 +412,7 @@ module _ (K : Naming Name Name) (v : ℕ) (global : Global K v) where
     light_send act y verb args = record {
       after = λ s w. let z = refs.follow K s y in let p = refs.place K s z in let id = K.mailed (IsSent s.messages) (length s.mails) in let named = new_named K v global (λ u. false) x s.messages (length s.mails) in
           new_at (ride p (one id x)) s (refs.answer_host K s.number p) id (length s.known) (Sends act _) _ named refl (ride_most p (one id x)) w
-          (λ wt. (cost_then_first v x (ride p (one id x)) (cost_send_first _ z p s.known named (fits_at K v global s z p refl) (place_sound s z w)) (light_give v x _)).after _ wt);
+          (λ wt. then_at v x (ride p (one id x)) _ _ _ (send_first_at _ z p _ named (fits_at K v global s z p refl) (place_later s _ p w.same (place_sound s z w)) wt) (light_give v x _));
     }
 
     pub light_send_only : (act : ℕ) (y : Value Name) (verb : Words) (args : List (Value Name)) → Light v x 0 (refs.send_only K act y verb args)
@@ -401,7 +423,7 @@ module _ (K : Naming Name Name) (v : ℕ) (global : Global K v) where
           let t : Vat Name = record s { messages = suc s.messages; mails = s.mails ++ id ∷ []; happened = s.happened ++ e ∷ [] } in let more = sent_end x s.happened e in
           let weighs : load x t ≡ load x s = omega arith in let sends : sent_in x t.happened ≡ sent_in x s.happened + one id x = omega arith in
           paid_at s t (one id x) (ride p (one id x)) _ weighs sends (ride_most p (one id x))
-          ((cost_then_first v x (ride p (one id x)) (cost_send_first _ z p s.known named (fits_at K v global s z p refl) (place_sound s z w)) (light_give v x _)).after t w);
+          (then_at v x (ride p (one id x)) t (refs.send_first K _ z p t) _ (send_first_at _ z p t named (fits_at K v global s z p refl) (place_sound s z w) w) (light_give v x _));
     }
 
     pub light_reacts : (act : ℕ) (y o near : Value Name) → Light v x 0 (refs.react K act y o near)

@@ -265,11 +265,11 @@ all_told v (w ∷ ws) = (refl, all_told v ws)
 roots_sound : (v : ℕ) (ws : List ℕ) → Each (KnownSound v) (map world.known_root ws)
 unfolding world.known_root begun host_of
 roots_sound v [] = tt
-roots_sound v (w ∷ ws) = (record { host = refl; viewed = tt; told = tt }, roots_sound v ws)
+roots_sound v (w ∷ ws) = (record { host = refl; viewed = tt; told = tt; held = tt }, roots_sound v ws)
 
 first_sound : (script : Script) (v : ℕ) (p : Program) → Each (KnownSound v) (world.fresh script v p).known
 unfolding world.fresh world.known_root begun host_of
-first_sound script v p = (record { host = refl; viewed = tt; told = all_told v (world.knowers v zero script.vats) }, roots_sound v p.knows)
+first_sound script v p = (record { host = refl; viewed = tt; told = all_told v (world.knowers v zero script.vats); held = tt }, roots_sound v p.knows)
 
 first_vat : (script : Script) (v : ℕ) (p : Program) → VatSound v (world.fresh script v p)
 unfolding world.fresh world.fresh_from

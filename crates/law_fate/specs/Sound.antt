@@ -1,7 +1,7 @@
 -- In which states, and of which notes, messages go where they should.
 use Rattle.std.specs.Prelude.{◌≡◌, ℕ, List}
 use Rattle.def_machine.specs.Values.{Value, Null, Flag, Number, Letter, Text, Prim, Broken, Items, Ref, Name, host_of}
-use Rattle.def_machine.specs.State.{Standing, Unsettled, WaitsOn, Viewed, Settled, Known, Passed, Passeds, Plain, AGift, Many, NoMore, More, Note, Deliver, Open, Ask, SettledTo, Elsewhere, Shorten, Put, GiftEntry, Vat}
+use Rattle.def_machine.specs.State.{Message, Standing, Unsettled, WaitsOn, Viewed, Settled, Known, Passed, Passeds, Plain, AGift, Many, NoMore, More, Note, Deliver, Open, Ask, SettledTo, Elsewhere, Shorten, Put, GiftEntry, Vat}
 use Rattle.def_machine.specs.Arrive.{Incoming, Old, New}
 use Rattle.law_machine.specs.Steps.{Step, Opens, Takes, Receives, Notices}
 use Rattle.law_fate.specs.Lasting.{Each, KnownWell}
@@ -13,11 +13,12 @@ ViewsAnother v n (WaitsOn q) = Unit {0}
 ViewsAnother v n (Viewed q) = host_of n ≡ v → ⊥
 ViewsAnother v n (Settled y) = Unit {0}
 
--- What vat v knows of a name: its host, that a name of its own has no view, and that it tells of its own names alone.
+-- What vat v knows of a name: its host, that a name of its own has no view, and that it tells of its own names alone, and holds messages on them alone.
 pub record KnownSound (v : ℕ) (k : Known Name) : Type 0 where
   pub host : k.host ≡ host_of k.name
   pub viewed : ViewsAnother v k.name k.standing
   pub told : Each (λ (w : ℕ). host_of k.name ≡ v) k.told
+  pub held : Each (λ (m : Message Name). host_of k.name ≡ v) k.held
 
 -- A note from v to w: a message goes to the host of its target, and a vat tells where its own names settled.
 abbrev pub NoteSound : ℕ → ℕ → Note Name → Type 0

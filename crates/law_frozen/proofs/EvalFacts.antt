@@ -18,14 +18,26 @@ use Rattle.def_machine.specs.Scopes.{meets, frozen_guard, freezes, any_guard, Au
 use Rattle.def_kernel.specs.declared.node.Node.{Node}
 use Rattle.def_kernel.specs.declared.node.Literal.{Literal}
 use Rattle.def_kernel.specs.declared.node.Literal.TheVariants as literal
+use Rattle.law_natives.specs.Natives.{IsPlain}
+use Rattle.law_natives.proofs.Natives.{either_has, entry_has, data_has, range_has, compared_has, null_reply_has, asked_has}
 use Rattle.law_frozen.specs.Frozen.{AllOf, IsAmong, Lists, IsThere, AreThere, FreedomThere, HasNoName, BearsFrozen, IsFrozen, BoundWell, NounWell, Sound, deep_frozen}
 use Rattle.law_frozen.proofs.Fine.{Keeper, MayBe, Fact, IsValue, AreValues, AreLists, IsBound, AreNouns, IsView, MayValue, MayBound, IsReply, IsAsked, IsAuditionAsk, IsResolverAsk, ReplyThere, AuditionAskThere, ResolverAskThere, Gets, Fine, fine_sees, fine_give}
-use Rattle.law_frozen.proofs.Looks.{get_all, follow_there}
+use Rattle.law_frozen.proofs.Looks.{get_all, list_at_there, follow_there}
 use Rattle.law_frozen.proofs.Facts.{all_append}
-use Rattle.law_frozen.proofs.Natives.{either_has, entry_has, data_there, range_there, compared_there, null_reply_there, asked_there}
 
 three : {A : Type 0} (P : A → Type 0) (xs ys zs : List A) → AllOf P xs → AllOf P ys → AllOf P zs → AllOf P (xs ++ ys ++ zs)
 three P xs ys zs h i j = search (all_append)
+
+pub plain_there : {N : Type 0} (ls : Lists N) (v : Value N) → IsPlain v → IsThere ls v
+plain_there ls Null h = tt
+plain_there ls (Flag b) h = tt
+plain_there ls (Number z) h = tt
+plain_there ls (Letter c) h = tt
+plain_there ls (Text t) h = tt
+plain_there ls (Prim n) h = tt
+plain_there ls (Broken p) h = tt
+plain_there ls (Items k) h = absurd h
+plain_there ls (Ref n) h = tt
 
 pub no_true : (b : Bool) → b ≡ false → b ≡ true → ⊥
 no_true b e h = cc
@@ -175,7 +187,7 @@ module _ {N W : Type 0} (K : Naming N W) where
   ejector_there ls verb (x ∷ y ∷ ys) h = tt
 
   pub got_asked : (C : Fact N) (p : Primitive) (verb : Words) (args : List (Value N)) → Gets K C (AreValues args) → Gets K C (IsAsked (native.asked p verb args))
-  got_asked C p verb args g = record { at = λ ts ls c. asked_there ls p verb args (g.at ts ls c) }
+  got_asked C p verb args g = record { at = λ ts ls c. asked_has (IsThere ls) (plain_there ls) p verb args (g.at ts ls c) }
 
   pub got_audition_ask : (C : Fact N) (verb : Words) (args : List (Value N)) → Gets K C (AreValues args) → Gets K C (IsAuditionAsk (scopes.audition_ask verb args))
   got_audition_ask C verb args g = record { at = λ ts ls c. audition_there ls verb args (g.at ts ls c) }
@@ -263,17 +275,18 @@ module _ {N W : Type 0} (K : Naming N W) where
   follows_there s h [] i = tt
   follows_there s h (x ∷ xs) i = (follow_there K s h x i.0, follows_there s h xs i.1)
 
-  pub look_data : (M : Keeper K) → {C : Fact N} (y : Value N) (verb : Words) (args : List (Value N)) → Gets K C (AreValues args) → Fine K M C (look (λ s. native.data_reply s.lists y verb args (map (refs.follow K s) args))) IsReply
-  look_data M y verb args g = fine_sees K M (λ s. native.data_reply s.lists y verb args (map (refs.follow K s) args)) IsReply (λ s h c. data_there s.lists s.lists h.lists y verb args (map (refs.follow K s) args) (g.at s.things s.lists c))
+  pub look_data : (M : Keeper K) → {C : Fact N} (y : Value N) (verb : Words) (args : List (Value N)) → Gets K C (IsValue y) → Gets K C (AreValues args) → Fine K M C (look (λ s. native.data_reply s.lists y verb args (map (refs.follow K s) args))) IsReply
+  look_data M y verb args g k = fine_sees K M (λ s. native.data_reply s.lists y verb args (map (refs.follow K s) args)) IsReply
+      (λ s h c. data_has (IsThere s.lists) (plain_there s.lists) s.lists (λ i l. list_at_there s.lists s.lists i h.lists) y verb args (map (refs.follow K s) args) (g.at s.things s.lists c) (k.at s.things s.lists c) (follows_there s h args (k.at s.things s.lists c)))
 
   pub look_range : (M : Keeper K) → {C : Fact N} (last : Bool) (a b : Value N) → Fine K M C (look (λ s. native.range_reply last (refs.follow K s a) (refs.follow K s b))) IsReply
-  look_range M last a b = fine_sees K M (λ s. native.range_reply last (refs.follow K s a) (refs.follow K s b)) IsReply (λ s h c. range_there s.lists last (refs.follow K s a) (refs.follow K s b))
+  look_range M last a b = fine_sees K M (λ s. native.range_reply last (refs.follow K s a) (refs.follow K s b)) IsReply (λ s h c. range_has (IsThere s.lists) (plain_there s.lists) last (refs.follow K s a) (refs.follow K s b))
 
   pub look_compared : (M : Keeper K) → {C : Fact N} (test : Order → Bool) (a b : Value N) → Fine K M C (look (λ s. native.compared test (native.value_order (refs.follow K s a) (refs.follow K s b)))) IsReply
-  look_compared M test a b = fine_sees K M (λ s. native.compared test (native.value_order (refs.follow K s a) (refs.follow K s b))) IsReply (λ s h c. compared_there s.lists test _)
+  look_compared M test a b = fine_sees K M (λ s. native.compared test (native.value_order (refs.follow K s a) (refs.follow K s b))) IsReply (λ s h c. compared_has (IsThere s.lists) (plain_there s.lists) test _)
 
   pub look_null_or : (M : Keeper K) → {C : Fact N} (x : Value N) → Fine K M C (look (λ s. native.null_or_reply (refs.follow K s x))) IsReply
-  look_null_or M x = fine_sees K M (λ s. native.null_or_reply (refs.follow K s x)) IsReply (λ s h c. null_reply_there s.lists (refs.follow K s x))
+  look_null_or M x = fine_sees K M (λ s. native.null_or_reply (refs.follow K s x)) IsReply (λ s h c. null_reply_has (IsThere s.lists) (plain_there s.lists) (refs.follow K s x))
 
   pub got_lists : (C : Fact N) (fs : Lists N) → Gets K C (AreLists fs) → Gets K C (AreLists ([] ∷ fs))
   got_lists C fs h = record { at = λ ts ls c. (tt, h.at ts ls c) }

@@ -7,6 +7,7 @@ use Rattle.def_machine.specs.Refs.{Place, Parcel}
 use Rattle.def_machine.specs.Native.{Reply, Says, Writes, Lists as Listed, Iterates, Fails, DeepFrozen, Asked, MakesList, Ranges, Same, Compares, Loops, SendsTo, CallsTo, MakesPromise, Breaks, Tells, Whens, ThrowsIt, IsStamped, Coerces, AddsNull, NoMethod}
 use Rattle.def_machine.specs.Scopes.{meets, Answer, Answers, AuditionAsk, GetsForm, GetsGuard, Asks, NoAuditionAsk, ResolverAsk, Resolves, Smashes, NoResolverAsk}
 use Rattle.law_machine.proofs.StepLaws.{get_append}
+use Rattle.law_natives.specs.Natives.{ReplyHas, AskedHas}
 use Rattle.law_frozen.specs.Frozen.{AllOf, IsAmong, Lists, IsThere, AreThere, IsBelow, AreStacked, MessageThere, KnownThere, CellThere, ViewThere, Passes, AllPass, NotePasses, BoundWell, NounWell, ThingWell, SoundParts, Sound, deep_frozen}
 use Rattle.law_frozen.proofs.Facts.{Grows, all_map, all_end, there_up, message_up, known_up, cell_up, view_up, bound_up, noun_up, thing_up}
 
@@ -15,11 +16,7 @@ MayBe P (Some x) = P x
 MayBe P None = Unit {0}
 
 abbrev pub ReplyThere : {N : Type 0} → Lists N → Reply N → Type 0
-ReplyThere ls (Says v) = IsThere ls v
-ReplyThere ls (Writes t) = Unit {0}
-ReplyThere ls (Listed vs) = AreThere ls vs
-ReplyThere ls (Iterates o vs) = IsThere ls o × AreThere ls vs
-ReplyThere ls (Fails p) = Unit {0}
+ReplyThere ls = ReplyHas (IsThere ls)
 
 abbrev pub ChangeThere : {N : Type 0} → Lists N → Change N → Type 0
 ChangeThere ls (Hold m) = MessageThere ls m
@@ -31,22 +28,7 @@ ChangeThere ls (ToTell w) = Unit {0}
 ChangeThere ls (Settle y) = IsThere ls y
 
 abbrev pub AskedThere : {N : Type 0} → Lists N → Asked N → Type 0
-AskedThere ls (MakesList vs) = AreThere ls vs
-AskedThere ls (Ranges b x y) = Unit {0}
-AskedThere ls (Same x y) = Unit {0}
-AskedThere ls (Compares t x y) = Unit {0}
-AskedThere ls (Loops o) = IsThere ls o
-AskedThere ls (SendsTo only x v l) = IsThere ls x × IsThere ls v × IsThere ls l
-AskedThere ls (CallsTo x v l) = IsThere ls x × IsThere ls v × IsThere ls l
-AskedThere ls MakesPromise = Unit {0}
-AskedThere ls (Breaks x) = IsThere ls x
-AskedThere ls (Tells t x) = IsThere ls x
-AskedThere ls (Whens x o) = IsThere ls x × IsThere ls o
-AskedThere ls (ThrowsIt x) = Unit {0}
-AskedThere ls (IsStamped a x) = Unit {0}
-AskedThere ls (Coerces g x j) = IsThere ls x × IsThere ls j
-AskedThere ls (AddsNull x) = IsThere ls x
-AskedThere ls NoMethod = Unit {0}
+AskedThere ls = AskedHas (IsThere ls)
 
 abbrev pub AuditionAskThere : {N : Type 0} → Lists N → AuditionAsk N → Type 0
 AuditionAskThere ls GetsForm = Unit {0}

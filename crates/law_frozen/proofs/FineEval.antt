@@ -3,7 +3,7 @@ use Rattle.std.proofs.Common.{◌≡◌, ℕ, zero, suc, Bool, true, false, List
 use Rattle.std.specs.Prelude.{slice_get}
 use Rattle.def_machine.specs.Values.{Words, Value, Null, Flag, Number, Letter, Text, Prim, Broken, Items, Ref, Naming, Spot, Own}
 use Rattle.def_machine.specs.State.{Bound, Fixed, Slot, Scope, Binding, Cell, View, FreeName, IsItself, Thing, Made, Ejector, Audition, Resolver, Message, Standing, Unsettled, WaitsOn, Viewed, Settled, Vat, Done, Gives, Throws, Ejects, Stops, Act, ◌>>=◌, ◌>>◌, and_then, give, throw, eject, look, tell, new_thing, ObjectMade, for_some, WhereSome}
-use Rattle.def_machine.specs.Refs.{Place, Near, standing_of, resolve}
+use Rattle.def_machine.specs.Refs.{Place, Near, standing_of, settle, resolve}
 use Rattle.def_machine.specs.Form.{Item, Begin, End, Word, Fact as Fixing, literal_value}
 use Rattle.def_machine.specs.Free.{BoundNoun, same_words}
 use Rattle.def_machine.specs.Native as native
@@ -297,16 +297,6 @@ module _ {N W : Type 0} (K : Naming N W) (M : Keeper K) (serves : Serves K M) (s
   fine_ejector_answer {C = C} i true (Some v) g1 = let d_g1 : Gets K C (IsValue v) = record { at = λ ts ls h. (g1.at ts ls h) } in search (fine, looks, knows) depth 30
   fine_ejector_answer {C = C} i false (Some v) g1 = let d_g1 : Gets K C (IsValue v) = record { at = λ ts ls h. (g1.at ts ls h) } in search (fine, looks, knows) depth 30
 
-  pub fine_where_unresolved : {C : Fact N} → (x1 : Standing N) → (x2 : Act N (Unit {0})) → Fine K M C x2 nothing → Fine K M C (calls.where_unresolved K tree x1 x2) IsValue
-  unfolding calls.where_unresolved
-  fine_where_unresolved {C = C} Unsettled m h2 = search (fine, looks, knows) depth 30
-  fine_where_unresolved {C = C} _ m h2 = search (fine, looks, knows) depth 30
-
-  pub fine_smash : {C : Fact N} → (x1 : N) → (x2 : Value N) → Gets K C (IsValue x2) → Fine K M C (calls.smash K tree x1 x2) IsValue
-  unfolding calls.smash
-  fine_smash {C = C} p (Text t) g1 = search (fine, looks, knows, fine_where_unresolved, serve_break) depth 30
-  fine_smash {C = C} p _ g1 = search (fine, looks, knows) depth 30
-
   then_null : (s : Vat N) (d : Done N (Unit {0})) → Ends K M nothing s d → Ends K M IsValue s (and_then d (λ _. give Null))
   unfolding and_then give
   then_null s (Gives a t) h = (h.0, h.1, tt)
@@ -314,21 +304,30 @@ module _ {N W : Type 0} (K : Naming N W) (M : Keeper K) (serves : Serves K M) (s
   then_null s (Ejects n v t) h = h
   then_null s (Stops r t) h = h
 
-  open_ends : {C : Fact N} (p : N) (x : Value N) → Gets K C (resolvable p) → Gets K C (IsValue x) → (s : Vat N) → M.holds s → Holds K s.things s.lists C → (w : Standing N) → standing_of K s.known p ≡ w → Ends K M IsValue s (calls.where_unresolved K tree w (resolve K p x) s)
-  unfolding calls.where_unresolved ◌>>◌ throw
-  open_ends {C = C} p x own g s h c Unsettled e = then_null s (resolve K p x s) (serves.resolves C p x own g s h c e)
-  open_ends {C = C} p x own g s h c (WaitsOn q) e = (grows_same s.things s.lists, h)
-  open_ends {C = C} p x own g s h c (Viewed q) e = (grows_same s.things s.lists, h)
-  open_ends {C = C} p x own g s h c (Settled y) e = (grows_same s.things s.lists, h)
+  -- how an act ends from each state in which a name did neither settle nor wait
+  abbrev OpenEnds : Fact N → N → Act N (Unit {0}) → Type 0
+  OpenEnds C p m = (s : Vat N) → M.holds s → Holds K s.things s.lists C → standing_of K s.known p ≡ Unsettled → Ends K M nothing s (m s)
 
-  -- a resolver resolves none but a name that did neither settle nor wait
-  resolved_open : {C : Fact N} (p : N) (x : Value N) → Gets K C (resolvable p) → Gets K C (IsValue x) → Fine K M C (look (λ s. standing_of K s.known p) >>= (λ w. calls.where_unresolved K tree w (resolve K p x))) IsValue
+  open_ends : (C : Fact N) (p : N) (m : Act N (Unit {0})) → OpenEnds C p m → (s : Vat N) → M.holds s → Holds K s.things s.lists C → (w : Standing N) → standing_of K s.known p ≡ w → Ends K M IsValue s (calls.where_unresolved K tree w m s)
+  unfolding calls.where_unresolved ◌>>◌ throw
+  open_ends C p m ends s h c Unsettled e = then_null s (m s) (ends s h c e)
+  open_ends C p m ends s h c (WaitsOn q) e = (grows_same s.things s.lists, h)
+  open_ends C p m ends s h c (Viewed q) e = (grows_same s.things s.lists, h)
+  open_ends C p m ends s h c (Settled y) e = (grows_same s.things s.lists, h)
+
+  -- a resolver resolves and breaks none but a name that did neither settle nor wait
+  fine_open : {C : Fact N} (p : N) (m : Act N (Unit {0})) → OpenEnds C p m → Fine K M C (look (λ s. standing_of K s.known p) >>= (λ w. calls.where_unresolved K tree w m)) IsValue
   unfolding ◌>>=◌ look and_then
-  resolved_open {C = C} p x own g = record { after = λ s h c. open_ends {C = C} p x own g s h c (standing_of K s.known p) refl }
+  fine_open {C = C} p m ends = record { after = λ s h c. open_ends C p m ends s h c (standing_of K s.known p) refl }
+
+  pub fine_smash : {C : Fact N} → (x1 : N) → Gets K C (resolvable x1) → (x2 : Value N) → Gets K C (IsValue x2) → Fine K M C (calls.smash K tree x1 x2) IsValue
+  unfolding calls.smash
+  fine_smash {C = C} p own (Text t) g1 = fine_open p (settle K p (Broken t)) (serves.smashes C p t own)
+  fine_smash {C = C} p own _ g1 = search (fine, looks, knows) depth 30
 
   pub fine_resolver_answer : {C : Fact N} → (x1 : N) → Gets K C (resolvable x1) → (x2 : ResolverAsk N) → Gets K C (IsResolverAsk x2) → Fine K M C (calls.resolver_answer K tree x1 x2) IsValue
   unfolding calls.resolver_answer
-  fine_resolver_answer {C = C} p own (Resolves x) g1 = resolved_open {C = C} p x own (record { at = λ ts ls h. (g1.at ts ls h) })
+  fine_resolver_answer {C = C} p own (Resolves x) g1 = fine_open p (resolve K p x) (serves.resolves C p x own (record { at = λ ts ls h. g1.at ts ls h }))
   fine_resolver_answer {C = C} p own (Smashes x) g1 = let d_g1 : Gets K C (IsValue x) = record { at = λ ts ls h. (g1.at ts ls h) } in search (fine, looks, knows, fine_smash) depth 30
   fine_resolver_answer {C = C} p own NoResolverAsk g1 = search (fine, looks, knows) depth 30
 

@@ -4,7 +4,6 @@ pub mod Looks
 pub mod FineRefs
 pub mod Serves
 pub mod FineArrive
-pub mod Natives
 pub mod EvalFacts
 pub mod FineEval
 pub mod Reach

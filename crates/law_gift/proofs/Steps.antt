@@ -1,8 +1,8 @@
 -- Every step of a vat keeps that, where what the turn, the note or the opening resolves may settle.
 use Rattle.std.proofs.Common.{ℕ, sym, subst, ◌∙◌}
-use Rattle.def_machine.specs.Values.{Name, Promise, Answer, Naming, Msg, naming, name_of}
+use Rattle.def_machine.specs.Values.{Name, Promise, Answer, Broken, Naming, Msg, naming, name_of}
 use Rattle.def_machine.specs.State.{Vat, Done, Gives, Throws, Ejects, Stops, Act}
-use Rattle.def_machine.specs.Refs.{resolve}
+use Rattle.def_machine.specs.Refs.{settle, resolve}
 use Rattle.law_machine.specs.Steps.{Step, Opens, Takes, Receives, Notices, does, After}
 use Rattle.law_machine.proofs.Walks.{Holds}
 use Rattle.law_name.specs.Names.{AllOf}
@@ -54,7 +54,7 @@ module _ (word : ℕ → ℕ) (v : ℕ) (May : Name → Type 0) (answers : (h : 
   serves : Serves K both
   serves = let base = served_by K plain loose in record {
     promises = λ C. fine_both (base.promises C) (rests.rest_promise word v May answers);
-    breaks = λ C p t. fine_both (base.breaks C p t) (rests.rest_break word v May answers p t);
+    smashes = λ C p t own s h c e. joined nothing s (settle K p (Broken t) s) (base.smashes C p t own s h.0 c e) ((rests.rest_break word v May answers p t).after s h.1);
     resolves = λ C p y own g s h c e. joined nothing s (resolve K p y s) (base.resolves C p y own g s h.0 c e) ((rests.rest_resolve word v May answers p y (promised_may p (own.at s.things s.lists c))).after s h.1);
     sends = λ C act x g verb args h. fine_both (base.sends C act x g verb args h) (rests.rest_send word v May answers act x verb args);
     sends_only = λ C act x g verb args h. fine_both (base.sends_only C act x g verb args h) (rests.rest_send_only word v May answers act x verb args);
@@ -62,7 +62,10 @@ module _ (word : ℕ → ℕ) (v : ℕ) (May : Name → Type 0) (answers : (h : 
   }
 
   closing : (p : Name) → May p → Closing K both p
-  closing p may = let base = closing_by K plain loose p in record { closes = λ C y g. fine_both (base.closes C y g) (rests.rest_resolve word v May answers p y may) }
+  closing p may = let base = closing_by K plain loose p in record {
+    breaks = λ C t. fine_both (base.breaks C t) (rests.rest_break word v May answers p t);
+    closes = λ C y g. fine_both (base.closes C y g) (rests.rest_resolve word v May answers p y may);
+  }
 
   -- ---- steps
 

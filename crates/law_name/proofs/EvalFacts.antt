@@ -17,11 +17,23 @@ use Rattle.def_kernel.specs.declared.node.Node.{Node}
 use Rattle.def_kernel.specs.declared.node.Node.TheVariants.{Lit, Noun, Set, Def, Call, Sequence, If, Escape, Try, Finally, Hide, MatchBind, Object, Method, Matcher, Final, Var, Any, ListPattern, Via}
 use Rattle.def_kernel.specs.declared.node.Literal.{Literal}
 use Rattle.def_kernel.specs.declared.node.Literal.TheVariants as literal
+use Rattle.law_natives.specs.Natives.{IsPlain}
+use Rattle.law_natives.proofs.Natives.{either_has, entry_has, data_has, range_has, compared_has, null_reply_has, asked_has}
 use Rattle.law_name.specs.Names.{Bit, AllOf, ValueOk, ValuesOk, KnownOk, FreedomOk, BoundOk, NounOk}
 use Rattle.law_name.proofs.Facts.{MayBe, ReplyOk, AuditionAskOk, ResolverAskOk, Fact, IsValue, AreValues, AreLists, IsBound, AreNouns, IsThing, IsView, MayValue, MayBound, IsReply, IsAsked, IsAuditionAsk, IsResolverAsk}
 use Rattle.law_name.proofs.Care.{Care, Gets, Fine, fine_sees}
-use Rattle.law_name.proofs.Looks.{follow_ok}
-use Rattle.law_name.proofs.Natives.{either_has, entry_has, data_ok, range_ok, compared_ok, null_reply_ok, asked_ok}
+use Rattle.law_name.proofs.Looks.{follow_ok, list_at_ok}
+
+pub plain_ok : {N : Type 0} (P : Bit N → Type 0) (v : Value N) → IsPlain v → ValueOk P v
+plain_ok P Null h = tt
+plain_ok P (Flag b) h = tt
+plain_ok P (Number z) h = tt
+plain_ok P (Letter c) h = tt
+plain_ok P (Text t) h = tt
+plain_ok P (Prim n) h = tt
+plain_ok P (Broken p) h = tt
+plain_ok P (Items k) h = tt
+plain_ok P (Ref n) h = absurd h
 
 module _ {N : Type 0} (S : Care N) where
   bound_either : (P : Bit N → Type 0) (c : Bool) (b : Binding N) (o : Option (Bound N)) → NounOk P b → MayBe (BoundOk P) o → MayBe (BoundOk P) (elim c [ true ↦ Some b.bound | false ↦ o ])
@@ -106,7 +118,7 @@ module _ {N : Type 0} (S : Care N) where
   ejector_ok P verb (x ∷ y ∷ ys) h = tt
 
   pub got_asked : (C : Fact N) (p : Primitive) (verb : Words) (args : List (Value N)) → Gets S C (AreValues args) → Gets S C (IsAsked (native.asked p verb args))
-  got_asked C p verb args g = record { at = λ s c. asked_ok (S.ok s) p verb args (g.at s c) }
+  got_asked C p verb args g = record { at = λ s c. asked_has (ValueOk (S.ok s)) (plain_ok (S.ok s)) p verb args (g.at s c) }
 
   pub got_audition_ask : (C : Fact N) (verb : Words) (args : List (Value N)) → Gets S C (AreValues args) → Gets S C (IsAuditionAsk (scopes.audition_ask verb args))
   got_audition_ask C verb args g = record { at = λ s c. audition_ok (S.ok s) verb args (g.at s c) }
@@ -190,17 +202,18 @@ module _ {N W : Type 0} (K : Naming N W) (S : Care N) where
   follows_ok P s h [] i = tt
   follows_ok P s h (x ∷ xs) i = (follow_ok K P s h x i.0, follows_ok P s h xs i.1)
 
-  pub look_data : {C : Fact N} (y : Value N) (verb : Words) (args : List (Value N)) → Gets S C (AreValues args) → Fine S C (look (λ s. native.data_reply s.lists y verb args (map (refs.follow K s) args))) IsReply
-  look_data y verb args g = fine_sees S (λ s. native.data_reply s.lists y verb args (map (refs.follow K s) args)) IsReply (λ s h c. data_ok (S.ok s) s.lists h.parts.lists y verb args (map (refs.follow K s) args) (g.at s c))
+  pub look_data : {C : Fact N} (y : Value N) (verb : Words) (args : List (Value N)) → Gets S C (IsValue y) → Gets S C (AreValues args) → Fine S C (look (λ s. native.data_reply s.lists y verb args (map (refs.follow K s) args))) IsReply
+  look_data y verb args g k = fine_sees S (λ s. native.data_reply s.lists y verb args (map (refs.follow K s) args)) IsReply
+      (λ s h c. data_has (ValueOk (S.ok s)) (plain_ok (S.ok s)) s.lists (λ i l. list_at_ok (S.ok s) s.lists i h.parts.lists) y verb args (map (refs.follow K s) args) (g.at s c) (k.at s c) (follows_ok (S.ok s) s h.parts.known args (k.at s c)))
 
   pub look_range : {C : Fact N} (last : Bool) (a b : Value N) → Fine S C (look (λ s. native.range_reply last (refs.follow K s a) (refs.follow K s b))) IsReply
-  look_range last a b = fine_sees S (λ s. native.range_reply last (refs.follow K s a) (refs.follow K s b)) IsReply (λ s h c. range_ok (S.ok s) last (refs.follow K s a) (refs.follow K s b))
+  look_range last a b = fine_sees S (λ s. native.range_reply last (refs.follow K s a) (refs.follow K s b)) IsReply (λ s h c. range_has (ValueOk (S.ok s)) (plain_ok (S.ok s)) last (refs.follow K s a) (refs.follow K s b))
 
   pub look_compared : {C : Fact N} (test : Order → Bool) (a b : Value N) → Fine S C (look (λ s. native.compared test (native.value_order (refs.follow K s a) (refs.follow K s b)))) IsReply
-  look_compared test a b = fine_sees S (λ s. native.compared test (native.value_order (refs.follow K s a) (refs.follow K s b))) IsReply (λ s h c. compared_ok (S.ok s) test _)
+  look_compared test a b = fine_sees S (λ s. native.compared test (native.value_order (refs.follow K s a) (refs.follow K s b))) IsReply (λ s h c. compared_has (ValueOk (S.ok s)) (plain_ok (S.ok s)) test _)
 
   pub look_null_or : {C : Fact N} (x : Value N) → Fine S C (look (λ s. native.null_or_reply (refs.follow K s x))) IsReply
-  look_null_or x = fine_sees S (λ s. native.null_or_reply (refs.follow K s x)) IsReply (λ s h c. null_reply_ok (S.ok s) (refs.follow K s x))
+  look_null_or x = fine_sees S (λ s. native.null_or_reply (refs.follow K s x)) IsReply (λ s h c. null_reply_has (ValueOk (S.ok s)) (plain_ok (S.ok s)) (refs.follow K s x))
 
 module _ {N W : Type 0} (K : Naming N W) (S : Care N) (tree : List Node) where
   where_taken : (P : Bit N → Type 0) (b : Bool) (y : Value N) → ValueOk P y → MayBe (ValueOk P) (scopes.where_true b y)

@@ -2,6 +2,7 @@
 use Rattle.std.proofs.Common.{ℕ, List, [], ◌∷◌, ◌++◌, Option, Some, None}
 use Rattle.def_machine.specs.Values.{Value, Null, Flag, Number, Letter, Text, Prim, Broken, Items, Ref, Coming, IsRoot, IsOwn, IsAnswer, IsGift, IsLearnt}
 use Rattle.def_machine.specs.State.{Bound, Fixed, Slot, Binding, Scope, Cell, Freedom, IsSafe, IsItself, IsFinal, IsVar, View, Thing, Made, Ejector, Audition, Resolver, Message, Standing, Unsettled, WaitsOn, Viewed, Settled, Known, Change, Hold, Wait, WaitOn, See, React, ToTell, Settle, Passed, Passeds, Plain, AGift, Many, NoMore, More, Note, Deliver, Open, Ask, SettledTo, Elsewhere, Shorten, Put, GiftEntry, WhereSome}
+use Rattle.law_natives.specs.Natives.{ReplyHas, AskedHas}
 use Rattle.law_name.specs.Names.{Bit, Named, Mail, Drew, At, Off, Entered, Owns, Gave, AllOf, ValueOk, ValuesOk, NameOk, EntryOk, MessageOk, StandingOk, KnownOk, CellOk, FreedomOk, ViewOk, BoundOk, NounOk, ThingOk, PassedOk, PassedsOk, NoteOk, GoesOk, PutOk, GiftOk}
 use Rattle.def_machine.specs.Refs.{Place, Near, Mine, Away, Gone, Parcel}
 use Rattle.def_machine.specs.Native.{Reply, Says, Writes, Lists as Listed, Iterates, Fails, Asked, MakesList, Ranges, Same, Compares, Loops, SendsTo, CallsTo, MakesPromise, Breaks, Tells, Whens, ThrowsIt, IsStamped, Coerces, AddsNull, NoMethod}
@@ -67,29 +68,10 @@ module _ {N : Type 0} (P : Bit N → Type 0) where
   ComingOk (IsLearnt x) = ⊥
 
   abbrev pub ReplyOk : Reply N → Type 0
-  ReplyOk (Says v) = ValueOk P v
-  ReplyOk (Writes t) = Unit {0}
-  ReplyOk (Listed vs) = ValuesOk P vs
-  ReplyOk (Iterates o vs) = ValueOk P o × ValuesOk P vs
-  ReplyOk (Fails p) = Unit {0}
+  ReplyOk = ReplyHas (ValueOk P)
 
   abbrev pub AskedOk : Asked N → Type 0
-  AskedOk (MakesList vs) = ValuesOk P vs
-  AskedOk (Ranges b x y) = Unit {0}
-  AskedOk (Same x y) = Unit {0}
-  AskedOk (Compares t x y) = Unit {0}
-  AskedOk (Loops o) = ValueOk P o
-  AskedOk (SendsTo only x v l) = ValueOk P x × ValueOk P v × ValueOk P l
-  AskedOk (CallsTo x v l) = ValueOk P x × ValueOk P v × ValueOk P l
-  AskedOk MakesPromise = Unit {0}
-  AskedOk (Breaks x) = ValueOk P x
-  AskedOk (Tells t x) = ValueOk P x
-  AskedOk (Whens x o) = ValueOk P x × ValueOk P o
-  AskedOk (ThrowsIt x) = Unit {0}
-  AskedOk (IsStamped a x) = Unit {0}
-  AskedOk (Coerces g x j) = ValueOk P x × ValueOk P j
-  AskedOk (AddsNull x) = ValueOk P x
-  AskedOk NoMethod = Unit {0}
+  AskedOk = AskedHas (ValueOk P)
 
   abbrev pub AuditionAskOk : AuditionAsk N → Type 0
   AuditionAskOk GetsForm = Unit {0}

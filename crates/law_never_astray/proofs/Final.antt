@@ -27,7 +27,7 @@ use Rattle.law_covered.proofs.Worlds.{all_carry_in_runs}
 use Rattle.law_connected.proofs.RunDies.{opened_still, run_still}
 use Rattle.law_astray.proofs.Arrivals.{arrivals_are_not_astray}
 use Rattle.law_never_astray.specs.Runs.{NoticersAreThere, NeverAstray}
-use Rattle.law_never_astray.proofs.Begins.{begins_by}
+use Rattle.law_reference.proofs.RingStart.{begins_by}
 use Rattle.law_never_astray.proofs.Stops.{turn_none, open_none}
 use Rattle.law_never_astray.proofs.Steps.{Facts, Lasts, begins_last, some_there, entry_lasts, opening_lasts, turn_clear, open_clear}
 

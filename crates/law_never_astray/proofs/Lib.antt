@@ -12,7 +12,6 @@ pub mod Views
 pub mod Rings
 pub mod Turns
 pub mod Worlds
-pub mod Begins
 pub mod Stops
 pub mod Steps
 pub mod Final

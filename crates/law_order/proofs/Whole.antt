@@ -366,7 +366,7 @@ module _ (script : Script) (honest : ℕ → Bool) (w : World) (v : ℕ) where
       tells_of (Prim j) e p hs s q h = tells (subst IsUnlisted (sym e) tt) p hs s h
       tells_of (Broken x) e p hs s q h = tells (subst IsUnlisted (sym e) tt) p hs s h
 
-      known_kept : (p : Name) (k : Known Name) (s : Vat Name) → refs.entry_of K s.known p ≡ Some k → KnownWell script honest w v y R settle p k s → IfGives (λ t. Kept s t) (refs.settle_known K settle p y k s)
+      pub known_kept : (p : Name) (k : Known Name) (s : Vat Name) → refs.entry_of K s.known p ≡ Some k → KnownWell script honest w v y R settle p k s → IfGives (λ t. Kept s t) (refs.settle_known K settle p y k s)
       unfolding refs.settle_known state.◌>>◌ state.and_then state.tell state.alter
       known_kept p k s e h = chain (λ t. Kept s t × WaitsWell script honest w v y R settle p k.waiting t) (λ t. Kept s t) (state.each (refs.send_on K settle) k.held (Then s p y))
           (λ t. state.and_then (state.each (λ q. settle q y) k.waiting t) (λ a. λ u. state.and_then (state.each state.enqueue k.reactions u) (λ b. state.each (refs.inform K p) k.told)))
@@ -390,7 +390,7 @@ module _ (script : Script) (honest : ℕ → Bool) (w : World) (v : ℕ) where
       entry_kept p s None e h = kept_self s
       entry_kept p s (Some k) e h = stands_kept p k s k.standing e h
 
-    target_plain : (s : Vat Name) (p : Name) (z : Value Name) → IsPlain K z → IsPlain K (refs.target_of K s p z)
+    pub target_plain : (s : Vat Name) (p : Name) (z : Value Name) → IsPlain K z → IsPlain K (refs.target_of K s p z)
     unfolding refs.target_of refs.cut_cycle
     target_plain s p (Items j) h = go (refs.reaches K (suc (length s.lists)) s p (Items j))
       where
@@ -406,7 +406,7 @@ module _ (script : Script) (honest : ℕ → Bool) (w : World) (v : ℕ) where
     target_plain s p (Prim j) h = h
     target_plain s p (Broken x) h = h
 
-    target_honest : (s : Vat Name) (p : Name) (z : Value Name) → IsHonestTo script honest v z → IsHonestTo script honest v (refs.target_of K s p z)
+    pub target_honest : (s : Vat Name) (p : Name) (z : Value Name) → IsHonestTo script honest v z → IsHonestTo script honest v (refs.target_of K s p z)
     unfolding refs.target_of refs.cut_cycle
     target_honest s p (Items j) h = go (refs.reaches K (suc (length s.lists)) s p (Items j))
       where

@@ -246,7 +246,7 @@ held_is_on_its_name script = (
   λ w x es k o e. held_in_world script x (reached_is WorldWell _ x e ((runs_stay_well script).1 w es k o)),
 )
 
-host_in_world : (script : Script) (v : ℕ) (s : Vat Name) (n : Name) (k : Known Name) → AllOf (λ (j : Known Name). j.host ≡ host_of j.name) s.known → entry_of (names script v) s.known n ≡ Some k → k.host ≡ host_of n
+pub host_in_world : (script : Script) (v : ℕ) (s : Vat Name) (n : Name) (k : Known Name) → AllOf (λ (j : Known Name). j.host ≡ host_of j.name) s.known → entry_of (names script v) s.known n ≡ Some k → k.host ≡ host_of n
 unfolding names word
 host_in_world script v s n k h e = found_all (word script v) v (λ (j : Known Name). j.host ≡ host_of j.name) s.known n k h e ∙ ap host_of (entry_name script v s.known n k e)
 

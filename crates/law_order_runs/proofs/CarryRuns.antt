@@ -23,7 +23,7 @@ module _ (script : Script) (entry : Entry) (x y : World) where
   last_step k (Goes z) e = e
   last_step k (Stopped c i z) e = cc
 
-  next_step : (es : List Entry) (k : ℕ) (w : World) → steps_from script es k w ≡ Goes x → steps_from script (es ++ entry ∷ []) k w ≡ Goes y → (j : ℕ) × (step script entry j x ≡ Goes y)
+  pub next_step : (es : List Entry) (k : ℕ) (w : World) → steps_from script es k w ≡ Goes x → steps_from script (es ++ entry ∷ []) k w ≡ Goes y → (j : ℕ) × (step script entry j x ≡ Goes y)
   unfolding steps_from world.then_goes
   next_step [] k w e f = (k, subst (λ z. step script entry k z ≡ Goes y) (going e) (last_step k (step script entry k w) f))
   next_step (first ∷ es) k w e f = go (λ z i j. next_step es (suc k) z i j) (step script first k w) e f

@@ -6,3 +6,5 @@ pub mod ToldRuns
 pub mod OwnRuns
 pub mod Bearing
 pub mod CarryRuns
+pub mod LinkRuns
+pub mod ClosedRuns

@@ -31,7 +31,7 @@ use Rattle.law_order.specs.Arrivals.{IsShut}
 use Rattle.law_order.specs.Places.{opened_there}
 use Rattle.law_order.specs.Worlds.{IsObject}
 use Rattle.law_order_arrivals.specs.Tellings.{IsOwnEnd, OwnNamesEnd}
-use Rattle.law_order_runs.specs.Owning.{OwnNamesEndInRuns, UnopenedGiftsAreShut, HeldAnswersAreNew}
+use Rattle.law_order_runs.specs.Owning.{OwnNamesEndInRuns, UnopenedGiftsAreShut, HeldAnswersAreNew, ViewedNamesAreEmpty}
 use Rattle.law_order_runs.proofs.Beginnings.{reached_is, each_all, object_apart, all_eventual, entry_name, none_found, named_object, own_messages}
 use Rattle.law_order_runs.proofs.Once.{itself}
 use Rattle.law_order_runs.proofs.Truths.{object_self, data_self}
@@ -80,6 +80,26 @@ pub own_names_end : OwnNamesEndInRuns
 own_names_end script once = (
   λ ps rest w i e v s there. ends_in script w (reached_is WorldSound _ w e ((messages_go_to_hosts script).0 ps)) v s there ((names_apart script once).0 ps rest w i e v s there).0,
   λ w x es k o e v s there. ends_in script x (reached_is WorldSound _ x e ((messages_go_to_hosts script).1 w es k o)) v s there ((names_apart script once).1 w x es k o e v s there).0,
+)
+
+-- ---- names with views
+
+none_each : {A : Type 0} (P : Type 0) (xs : List A) → (P → ⊥) → Each (λ (x : A). P) xs → xs ≡ []
+none_each P [] f h = refl
+none_each P (x ∷ xs) f h = absurd (f h.0)
+
+viewed_in : (script : Script) (w : World) → WorldSound w → (v : ℕ) (s : Vat Name) (n g : Name) (k : Known Name) → slice_get w.vats v ≡ Some s → entry_of (names script v) s.known n ≡ Some k → k.standing ≡ Viewed g → (host_of n ≡ v → ⊥) × (k.told ≡ []) × (k.held ≡ [])
+unfolding names
+viewed_in script w h v s n g k there e viewed =
+    let sound = found_all (draw_word script.key) v (KnownSound v) s.known n k (each_all (KnownSound v) s.known (h.vats v s there).names) e in
+    let named = entry_name script v s.known n k e in
+    let another : (host_of k.name ≡ v → ⊥) = subst (λ q. ViewsAnother v k.name q) viewed sound.viewed in
+    (subst (λ m. host_of m ≡ v → ⊥) named another, none_each (host_of k.name ≡ v) k.told another sound.told, none_each (host_of k.name ≡ v) k.held another sound.held)
+
+pub viewed_names_are_empty : ViewedNamesAreEmpty
+viewed_names_are_empty script = (
+  λ ps rest w i e. viewed_in script w (reached_is WorldSound _ w e ((messages_go_to_hosts script).0 ps)),
+  λ w x es k o e. viewed_in script x (reached_is WorldSound _ x e ((messages_go_to_hosts script).1 w es k o)),
 )
 
 -- ---- gifts that were not opened

@@ -75,7 +75,7 @@ module _ (script : Script) where
         let here : TellsTruly script v s.known n = subst (λ (x : Vat Name). TellsTruly script v x.known n) same (subst (λ x. TellsTruly script x q.known n) i.0 h) in
         (t, i.1, subst (λ x. TellsTruly script x t.known n) (sym i.0) (truly_still script v s t lasts n here))
 
-    note_on : (u : ℕ) (n : Note Name) → NoteTrue vats u n → NoteTrue Vats u n
+    pub note_on : (u : ℕ) (n : Note Name) → NoteTrue vats u n → NoteTrue Vats u n
     note_on u n h = note_get u h.0 n h.1 h.2 (get_or v t vats u h.0 h.1)
 
     notes_on : (u : ℕ) (ns : List (Note Name)) → AllOf (NoteTrue vats u) ns → AllOf (NoteTrue Vats u) ns
@@ -134,7 +134,7 @@ module _ (script : Script) where
   arriving v from (Elsewhere z c) = walked_arrive (names script v) (R v) (HasSettled script v) (tells_walked script v) from (Elsewhere z c) tt
   arriving v from (Shorten z c j) = arriving_shorten v j z
 
-  steps_tell : (v : ℕ) (what : Step Name Name) (s : Vat Name) → After (R v) s (does (names script v) what s)
+  pub steps_tell : (v : ℕ) (what : Step Name Name) (s : Vat Name) → After (R v) s (does (names script v) what s)
   unfolding does
   steps_tell v (Opens tree depth root given) s = (walked_opening (names script v) (R v) (HasSettled script v) (tells_walked script v) tree depth root given).after s
   steps_tell v (Takes tree depth n) s = (walked_taking (names script v) (R v) (HasSettled script v) (tells_walked script v) tree depth n).after s
@@ -262,7 +262,7 @@ module _ (script : Script) where
   settled_well u s n z None well e f = cc
   settled_well u s n z (Some k) well e f = subst SettledWell f (found_all (draw_word script.key) u KnownWell s.known n k (each_all KnownWell s.known well) e).standing
 
-  elsewhere_in : (w : World) (u : ℕ) (n : Name) (c : ℕ) → NoteTrue w.vats u (Elsewhere n c) → ((s : Vat Name) → slice_get w.vats u ≡ Some s → Each KnownWell s.known × AllOf IsEventual (names_in s.known))
+  pub elsewhere_in : (w : World) (u : ℕ) (n : Name) (c : ℕ) → NoteTrue w.vats u (Elsewhere n c) → ((s : Vat Name) → slice_get w.vats u ≡ Some s → Each KnownWell s.known × AllOf IsEventual (names_in s.known))
       → (s : Vat Name) × (slice_get w.vats u ≡ Some s) × (o : Name) × (standing_of (names script u) s.known n ≡ Settled (Ref o)) × IsObject o × (host_of o ≡ c)
   unfolding names standing_of spot_of naming
   elsewhere_in w u n c h f =

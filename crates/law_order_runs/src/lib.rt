@@ -4,4 +4,5 @@
 pub mod beginning;
 pub mod carrying;
 pub mod owning;
+pub mod reaching;
 pub mod telling;

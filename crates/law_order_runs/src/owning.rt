@@ -1,6 +1,6 @@
 //! What a vat hosts, in every world of a run.
 
-ghost use Rattle.law_order_runs.specs.Owning.{OwnNamesEndInRuns, UnopenedGiftsAreShut, HeldAnswersAreNew};
+ghost use Rattle.law_order_runs.specs.Owning.{HeldAnswersAreNew, OwnNamesEndInRuns, UnopenedGiftsAreShut, ViewedNamesAreEmpty};
 
 /// In every world of a run each name that a vat hosts is followed there to data, to an object, or to a name that the
 /// vat hosts: so it leads to other vats only as an object.
@@ -26,4 +26,10 @@ pub fn unopened_gifts_are_shut()
 /// It is asked what `own_names_end` asks.
 pub fn held_answers_are_new()
     ensures { HeldAnswersAreNew }
+{}
+
+/// In every world of a run a name with a view is of another vat than the one that knows it so: no vat is to be told of
+/// it, and it holds no message.
+pub fn viewed_names_are_empty()
+    ensures { ViewedNamesAreEmpty }
 {}

@@ -20,7 +20,7 @@ use Rattle.law_fate.specs.Carry.{load, fare, held_at}
 use Rattle.law_fate.specs.Sound.{Sound as Weighed}
 use Rattle.law_fate.specs.CarryLaws.{Lightened}
 use Rattle.law_fate.proofs.Light.{LightAt, Light, held_end, come_sound, light_react, light_enqueue}
-use Rattle.law_fate.proofs.RefsLight.{ride, PlaceSound, place_sound, cost_deliver, light_settle, light_break, light_resolve, light_send, light_reacts, cost_send_to, light_send_only}
+use Rattle.law_fate.proofs.RefsLight.{ride, PlaceSound, place_sound, cost_deliver, light_settle, light_break, light_resolve, light_send, light_reacts, send_to_at, host_later, light_send_only}
 use Rattle.law_reference.specs.Knowing.{once, one, claims, numbered, numbered_at, Knowing}
 use Rattle.law_reference.proofs.Claims.{claims_end}
 use Rattle.law_reference.proofs.Costs.{free, spared}
@@ -378,8 +378,8 @@ module _ (v : ℕ) (m : Msg) (mine : m.sender ≡ v) where
       unfolding same_one
       its_least = same_least (same_name (Sent (record { sender = v; number = s.messages })) Id)
 
-      near_light : (o : Option Name) (p : Place Name) → Fits At_ p → PlaceSound Names v global s.known p → (S2 : Vat Name) → Weighed v S2 → LightAt v Id (ride p Its_one) S2 (refs.send_to Names (refs.settle Names) (It_ o) At_ p S2)
-      near_light o p f i S2 w = (cost_send_to Names v global Id (refs.settle Names) (light_settle Names v global Id) (It_ o) At_ p s.known (record { sender = v; number = s.messages }, refl) f i).after S2 w
+      near_light : (o : Option Name) (p : Place Name) → Fits At_ p → (S2 : Vat Name) → PlaceSound Names v global S2.known p → Weighed v S2 → LightAt v Id (ride p Its_one) S2 (refs.send_to Names (refs.settle Names) (It_ o) At_ p S2)
+      near_light o p f S2 i w = send_to_at Names v global Id (refs.settle Names) (light_settle Names v global Id) (It_ o) At_ p S2 (record { sender = v; number = s.messages }, refl) f i w
 
       near_account : (o : Option Name) (p : Place Name) (S2 : Vat Name) → After (Accounted (λ u. false) v Id Its_one) S2 (refs.send_first Names (It_ o) At_ p S2)
       near_account o p S2 = (account.costs_send_first (λ u. false) v Id Names (It_ o) At_ p).after S2
@@ -402,17 +402,17 @@ module _ (v : ℕ) (m : Msg) (mine : m.sender ≡ v) where
           goes_away s (Ks s h) (LineAt h) (held_with s h) k new (fare n Its_one) y _ (omega arith) ends
           ((cost_deliver Names v global Id (Its h) h n (rw e at (place_sound Names v global s At_ w))).after S2 (made_sound h w)) ((deliver_free (Its h) h n).after S2)
       sent_by Near e k new ends y = let S2 = With s s.number (LineAt s.number) in let w = k.0 in
-          stays_here s (Ks s s.number) (LineAt s.number) (held_with s s.number) k new (ride Near Its_one) Its_one y _ (rides Near Its_one (its_least) (λ h n o i. no_away i)) ends (near_light Its_ Near (fits_at Names v global s At_ Near e) tt S2 (made_sound s.number w)) (near_account Its_ Near S2)
+          stays_here s (Ks s s.number) (LineAt s.number) (held_with s s.number) k new (ride Near Its_one) Its_one y _ (rides Near Its_one (its_least) (λ h n o i. no_away i)) ends (near_light Its_ Near (fits_at Names v global s At_ Near e) S2 tt (made_sound s.number w)) (near_account Its_ Near S2)
         where
           no_away : {h : ℕ} {n : Name} {o : Bool} → ◌≡◌ {A = Place Name} Near (Away h n o) → ⊥
           no_away i = cc
       sent_by (Mine z) e k new ends y = let S2 = With s s.number (LineAt s.number) in let w = k.0 in
-          stays_here s (Ks s s.number) (LineAt s.number) (held_with s s.number) k new (ride (Mine z) Its_one) Its_one y _ (rides (Mine z) Its_one (its_least) (λ h n o i. no_away i)) ends (near_light Its_ (Mine z) (fits_at Names v global s At_ (Mine z) e) (rw e at (place_sound Names v global s At_ w)) S2 (made_sound s.number w)) (near_account Its_ (Mine z) S2)
+          stays_here s (Ks s s.number) (LineAt s.number) (held_with s s.number) k new (ride (Mine z) Its_one) Its_one y _ (rides (Mine z) Its_one (its_least) (λ h n o i. no_away i)) ends (near_light Its_ (Mine z) (fits_at Names v global s At_ (Mine z) e) S2 (host_later Names v global Id z (answer_of s.number (Sent (record { sender = v; number = s.messages }))) s.number w.same s.known (rw e at (place_sound Names v global s At_ w))) (made_sound s.number w)) (near_account Its_ (Mine z) S2)
         where
           no_away : {h : ℕ} {n : Name} {o : Bool} → ◌≡◌ {A = Place Name} (Mine z) (Away h n o) → ⊥
           no_away i = cc
       sent_by (Gone r) e k new ends y = let S2 = With s s.number (LineAt s.number) in let w = k.0 in
-          stays_here s (Ks s s.number) (LineAt s.number) (held_with s s.number) k new (ride (Gone r) Its_one) Its_one y _ (rides (Gone r) Its_one (its_least) (λ h n o i. no_away i)) ends (near_light Its_ (Gone r) (fits_at Names v global s At_ (Gone r) e) tt S2 (made_sound s.number w)) (near_account Its_ (Gone r) S2)
+          stays_here s (Ks s s.number) (LineAt s.number) (held_with s s.number) k new (ride (Gone r) Its_one) Its_one y _ (rides (Gone r) Its_one (its_least) (λ h n o i. no_away i)) ends (near_light Its_ (Gone r) (fits_at Names v global s At_ (Gone r) e) S2 tt (made_sound s.number w)) (near_account Its_ (Gone r) S2)
         where
           no_away : {h : ℕ} {n : Name} {o : Bool} → ◌≡◌ {A = Place Name} (Gone r) (Away h n o) → ⊥
           no_away i = cc
@@ -453,11 +453,11 @@ module _ (v : ℕ) (m : Msg) (mine : m.sender ≡ v) where
           goes_away s s.known LoneLine refl k new (fare n Its_one) y _ none.1 ends
           ((cost_deliver Names v global Id (It_ None) h n (rw e at (place_sound Names v global s At_ w))).after S4 w) ((deliver_free (It_ None) h n).after S4)
       lone_by Near e k new ends y = let w = k.0 in
-          stays_here s s.known LoneLine refl k new (ride Near Its_one) Its_one y _ (rides Near Its_one (its_least) (λ h n o i. cc)) ends (near_light None Near (fits_at Names v global s At_ Near e) tt S4 w) (near_account None Near S4)
+          stays_here s s.known LoneLine refl k new (ride Near Its_one) Its_one y _ (rides Near Its_one (its_least) (λ h n o i. cc)) ends (near_light None Near (fits_at Names v global s At_ Near e) S4 tt w) (near_account None Near S4)
       lone_by (Mine z) e k new ends y = let w = k.0 in
-          stays_here s s.known LoneLine refl k new (ride (Mine z) Its_one) Its_one y _ (rides (Mine z) Its_one (its_least) (λ h n o i. cc)) ends (near_light None (Mine z) (fits_at Names v global s At_ (Mine z) e) (rw e at (place_sound Names v global s At_ w)) S4 w) (near_account None (Mine z) S4)
+          stays_here s s.known LoneLine refl k new (ride (Mine z) Its_one) Its_one y _ (rides (Mine z) Its_one (its_least) (λ h n o i. cc)) ends (near_light None (Mine z) (fits_at Names v global s At_ (Mine z) e) S4 (rw e at (place_sound Names v global s At_ w)) w) (near_account None (Mine z) S4)
       lone_by (Gone r) e k new ends y = let w = k.0 in
-          stays_here s s.known LoneLine refl k new (ride (Gone r) Its_one) Its_one y _ (rides (Gone r) Its_one (its_least) (λ h n o i. cc)) ends (near_light None (Gone r) (fits_at Names v global s At_ (Gone r) e) tt S4 w) (near_account None (Gone r) S4)
+          stays_here s s.known LoneLine refl k new (ride (Gone r) Its_one) Its_one y _ (rides (Gone r) Its_one (its_least) (λ h n o i. cc)) ends (near_light None (Gone r) (fits_at Names v global s At_ (Gone r) e) S4 tt w) (near_account None (Gone r) S4)
 
       lone_either : Sound T s → ValueOk (T.ok s) x → ValuesOk (T.ok s) args → Kept s → (m.number ≡ s.messages) ⊎ (m.number ≡ s.messages → ⊥) → Leaves (refs.send_only Names act x verb args s)
       unfolding refs.send_only ◌>>=◌ ◌>>◌ and_then look tell new_lone_message naming mail_of

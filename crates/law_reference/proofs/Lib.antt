@@ -127,4 +127,5 @@ pub mod Told
 pub mod VatStep
 pub mod Around
 pub mod StepRings
+pub mod RingStart
 pub mod RunRing

@@ -691,7 +691,7 @@ module _ (word : ℕ → ℕ) (v : ℕ) (heed : Bool) (D : ℕ → Type 0) (Seen
   pub serving : heed ≡ true → Serves N (M [])
   serving on = record {
     promises = λ C. promised [] C;
-    breaks = λ C p t. settle_broken [] C p t;
+    smashes = λ C p t own s h c e. (settle_broken [] C p t).after s h c;
     resolves = λ C p y own g s h c e. (resolve_own on [] C p (resolver_own C p own s c) y g).after s h c;
     sends = λ C act x g verb args i. sends [] C act x g verb args i;
     sends_only = λ C act x g verb args i. sends_only [] C act x g verb args i;
@@ -699,4 +699,4 @@ module _ (word : ℕ → ℕ) (v : ℕ) (heed : Bool) (D : ℕ → Type 0) (Seen
   }
 
   pub closing_own : heed ≡ true → (p : Name) → IsOwnName N v D p → Closing N (M []) p
-  closing_own on p own = record { closes = λ C y g. resolve_own on [] C p own y g }
+  closing_own on p own = record { breaks = λ C t. settle_broken [] C p t; closes = λ C y g. resolve_own on [] C p own y g }

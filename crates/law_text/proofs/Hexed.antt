@@ -3,7 +3,6 @@ use Rattle.std.proofs.Common.{◌≡◌, ℕ, ◌+◌, ◌/◌, ◌%◌, ◌<◌
 use Rattle.std.specs.Char.{digit_char}
 use Rattle.std.proofs.lemmas.Bool.Decides.{nat_tests}
 use Rattle.def_event.specs.Lines.{hex}
-use Rattle.law_text.specs.Feeds.{AllOf}
 use Rattle.law_text.proofs.Front.{head_is, tail_is, cons_is}
 
 below_ten : (d : ℕ) → ltb d 10 ≡ true → d < 10
@@ -12,30 +11,31 @@ below_ten d e = grind (arith, nat_tests)
 from_ten : (d : ℕ) → ltb d 10 ≡ false → 10 ≤ d
 from_ten d e = grind (arith, nat_tests)
 
-digit_by : (a b : ℕ) (s t : Bool) → ltb a 10 ≡ s → ltb b 10 ≡ t → a < 16 → b < 16 → cond s (48 + a) (87 + a) ≡ cond t (48 + b) (87 + b) → a ≡ b
-digit_by a b true true i j h k e = omega arith
-digit_by a b true false i j h k e = let l = below_ten a i in let m = from_ten b j in omega arith
-digit_by a b false true i j h k e = let l = from_ten a i in let m = below_ten b j in omega arith
-digit_by a b false false i j h k e = omega arith
+digit_by : (a b : ℕ) (s t : Bool) → ltb a 10 ≡ s → ltb b 10 ≡ t → cond s (48 + a) (87 + a) ≡ cond t (48 + b) (87 + b) → a ≡ b
+digit_by a b true true i j e = omega arith
+digit_by a b true false i j e = let l = below_ten a i in let m = from_ten b j in omega arith
+digit_by a b false true i j e = let l = from_ten a i in let m = below_ten b j in omega arith
+digit_by a b false false i j e = omega arith
 
-digit_told : (a b : ℕ) → a < 16 → b < 16 → digit_char a ≡ digit_char b → a ≡ b
-digit_told a b h k e = digit_by a b (ltb a 10) (ltb b 10) refl refl h k e
+-- of any number, be it a digit or not
+digit_told : (a b : ℕ) → digit_char a ≡ digit_char b → a ≡ b
+digit_told a b e = digit_by a b (ltb a 10) (ltb b 10) refl refl e
 
-byte_told : (a b : ℕ) → a < 256 → b < 256 → digit_char (a / 16) ≡ digit_char (b / 16) → digit_char (a % 16) ≡ digit_char (b % 16) → a ≡ b
-byte_told a b h k e f =
-    let high = digit_told (a / 16) (b / 16) (omega arith) (omega arith) e in
-    let low = digit_told (a % 16) (b % 16) (omega arith) (omega arith) f in
+byte_told : (a b : ℕ) → digit_char (a / 16) ≡ digit_char (b / 16) → digit_char (a % 16) ≡ digit_char (b % 16) → a ≡ b
+byte_told a b e f =
+    let high = digit_told (a / 16) (b / 16) e in
+    let low = digit_told (a % 16) (b % 16) f in
     omega arith
 
 nothing : (c : ℕ) (cs : List ℕ) → ◌≡◌ {A = List ℕ} [] (c ∷ cs) → ⊥
 nothing c cs e = cc
 
-pub hex_told : (xs ys : List ℕ) → AllOf (λ (b : ℕ). b < 256) xs → AllOf (λ (b : ℕ). b < 256) ys → hex xs ≡ hex ys → xs ≡ ys
-hex_told [] [] h k e = refl
-hex_told [] (y ∷ ys) h k e = absurd (nothing (digit_char (y / 16)) (digit_char (y % 16) ∷ hex ys) e)
-hex_told (x ∷ xs) [] h k e = absurd (nothing (digit_char (x / 16)) (digit_char (x % 16) ∷ hex xs) (sym e))
-hex_told (x ∷ xs) (y ∷ ys) h k e =
+pub hex_told : (xs ys : List ℕ) → hex xs ≡ hex ys → xs ≡ ys
+hex_told [] [] e = refl
+hex_told [] (y ∷ ys) e = absurd (nothing (digit_char (y / 16)) (digit_char (y % 16) ∷ hex ys) e)
+hex_told (x ∷ xs) [] e = absurd (nothing (digit_char (x / 16)) (digit_char (x % 16) ∷ hex xs) (sym e))
+hex_told (x ∷ xs) (y ∷ ys) e =
     let high = head_is (digit_char (x / 16)) (digit_char (y / 16)) (digit_char (x % 16) ∷ hex xs) (digit_char (y % 16) ∷ hex ys) e in
     let more = tail_is (digit_char (x / 16)) (digit_char (y / 16)) (digit_char (x % 16) ∷ hex xs) (digit_char (y % 16) ∷ hex ys) e in
     let low = head_is (digit_char (x % 16)) (digit_char (y % 16)) (hex xs) (hex ys) more in
-    cons_is x y xs ys (byte_told x y h.0 k.0 high low) (hex_told xs ys h.1 k.1 (tail_is (digit_char (x % 16)) (digit_char (y % 16)) (hex xs) (hex ys) more))
+    cons_is x y xs ys (byte_told x y high low) (hex_told xs ys (tail_is (digit_char (x % 16)) (digit_char (y % 16)) (hex xs) (hex ys) more))

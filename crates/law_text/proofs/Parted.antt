@@ -323,7 +323,7 @@ module _ (vats : List (List ℕ)) (good : AreVats vats) where
   part_told (Bytes xs) (Verb w) s h g e = absurd (two_marks 10 7 refl s)
   part_told (Bytes xs) (AList w n) s h g e = absurd (two_marks 10 8 refl s)
   part_told (Bytes xs) (ASlot w n) s h g e = absurd (two_marks 10 9 refl s)
-  part_told (Bytes xs) (Bytes ys) s h g e = subst (λ z. PartAlike (Bytes xs) (Bytes z)) (hex_told xs ys h g e) same
+  part_told (Bytes xs) (Bytes ys) s h g e = subst (λ z. PartAlike (Bytes xs) (Bytes z)) (hex_told xs ys e) same
 
   no_sorts : (n : ℕ) (ns : List ℕ) → ◌≡◌ {A = List ℕ} [] (n ∷ ns) → ⊥
   no_sorts n ns e = cc

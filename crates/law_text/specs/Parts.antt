@@ -116,7 +116,7 @@ module _ (vats : List (List ℕ)) where
   IsPartOf (Verb verb) = IsUtf8 verb
   IsPartOf (AList v n) = (v < length vats) × (n < 2 ^ 64)
   IsPartOf (ASlot v n) = (v < length vats) × (n < 2 ^ 64)
-  IsPartOf (Bytes bytes) = AllOf (λ b. b < 256) bytes
+  IsPartOf (Bytes bytes) = Unit {0}
 
   abbrev pub MayBegin : Option ℕ → Type 0
   MayBegin None = Unit {0}

@@ -20,7 +20,7 @@ use Rattle.law_text_accepted.specs.Accepted.{HasTrees, TextsTellRunsOfAcceptedSc
 
 -- ---- the vats
 
-vats_count : (tree : ℕ → List Node) (place : ℕ) (vats : List VatScript) → length (machine_vats tree place vats) ≡ length vats
+pub vats_count : (tree : ℕ → List Node) (place : ℕ) (vats : List VatScript) → length (machine_vats tree place vats) ≡ length vats
 vats_count tree place [] = refl
 vats_count tree place (v ∷ vats) = ap suc (vats_count tree (suc place) vats)
 
@@ -40,7 +40,7 @@ knows_of tree count place (v ∷ vats) h = (h zero v refl, knows_of tree count (
 
 -- ---- the schedule
 
-entries_count : (es : List Entry) → length (map machine_entry es) ≡ length es
+pub entries_count : (es : List Entry) → length (map machine_entry es) ≡ length es
 entries_count [] = refl
 entries_count (e ∷ es) = ap suc (entries_count es)
 

@@ -19,7 +19,6 @@ use Rattle.law_text.specs.Feeds.{NoteFits as ShownFits}
 use Rattle.law_text.specs.Parts.{Part, Word, Entry, Vat, IsPartOf, IsRestOf, IsEventOf, note_tells}
 use Rattle.law_text_runs.specs.Fitting.{Limits, IsVat, IsLow, NameFits, ValueFits, ValuesFit, BoundFits, MessageFits, PassedFits, PassedsFit, NoteFits, LineFits}
 use Rattle.law_text_runs.specs.Worlds.{EventFits}
-use Rattle.law_text_runs.specs.Laws.{IsOfBytes}
 use Rattle.law_kernel_form.specs.Trees.{IsInt}
 use Rattle.law_text_runs.proofs.Fine.{all_append}
 
@@ -186,25 +185,25 @@ module _ (vats : List (List ℕ)) (d : List ℕ) (few : length d < 2 ^ 64) where
 
   -- ---- events
 
-  event_fits : (e : Event) → EventFits L e → IsOfBytes e → AllOf (IsEventOf vats) (shown_event d e)
+  event_fits : (e : Event) → EventFits L e → AllOf (IsEventOf vats) (shown_event d e)
   unfolding shown_event
-  event_fits (Opens v) f b = ((tt, (tt, (f, tt)), tt), tt)
-  event_fits (Turned k v) f b = ((tt, (f.0, (tt, (f.1, tt))), tt), tt)
-  event_fits (Idle k) f b = ((tt, (f, (tt, tt)), tt), tt)
-  event_fits (Carried k v u n bytes) f b =
+  event_fits (Opens v) f = ((tt, (tt, (f, tt)), tt), tt)
+  event_fits (Turned k v) f = ((tt, (f.0, (tt, (f.1, tt))), tt), tt)
+  event_fits (Idle k) f = ((tt, (f, (tt, tt)), tt), tt)
+  event_fits (Carried k v u n bytes) f =
       let note = note_fits (Entry k ∷ Word (codes "carry") ∷ Vat v ∷ Vat u ∷ []) u n (f.0, (tt, (f.1, (f.2, tt)))) f.2 f.3 in
-      ((note.0, note.1, note.2), ((tt, (tt, (b, tt)), tt), tt))
-  event_fits (CutAt k v u) f b = ((tt, (f.0, (tt, (f.1, (f.2, tt)))), tt), tt)
-  event_fits (NoticedAt k v u) f b = ((tt, (f.0, (tt, (f.1, (f.2, tt)))), tt), tt)
-  event_fits (Here v e) f b = happened_fits v e f.0 f.1
-  event_fits (LostCut m) f b = ((tt, (tt, (msg_fits m f, (tt, tt))), tt), tt)
-  event_fits (LeftQueue v m) f b = ((tt, (tt, (tt, (f.0, (msg_fits m f.1, tt)))), tt), tt)
-  event_fits (LeftHeld v n m) f b = ((tt, (tt, (tt, (f.0, (name_fits n f.1, (msg_fits m f.2, tt))))), tt), tt)
-  event_fits (LeftWait v n m) f b = ((tt, (tt, (tt, (f.0, (name_fits n f.1, (msg_fits m f.2, tt))))), tt), tt)
-  event_fits (LeftLink v u n) f b = let note = note_fits (Word (codes "left") ∷ Word (codes "link") ∷ Vat v ∷ Vat u ∷ []) u n (tt, (tt, (f.0, (f.1, tt)))) f.1 f.2 in ((note.0, note.1, note.2), tt)
-  event_fits Ends f b = ((tt, (tt, tt), tt), tt)
+      ((note.0, note.1, note.2), ((tt, (tt, (tt, tt)), tt), tt))
+  event_fits (CutAt k v u) f = ((tt, (f.0, (tt, (f.1, (f.2, tt)))), tt), tt)
+  event_fits (NoticedAt k v u) f = ((tt, (f.0, (tt, (f.1, (f.2, tt)))), tt), tt)
+  event_fits (Here v e) f = happened_fits v e f.0 f.1
+  event_fits (LostCut m) f = ((tt, (tt, (msg_fits m f, (tt, tt))), tt), tt)
+  event_fits (LeftQueue v m) f = ((tt, (tt, (tt, (f.0, (msg_fits m f.1, tt)))), tt), tt)
+  event_fits (LeftHeld v n m) f = ((tt, (tt, (tt, (f.0, (name_fits n f.1, (msg_fits m f.2, tt))))), tt), tt)
+  event_fits (LeftWait v n m) f = ((tt, (tt, (tt, (f.0, (name_fits n f.1, (msg_fits m f.2, tt))))), tt), tt)
+  event_fits (LeftLink v u n) f = let note = note_fits (Word (codes "left") ∷ Word (codes "link") ∷ Vat v ∷ Vat u ∷ []) u n (tt, (tt, (f.0, (f.1, tt)))) f.1 f.2 in ((note.0, note.1, note.2), tt)
+  event_fits Ends f = ((tt, (tt, tt), tt), tt)
 
-  pub events_fit : (es : List Event) → AllOf (EventFits L) es → AllOf IsOfBytes es → AllOf (IsEventOf vats) (shown_events d es)
+  pub events_fit : (es : List Event) → AllOf (EventFits L) es → AllOf (IsEventOf vats) (shown_events d es)
   unfolding shown_events
-  events_fit [] f b = tt
-  events_fit (e ∷ es) f b = all_append (IsEventOf vats) (shown_event d e) (shown_events d es) (event_fits e f.0 b.0) (events_fit es f.1 b.1)
+  events_fit [] f = tt
+  events_fit (e ∷ es) f = all_append (IsEventOf vats) (shown_event d e) (shown_events d es) (event_fits e f.0) (events_fit es f.1)

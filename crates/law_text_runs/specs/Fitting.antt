@@ -1,6 +1,8 @@
 -- What a vat has in whose lines nothing is out of bounds: vats are among so many, numbers below a limit, texts in UTF-8, integers of 128 bits, and the names of objects are words.
 use Rattle.law_kernel_form.specs.Trees.{IsInt}
-use Rattle.std.specs.Prelude.{ℕ, ◌+◌, ◌<◌, List, Option, Some, None, length, zero, suc, ◌^◌, ◌≤◌, [], ◌∷◌}
+pub use Rattle.law_costs.specs.Sizes.{spread}
+unfoldable pub use Rattle.law_costs.specs.Sizes.{made as size}
+use Rattle.std.specs.Prelude.{ℕ, ◌<◌, List, Option, Some, None, length, ◌^◌, ◌≤◌}
 use Rattle.std.specs.Char.{IsScalar}
 use Rattle.std.specs.Str.{IsUtf8}
 use Rattle.def_machine.specs.Values.{Words, Value, Null, Flag, Number, Letter, Text, Prim, Broken, Items, Ref, Msg, Name, Root, Object, Promise, Answer, Gift, Sent}
@@ -13,15 +15,6 @@ pub record Limits : Type 0 where
   pub many : ℕ
   pub limit : ℕ
   pub most : limit ≤ 2 ^ 64
-
--- so many lists, and their members
-abbrev pub spread : {A : Type 0} → List (List A) → ℕ
-spread [] = zero
-spread (x ∷ xs) = suc (length x + spread xs)
-
--- how much a vat has made: things, var slots, lists and their members, activations, messages and promises
-unfoldable pub size : {N : Type 0} → Vat N → ℕ
-size s = length s.things + (length s.slots + (spread s.lists + (s.activations + (s.messages + s.promises))))
 
 -- a text of which lines and verbs are made
 abbrev pub TextFits : Words → Type 0

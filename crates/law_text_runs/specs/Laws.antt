@@ -7,9 +7,10 @@ use Rattle.std.specs.Prelude.{◌≡◌, ℕ, ◌+◌, ◌<◌, ◌^◌, Some, f
 use Rattle.def_machine.specs.Values.{Name}
 use Rattle.def_machine.specs.State.{Vat}
 use Rattle.def_event.specs.Lines.{is_no_frame}
-use Rattle.def_run.specs.World.{Script, Program, Entry, Turn, Carry, CutLink, NoticeLink, Event, Carried, World, Run, Goes, Stopped, run}
-use Rattle.def_run.specs.Text.{vat_names, history_of, stop_text, text, wire_text}
+use Rattle.def_run.specs.World.{Script, Program, Entry, Turn, Carry, CutLink, NoticeLink, Run, run}
+use Rattle.def_run.specs.Text.{vat_names, stop_text, text, wire_text}
 use Rattle.law_kernel_form.specs.Trees.{IsTree}
+pub use Rattle.law_costs.specs.Laws.{comes_to as world_of}
 use Rattle.law_text.specs.Feeds.{AllOf}
 use Rattle.law_text.specs.Values.{AreVats}
 use Rattle.law_text.specs.Parts.{OneForOne, EventsAlike}
@@ -50,29 +51,16 @@ pub record IsOfVats (script : Script) : Type 0 where
 
 -- ---- what is asked of its run
 
-abbrev pub world_of : Run → World
-world_of (Goes w) = w
-world_of (Stopped c k w) = w
-
 -- No vat made 2 ^ 64 things, var slots, lists with their members, activations, messages and promises together, and fewer words were drawn.
 pub record IsBounded (r : Run) : Type 0 where
   pub made : (v : ℕ) (s : Vat Name) → slice_get (world_of r).vats v ≡ Some s → size s < 2 ^ 64
   pub drawn : length (world_of r).drawn < 2 ^ 64
 
--- its frames are of bytes
-abbrev pub IsOfBytes : Event → Type 0
-IsOfBytes (Carried k v w n bytes) = AllOf (λ (b : ℕ). b < 256) bytes
-IsOfBytes _ = Unit {0}
-
-abbrev pub FramesAreBytes : Run → Type 0
-FramesAreBytes r = AllOf IsOfBytes (history_of r)
-
 -- ---- the law
 
--- If these runs have one text, their histories are alike, event by event, and both go to their ends or stop by one line; with frames too, where these are of bytes.
+-- If these runs have one text, their histories are alike, event by event, and both go to their ends or stop by one line; of texts without frames, all events but these.
 abbrev pub TextsTell : Script → Script → Type 0
-TextsTell script other = (FramesAreBytes (run script) → FramesAreBytes (run other) → wire_text script (run script) ≡ wire_text other (run other)
-    → OneForOne EventsAlike (events_of (run script)) (events_of (run other)) × (stop_text (run script) ≡ stop_text (run other)))
+TextsTell script other = (wire_text script (run script) ≡ wire_text other (run other) → OneForOne EventsAlike (events_of (run script)) (events_of (run other)) × (stop_text (run script) ≡ stop_text (run other)))
     × (text script (run script) ≡ text other (run other)
     → OneForOne EventsAlike (filter is_no_frame (events_of (run script))) (filter is_no_frame (events_of (run other))) × (stop_text (run script) ≡ stop_text (run other)))
 

@@ -4,8 +4,8 @@
 ghost use Rattle.law_text_runs.specs.Laws.{TextsTellRunsOfScripts};
 
 /// Two runs of scripts with the same vats that have one text have histories that are alike, event by
-/// event, and both go to their ends or stop by one line. Of texts with frames it is said where the
-/// frames are of bytes; of texts without, of all events but the frames.
+/// event, and both go to their ends or stop by one line. Of texts without frames it is said of all
+/// events but these.
 ///
 /// The names of the vats differ and are of letters, digits, `_` and what is not ASCII; each program is
 /// a kernel tree of texts shorter than 2^64, of a vat that knows vats of the script, and the entries

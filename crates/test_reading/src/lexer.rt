@@ -175,49 +175,22 @@ fn keeps_line_end(alloc: Global, word: &str) -> Option<bool> {
 
 #[test]
 fn keeps_line_ends(rt: HostRuntime) {
-    let joining = [
-        "||", "&&", "==", "!=", "=~", "&", "|", "^", "<", "<=", "<=>", ">=", ">", "..", "..!", "+",
-        "-", "*", "//", "%", "%%", "**", ",", ".", "->", "=>", "<-", ":=", "+=", "-=", "*=", "//=",
-        "%=", "%%=", "**=", "&=", "|=", "^=", "(", "[",
-    ];
-    for word in joining {
+    let joining =
+        "|| && == != =~ & | ^ < <= <=> >= > .. ..! + - * // % %% ** , . -> => <- := += -= *= //= %= %%= **= &= |= ^= ( [";
+    for word in joining.split(' ') {
         assert!(rt; keeps_line_end(rt.alloc(), word) == Some(false), "{word}");
     }
-    let ending = [
-        "!", ":", ";", "else", "in", "return", ")", "]", "}", "{", "x", "_", "1", "\"\"", "'a'",
-    ];
-    for word in ending {
+    let ending = "! : ; else in return ) ] } { x _ 1 \"\" 'a'";
+    for word in ending.split(' ') {
         assert!(rt; keeps_line_end(rt.alloc(), word) == Some(true), "{word}");
     }
 }
 
 #[test]
 fn tells_keywords(rt: HostRuntime) {
-    let keywords = [
-        "break",
-        "catch",
-        "continue",
-        "def",
-        "else",
-        "escape",
-        "exit",
-        "finally",
-        "fn",
-        "for",
-        "if",
-        "implements",
-        "in",
-        "match",
-        "method",
-        "return",
-        "to",
-        "try",
-        "var",
-        "via",
-        "when",
-        "while",
-    ];
-    for word in keywords {
+    let keywords =
+        "break catch continue def else escape exit finally fn for if implements in match method return to try var via when while";
+    for word in keywords.split(' ') {
         assert!(rt;
             has(rt.alloc(), word, TokenKind::Identifier) == Some(false),
             "{word}"

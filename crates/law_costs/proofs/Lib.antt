@@ -1,0 +1,11 @@
+pub mod Costs
+pub mod Passing
+pub mod Refs
+pub mod Arrive
+pub mod Natives
+pub mod Perform
+pub mod Calls
+pub mod Eval
+pub mod Trees
+pub mod Runs
+pub mod Whole

@@ -1,0 +1,5 @@
+use Rattle.law_costs.proofs.Whole.{pays}
+use Rattle.law_costs.proofs.fuel_pays.Goals as goal
+
+pub returns : goal.returns
+returns c = pays

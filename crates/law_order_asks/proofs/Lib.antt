@@ -1,0 +1,12 @@
+pub mod Gifts
+pub mod Asking
+pub mod Steps
+pub mod Asked
+pub mod AskRuns
+pub mod Turning
+pub mod Lost
+pub mod Leaving
+pub mod Shortens
+pub mod Wanting
+pub mod Wishes
+pub mod ShortenRuns

@@ -1,0 +1,205 @@
+-- What a vat knows is of vats of the script, and references lead over links that are there, so that a message is carried in order wherever it goes on.
+use Rattle.std.proofs.Common.{◌≡◌, ℕ, ◌<◌, Bool, true, false, [], Option, Some, None, length, refl, sym, ap, subst, ◌∙◌, ◌⊎◌, inl, inr, ◌==◌, append-nil}
+use Rattle.std.specs.Prelude.{slice_get}
+use Rattle.std.proofs.lemmas.Bool.{eq-eqb}
+use Rattle.def_machine.specs.Values.{Value, Null, Flag, Number, Letter, Text, Prim, Broken, Items, Ref, Words, Name, Root, Object, Promise, Answer, Gift, Sent, Own, Foreign, NoObject, naming, host_of, spot_of}
+use Rattle.def_machine.specs.State.{Passeds, Delivery, Deliver, Known, Vat, is_in}
+use Rattle.def_machine.specs.Refs as refs
+use Rattle.def_machine.specs.Refs.{Near, Mine, Away, Gone, entry_of, follow, place}
+use Rattle.def_run.specs.Draws.{draw_word}
+use Rattle.def_run.specs.World.{Script, Link, World, link_at, names}
+use Rattle.law_run.specs.Moves.{IsReached}
+use Rattle.law_run.proofs.Honest.{honest_reached}
+use Rattle.law_name.specs.Names.{Bit, Named, Mail, Drew, At, Off, Entered, Owns, Gave, bare, AllOf, IsAmong, KnownOk, NoteOk, ValueOk}
+use Rattle.law_name.proofs.Among.{all_among}
+use Rattle.law_name.proofs.Facts.{all_map, known_up}
+use Rattle.law_name.proofs.Looks.{follow_ok}
+use Rattle.law_name.proofs.Run.{IsInside, Had, Told, VatStands, Stands, opened_stands, steps_stand}
+use Rattle.law_fate.specs.WholeFateRuns.{KnowsVats}
+use Rattle.law_fate.proofs.Links.{AllLinked}
+use Rattle.law_reference.proofs.Told.{found_all}
+use Rattle.law_reference.proofs.VatStep.{link_all}
+use Rattle.law_order.specs.Ways.{Held, Way, Place, Nowhere, End}
+use Rattle.law_order.specs.Places.{aimed, by_host, by_follow, of_name, leads_in, leads_at, leads}
+use Rattle.law_order_runs.specs.Reaching.{InClosedRuns, IsOfVat, NamesAreOfVats, LinksAreThere, CarriesKeepInClosedRuns}
+use Rattle.law_order_runs.specs.Carrying.{BearsLive}
+use Rattle.law_order_runs.proofs.Beginnings.{entry_name, host_in_world}
+use Rattle.law_order_runs.proofs.LinkRuns.{reached_linked}
+use Rattle.law_order_runs.proofs.CarryRuns.{message_carries_keep_in_runs}
+
+-- ---- names
+
+inside_bare : (count : ℕ) (b : Bit Name) → IsInside count (bare b) → IsInside count b
+inside_bare count (Named n) h = h
+inside_bare count (Mail n) h = tt
+inside_bare count (Drew i) h = tt
+inside_bare count (At h) i = i
+inside_bare count (Off h) i = i
+inside_bare count (Entered n) h = h
+inside_bare count (Owns n i) h = h
+inside_bare count (Gave i) h = tt
+
+module _ (script : Script) (knows : KnowsVats script) (w : World) (stands : Stands script w) where
+  abbrev count : ℕ
+  count = length script.vats
+
+  known_inside : (v : ℕ) (s : Vat Name) → slice_get w.vats v ≡ Some s → AllOf (KnownOk (IsInside count)) s.known
+  known_inside v s there = all_map (known_up (Had script w v s) (IsInside count) (λ b h. inside_bare count b (h.3 knows))) s.known (stands.vats v s there).parts.known
+
+  names_of_vats : (v : ℕ) (s : Vat Name) (n : Name) (k : Known Name) → slice_get w.vats v ≡ Some s → entry_of (names script v) s.known n ≡ Some k → IsOfVat script n
+  unfolding names
+  names_of_vats v s n k there e = subst (λ m. host_of m < count) (entry_name script v s.known n k e) (found_all (draw_word script.key) v (KnownOk (IsInside count)) s.known n k (known_inside v s there) e).0
+
+  targets_of_vats : (a b : ℕ) (l : Link) (d : Delivery Name) (n : Name) (verb : Words) (ys : Passeds Name) → link_at a b w.links ≡ Some l → IsAmong (Deliver d n verb ys) l.notes → IsOfVat script n
+  targets_of_vats a b l d n verb ys at i =
+      let told : NoteOk (Told script w) (Deliver d n verb ys) = all_among (NoteOk (Told script w)) l.notes (Deliver d n verb ys) (link_all (λ (j : Link). AllOf (NoteOk (Told script w)) j.notes) a b w.links l stands.links at) i in told.1.1 knows
+
+-- ---- where references lead
+
+module _ (script : Script) (v : ℕ) (s : Vat Name) (own : s.number ≡ v) (hosts : (n : Name) (k : Known Name) → entry_of (names script v) s.known n ≡ Some k → k.host ≡ host_of n) (known : AllOf (KnownOk (IsInside (length script.vats))) s.known) where
+  -- another vat of the script
+  abbrev IsOther : ℕ → Type 0
+  IsOther h = (v ≡ h → ⊥) × h < length script.vats
+
+  abbrev PlaceIs : refs.Place Name → Type 0
+  PlaceIs Near = Unit {0}
+  PlaceIs (Mine n) = Unit {0}
+  PlaceIs (Away h n o) = IsOther h
+  PlaceIs (Gone p) = Unit {0}
+
+  false_true : false ≡ true → ⊥
+  false_true e = cc
+
+  foreign_other : (u i : ℕ) (b : Bool) → (v == u) ≡ b → u < length script.vats → PlaceIs (refs.spotted (names script v) s (Object u i) (elim b [ true ↦ Own i | false ↦ Foreign u ]))
+  unfolding refs.spotted
+  foreign_other u i true e l = tt
+  foreign_other u i false e l = ((λ f. false_true (sym e ∙ eq-eqb v u f)), l)
+
+  hosted_other : (n : Name) (h : ℕ) (b : Bool) → (s.number == h) ≡ b → IsOfVat script n → (h ≡ host_of n) ⊎ (h ≡ s.number) → PlaceIs (elim b [ true ↦ Mine n | false ↦ Away h n false ])
+  hosted_other n h true e l i = tt
+  hosted_other n h false e l (inl i) = ((λ f. false_true (sym e ∙ eq-eqb s.number h (own ∙ f))), subst (λ u. u < length script.vats) (sym i) l)
+  hosted_other n h false e l (inr i) = absurd (false_true (sym e ∙ eq-eqb s.number h (sym i)))
+
+  host_is : (n : Name) (o : Option (Known Name)) → entry_of (names script v) s.known n ≡ o → (refs.host_in s.number o ≡ host_of n) ⊎ (refs.host_in s.number o ≡ s.number)
+  unfolding refs.host_in
+  host_is n (Some k) e = inl (hosts n k e)
+  host_is n None e = inr refl
+
+  eventual_other : (n : Name) → IsOfVat script n → PlaceIs (refs.spotted (names script v) s n NoObject)
+  unfolding refs.spotted refs.hosted refs.host_at
+  eventual_other n l = hosted_other n (refs.host_in s.number (entry_of (names script v) s.known n)) (s.number == refs.host_in s.number (entry_of (names script v) s.known n)) refl l (host_is n (entry_of (names script v) s.known n) refl)
+
+  spot_other : (n : Name) → IsOfVat script n → PlaceIs (refs.spotted (names script v) s n (spot_of v n))
+  unfolding spot_of host_of
+  spot_other (Object u i) l = foreign_other u i (v == u) refl l
+  spot_other (Root u) l = eventual_other (Root u) l
+  spot_other (Promise u i) l = eventual_other (Promise u i) l
+  spot_other (Answer h m) l = eventual_other (Answer h m) l
+  spot_other (Gift h i) l = eventual_other (Gift h i) l
+  spot_other (Sent m) l = eventual_other (Sent m) l
+
+  value_other : (y : Value Name) → ValueOk (IsInside (length script.vats)) y → PlaceIs (place (names script v) s y)
+  unfolding place names naming
+  value_other (Ref n) h = spot_other n h
+  value_other Null h = tt
+  value_other (Flag b) h = tt
+  value_other (Number z) h = tt
+  value_other (Letter c) h = tt
+  value_other (Text t) h = tt
+  value_other (Prim i) h = tt
+  value_other (Broken p) h = tt
+  value_other (Items k) h = tt
+
+  -- the place of what is aimed at, over a link
+  abbrev LeadsTo : Place → ℕ → Name → Type 0
+  LeadsTo c h q = c ≡ End (Way v h) q
+
+  aimed_other : (y : Value Name) (p : refs.Place Name) → PlaceIs p → (h : ℕ) (q : Name) → LeadsTo (aimed v y p) h q → IsOther h
+  unfolding aimed
+  aimed_other (Ref n) Near i h q e = cc
+  aimed_other Null Near i h q e = cc
+  aimed_other (Flag b) Near i h q e = cc
+  aimed_other (Number z) Near i h q e = cc
+  aimed_other (Letter c) Near i h q e = cc
+  aimed_other (Text t) Near i h q e = cc
+  aimed_other (Prim k) Near i h q e = cc
+  aimed_other (Broken p) Near i h q e = cc
+  aimed_other (Items k) Near i h q e = cc
+  aimed_other y (Mine n) i h q e = cc
+  aimed_other y (Away g n o) i h q e = let same : g ≡ h = cc in subst IsOther same i
+  aimed_other y (Gone p) i h q e = cc
+
+  module _ (honest : ℕ → Bool) where
+    followed_other : (n : Name) → IsOfVat script n → (h : ℕ) (q : Name) → LeadsTo (by_follow script honest v s (Ref n)) h q → IsOther h
+    unfolding by_follow
+    followed_other n l h q e = let y : Value Name = follow (names script v) s (Ref n) in
+        aimed_other y (place (names script v) s y) (value_other y (follow_ok (names script v) (IsInside (length script.vats)) s known (Ref n) l)) h q e
+
+    host_other : (n : Name) (g : ℕ) (b c : Bool) → (v == g) ≡ c → g < length script.vats → (h : ℕ) (q : Name) → LeadsTo (elim b [ true ↦ Nowhere | false ↦ elim c [ true ↦ End (Held v n) n | false ↦ End (Way v g) n ] ]) h q → IsOther h
+    host_other n g true c f l h q e = cc
+    host_other n g false true f l h q e = cc
+    host_other n g false false f l h q e = let same : g ≡ h = cc in subst IsOther same ((λ i. false_true (sym f ∙ eq-eqb v g i)), l)
+
+    name_other : (n : Name) (o : Option (Known Name)) → IsOfVat script n → (h : ℕ) (q : Name) → LeadsTo (of_name script honest v s n o) h q → IsOther h
+    unfolding of_name by_host
+    name_other (Object u i) o l h q e = followed_other (Object u i) l h q e
+    name_other (Root u) (Some k) l h q e = followed_other (Root u) l h q e
+    name_other (Promise u i) (Some k) l h q e = followed_other (Promise u i) l h q e
+    name_other (Answer u m) (Some k) l h q e = followed_other (Answer u m) l h q e
+    name_other (Gift u i) (Some k) l h q e = followed_other (Gift u i) l h q e
+    name_other (Sent m) (Some k) l h q e = followed_other (Sent m) l h q e
+    name_other (Root u) None l h q e = host_other (Root u) (host_of (Root u)) (is_in (host_of (Root u)) s.noticed) (v == host_of (Root u)) refl l h q e
+    name_other (Promise u i) None l h q e = host_other (Promise u i) (host_of (Promise u i)) (is_in (host_of (Promise u i)) s.noticed) (v == host_of (Promise u i)) refl l h q e
+    name_other (Answer u m) None l h q e = host_other (Answer u m) (host_of (Answer u m)) (is_in (host_of (Answer u m)) s.noticed) (v == host_of (Answer u m)) refl l h q e
+    name_other (Gift u i) None l h q e = host_other (Gift u i) (host_of (Gift u i)) (is_in (host_of (Gift u i)) s.noticed) (v == host_of (Gift u i)) refl l h q e
+    name_other (Sent m) None l h q e = host_other (Sent m) (host_of (Sent m)) (is_in (host_of (Sent m)) s.noticed) (v == host_of (Sent m)) refl l h q e
+
+-- ---- in a world
+
+module _ (script : Script) (knows : KnowsVats script) (w : World) (stands : Stands script w) (linked : AllLinked (length script.vats) w.links) where
+  links_there : (honest : ℕ → Bool) (v h : ℕ) (s : Vat Name) (n q : Name) → slice_get w.vats v ≡ Some s → IsOfVat script n → leads script honest w.vats w.links v (Ref n) ≡ End (Way v h) q → (l : Link) × (link_at v h w.links ≡ Some l)
+  unfolding leads leads_at leads_in
+  links_there honest v h s n q there l e =
+      let stand : VatStands script w v s = stands.vats v s there in
+      let here : leads_in script honest v s (Ref n) ≡ End (Way v h) q = ap (λ o. leads_at script honest v o (Ref n)) (sym there) ∙ e in
+      let other = name_other script v s stand.kept.number (λ m k f. host_in_world script v s m k stand.kept.hosts f) (known_inside script knows w stands v s there) honest n (entry_of (names script v) s.known n) l h q here in
+      linked v h stand.low other.1 other.0
+
+module _ (P : Script → World → Type 0) (holds : (script : Script) → KnowsVats script → (w : World) → Stands script w → IsReached script w → P script w) where
+  in_closed_runs : InClosedRuns P
+  in_closed_runs script once knows = (
+    λ ps rest w i e. holds script knows w (opened_stands script once ps rest w i e) ((honest_reached script).0 ps rest w i e),
+    λ w x es k o e. holds script knows x (steps_stand script es k w x (opened_stands script once script.vats [] w (sym (append-nil script.vats)) o) e) ((honest_reached script).1 w x es k o e),
+  )
+
+pub names_are_of_vats : NamesAreOfVats
+names_are_of_vats = in_closed_runs _ (λ script knows w stands r. (names_of_vats script knows w stands, targets_of_vats script knows w stands))
+
+pub links_are_there : LinksAreThere
+links_are_there = in_closed_runs _ (λ script knows w stands r. links_there script knows w stands (reached_linked script w r))
+
+-- ---- carries
+
+pub carries_keep_in_closed_runs : CarriesKeepInClosedRuns
+carries_keep_in_closed_runs script once knows w x y es k a b o e f honest d n verb ys c = message_carries_keep_in_runs script once w x y es k a b o e f honest d n verb ys live
+  where
+    target : IsOfVat script n
+    target = ((names_are_of_vats script once knows).1 w x es k o e).1 a b c.link d n verb ys c.found (subst (λ ns. IsAmong (Deliver d n verb ys) ns) (sym c.first) (inl refl))
+
+    live : BearsLive script honest x a b d n verb ys
+    live = record {
+      borne = record {
+        vat = c.vat;
+        there = c.there;
+        link = c.link;
+        found = c.found;
+        uncut = c.uncut;
+        rest = c.rest;
+        first = c.first;
+        sender = c.sender;
+        receiver = c.receiver;
+        onward = λ h q i. let way = (links_are_there script once knows).1 w x es k o e honest b h c.vat n q c.there target i in record { link = way.0; found = way.1; sender = c.receiver; receiver = c.onward h q i };
+        silent = c.silent;
+      };
+      gifts = c.gifts;
+    }

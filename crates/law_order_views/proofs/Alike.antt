@@ -1,0 +1,88 @@
+-- Where each reference of a vat leads where it led, and what its names hold goes on where it went, the ways lead where they led.
+use Rattle.std.proofs.Common.{◌≡◌, ℕ, Bool, true, false, List, [], ◌∷◌, ◌++◌, Option, Some, None, refl, sym, ap, subst, ◌∙◌, inl, inr}
+use Rattle.std.specs.Prelude.{slice_get}
+use Rattle.def_machine.specs.Values.{Value, Ref, Name, Root, Object, Promise, Answer, Gift, Sent}
+use Rattle.def_machine.specs.State.{Standing, Unsettled, WaitsOn, Viewed, Settled, GiftEntry, Vat}
+use Rattle.def_machine.specs.Refs.{standing_of}
+use Rattle.def_run.specs.World as world
+use Rattle.def_run.specs.World.{Script, Link, World, names}
+use Rattle.law_order.specs.Ways.{Lane, Queue, Held, Way, Item, Place, Nowhere, Free, IsIn}
+use Rattle.law_order.specs.Messages.{More}
+use Rattle.law_order.specs.Places.{is_honest, leads_in, leads_at, leads, unsettled, released, released_at, over, onward_at, ways, amid}
+use Rattle.law_order.specs.Steps.{Grown}
+use Rattle.law_order.proofs.Amid.{Put, put_either}
+
+module _ (script : Script) (honest : ℕ → Bool) (v : ℕ) (s t : Vat Name) (leads_on : (x : Value Name) → leads_in script honest v t x ≡ leads_in script honest v s x) where
+  module _ (vs : List (Vat Name)) (ls : List Link) (mine : slice_get (world.put_at v s vs) v ≡ Some s → (q : Name) → released_at script honest (world.put_at v s vs) ls v q (Some t) ≡ released_at script honest (world.put_at v s vs) ls v q (Some s)) where
+    abbrev Before : List (Vat Name)
+    Before = world.put_at v s vs
+
+    abbrev After : List (Vat Name)
+    After = world.put_at v t vs
+
+    leads_by : (u : ℕ) (x : Value Name) → Put v s t vs u → leads_at script honest u (slice_get After u) x ≡ leads_at script honest u (slice_get Before u) x
+    unfolding leads_at
+    leads_by u x (inl h) = ap (λ o. leads_at script honest u o x) h.2 ∙ subst (λ z. leads_in script honest z t x ≡ leads_in script honest z s x) (sym h.0) (leads_on x) ∙ ap (λ o. leads_at script honest u o x) (sym h.1)
+    leads_by u x (inr h) = ap (λ o. leads_at script honest u o x) h
+
+    pub leads_same : (u : ℕ) (x : Value Name) → leads script honest After ls u x ≡ leads script honest Before ls u x
+    unfolding leads
+    leads_same u x = leads_by u x (put_either v s t vs u)
+
+    unsettled_same : (u : ℕ) (q : Name) (gs : List (GiftEntry Name)) → unsettled script honest After ls u q gs ≡ unsettled script honest Before ls u q gs
+    unfolding unsettled
+    unsettled_same u (Gift h i) gs = refl
+    unsettled_same u (Root h) gs = refl
+    unsettled_same u (Object h i) gs = refl
+    unsettled_same u (Promise h i) gs = refl
+    unsettled_same u (Answer h m) gs = refl
+    unsettled_same u (Sent m) gs = refl
+
+    released_same : (u : ℕ) (q : Name) (gs : List (GiftEntry Name)) (z : Standing Name) → released script honest After ls u q gs z ≡ released script honest Before ls u q gs z
+    unfolding released
+    released_same u q gs Unsettled = unsettled_same u q gs
+    released_same u q gs (WaitsOn z) = leads_same u (Ref z)
+    released_same u q gs (Viewed z) = leads_same u (Ref z)
+    released_same u q gs (Settled z) = leads_same u z
+
+    released_vat : (u : ℕ) (q : Name) (o : Option (Vat Name)) → released_at script honest After ls u q o ≡ released_at script honest Before ls u q o
+    unfolding released_at
+    released_vat u q (Some r) = released_same u q r.gifts (standing_of (names script u) r.known q)
+    released_vat u q None = refl
+
+    released_by : (u : ℕ) (q : Name) → Put v s t vs u → released_at script honest After ls u q (slice_get After u) ≡ released_at script honest Before ls u q (slice_get Before u)
+    released_by u q (inl h) =
+        released_vat u q (slice_get After u)
+        ∙ ap (λ o. released_at script honest Before ls u q o) h.2
+        ∙ subst (λ z. released_at script honest Before ls z q (Some t) ≡ released_at script honest Before ls z q (Some s)) (sym h.0) (mine (subst (λ z. slice_get Before z ≡ Some s) h.0 h.1) q)
+        ∙ ap (λ o. released_at script honest Before ls u q o) (sym h.1)
+    released_by u q (inr h) = released_vat u q (slice_get After u) ∙ ap (λ o. released_at script honest Before ls u q o) h
+
+    over_same : (b : ℕ) (n : Name) (l : Link) → over script honest After ls b n l ≡ over script honest Before ls b n l
+    unfolding over
+    over_same b n l = ap (λ c. elim (is_honest script honest l) [ true ↦ elim l.cut [ true ↦ Nowhere | false ↦ c ] | false ↦ Free ]) (leads_same b (Ref n))
+
+    link_same : (b : ℕ) (n : Name) (o : Option Link) → ◌≡◌ {A = Place} (elim o [ Some l ↦ over script honest After ls b n l | None ↦ Nowhere ]) (elim o [ Some l ↦ over script honest Before ls b n l | None ↦ Nowhere ])
+    link_same b n (Some l) = over_same b n l
+    link_same b n None = refl
+
+    pub onward_same : (l : Lane) (n : Name) → onward_at script honest After ls l n ≡ onward_at script honest Before ls l n
+    unfolding onward_at
+    onward_same (Queue u) n = refl
+    onward_same (Held u q) n = released_by u q (put_either v s t vs u)
+    onward_same (Way a b) n = link_same b n (world.link_at a b ls)
+
+in_more : (i : Item) (is js : List Item) → IsIn i is → IsIn i (is ++ js)
+in_more i [] js h = absurd h
+in_more i (k ∷ is) js (inl e) = inl e
+in_more i (k ∷ is) js (inr h) = inr (in_more i is js h)
+
+-- where lanes lead where they led, messages came to their ends alone, and references lead where they led
+pub grown_by : (script : Script) (honest : ℕ → Bool) (w : World) (v : ℕ) (s t : Vat Name) → ((l : Lane) → More (ways script honest (amid v s w)) (ways script honest (amid v t w)) l)
+    → ((u : ℕ) (x : Value Name) → leads script honest (amid v t w).vats (amid v t w).links u x ≡ leads script honest (amid v s w).vats (amid v s w).links u x)
+    → ((l : Lane) (n : Name) → (ways script honest (amid v t w)).onward l n ≡ (ways script honest (amid v s w)).onward l n) → Grown script honest w v s t
+grown_by script honest w v s t more leading onward = record {
+  grows = record { stands = λ l i h. let m = more l in subst (IsIn i) (sym m.1) (in_more i ((ways script honest (amid v s w)).stands l) m.0 h); onward = λ l n. inl (onward l n) };
+  more = more;
+  leading = leading;
+}

@@ -1,0 +1,4 @@
+pub mod Alike
+pub mod Led
+pub mod Settling
+pub mod Wholes

@@ -1,0 +1,12 @@
+pub mod Pieces
+pub mod Rows
+pub mod Counts
+pub mod Tidiness
+pub mod Sums
+pub mod Words
+pub mod Tokens
+pub mod Costs
+pub mod Forms
+pub mod Placing
+pub mod Arena
+pub mod Small

@@ -1,0 +1,4 @@
+pub mod Contents
+pub mod Tokens
+pub mod Values
+pub mod Sources
