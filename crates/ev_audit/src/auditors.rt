@@ -27,7 +27,8 @@ impl NativeAuditor {
     pub fn new(rule: Rule, test: fn(&AuditView) -> bool) -> NativeAuditor
         requires callable { Test.IsAlwaysCallable test }
         requires exact { (view : _) (answer : _) → Test.post test view answer → answer ≡ scopes.meets (rule_in rule) (view_of view.now).free }
-        ensures { result.rule ≡ rule }
+        ensures rule { result.rule ≡ rule }
+        ensures test { result.test ≡ test }
     {
         NativeAuditor { rule, test }
     }
@@ -76,6 +77,9 @@ impl AuditorSet {
         requires deep { deep.rule ≡ rule.DeepFrozen }
         requires selfless { selfless.rule ≡ rule.Selfless }
         requires functional { functional.rule ≡ rule.Functional }
+        ensures deep { result.deep ≡ deep }
+        ensures selfless { result.selfless ≡ selfless }
+        ensures functional { result.functional ≡ functional }
     {
         AuditorSet {
             deep,

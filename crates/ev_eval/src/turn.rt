@@ -13,13 +13,13 @@ ghost use Rattle.ev_eval.specs.Problems.{eventual_problems, guard_problems, nati
 ghost use Rattle.ev_eval.specs.Turn as machine;
 ghost use Rattle.ev_eval.specs.Turn.{Ends, EndsAs, EndsBy, GivesThere, LeftBy, bonds_from, turn_of};
 
-use def_kernel::Kernel;
 use ev_base::{ActId, Memory, NodeId, PromId, Seq, TextId, Value, VatId};
 use ev_heap::Heap;
 use ev_intro::Words;
 use ev_nodes::{evaluate, take_message};
 use ev_pass::{Interior, Post};
 use ev_refs::Refs;
+use ev_room::Program;
 use ev_room::bindings::Nouns;
 use ev_room::exit::Exit;
 use ev_room::scope::{Binding, Bound, NO_GUARD, Scope};
@@ -227,7 +227,7 @@ fn bonds(alloc: Global, nouns: &[Word]) -> Result<Seq<Binding>, Memory>
 /// Evaluates a program in an activation, where these nouns are bound.
 #[tactic(auto, using(ev_room::proofs::Exits::ends), unfolding(ev_steps::specs::Steps::opened_steps))]
 fn evaluated(
-    program: &Kernel,
+    program: &Program,
     act: ActId,
     nouns: Seq<Binding>,
     depth: u32,
@@ -251,7 +251,7 @@ fn evaluated(
 /// so many levels. After a stop and after want of memory, the inside holds what was done up to there. Texts stand for those of a heap
 /// that goes on growing, so that a value stands for one thing over all turns.
 pub fn run_program(
-    program: &Kernel,
+    program: &Program,
     act: ActId,
     nouns: &[Word],
     depth: u32,
@@ -273,7 +273,7 @@ pub fn run_program(
 /// Runs what a turn runs that takes a message, in an activation that has begun: the target is what the message's was followed to, and
 /// it and the arguments stand in the heap. The rest is as of `run_program`.
 pub fn run_message(
-    program: &Kernel,
+    program: &Program,
     act: ActId,
     target: Value,
     verb: &Word,

@@ -1,6 +1,7 @@
 //! What data answers.
 
 ghost use Rattle.std.specs.Prelude.{◌≡◌, IfOk, map};
+ghost use Rattle.ev_prims.specs.declared.reply.Reply.TheVariants.{Iterates};
 ghost use Rattle.ev_refs.specs.Follow.{followed};
 ghost use Rattle.ev_steps.specs.Steps.{again_by, answered, call_data, evaluator, replied};
 ghost use Rattle.ev_room.specs.Acts.{Gives, closed_by};
@@ -10,10 +11,10 @@ ghost use Rattle.ev_frames.specs.Rest.{Goes, Nested, Replies, Stays, rest, settl
 use crate::frames::{Frames, Guard};
 use crate::natives::members_from;
 use crate::now::{Now, guard};
-use def_kernel::Kernel;
 use ev_base::{ActId, Memory, Seq, Value};
 use ev_prims::{Reply, data_reply};
 use ev_refs::Refs;
+use ev_room::Program;
 use ev_room::call::closed;
 use ev_room::data::{call_there, make_list, problem_id, write_text};
 use ev_room::exit::{Came, Exit};
@@ -25,7 +26,7 @@ use std::alloc::Global;
 /// Does what data answers that does not call again.
 #[tactic(auto, unfolding(ev_steps::specs::Steps::replied, ev_room::specs::Acts::give, ev_room::specs::Acts::fails, ev_room::specs::Acts::fail))]
 fn made(
-    program: &Kernel,
+    program: &Program,
     depth: u32,
     levels: Option<u128>,
     act: ActId,
@@ -46,7 +47,7 @@ fn made(
 /// The same, and the call ends.
 #[tactic(auto, using(ev_room::proofs::Exits::closes))]
 fn made_closed(
-    program: &Kernel,
+    program: &Program,
     depth: u32,
     levels: Option<u128>,
     act: ActId,
@@ -62,7 +63,7 @@ fn made_closed(
 /// Does what data answers, or begins to.
 #[tactic(auto, using(crate::proofs::Calling::settled_gave, crate::proofs::Calling::settled_ended, crate::proofs::Rests::gone), unfolding(ev_steps::specs::Steps::replied, ev_room::specs::Acts::give, ev_room::specs::Acts::fails, ev_room::specs::Acts::fail, ev_room::specs::Acts::and_then))]
 pub(crate) fn replied(
-    program: &Kernel,
+    program: &Program,
     depth: u32,
     levels: Option<u128>,
     reply: Reply,
@@ -94,7 +95,7 @@ pub(crate) fn replied(
 /// Does what data answers to a call that does not call again, and the call ends.
 #[tactic(auto, using(crate::proofs::Calling::settled_gave, crate::proofs::Calling::settled_ended, crate::proofs::Rests::gone))]
 fn said(
-    program: &Kernel,
+    program: &Program,
     depth: u32,
     levels: Option<u128>,
     reply: Reply,
@@ -110,10 +111,31 @@ fn said(
     Ok(Now::Ended(Came::Gave(value)))
 }
 
-/// Does what data answers to a call, and the call ends, or begins to.
+/// A call on data begins to call again, with its members from the first.
 #[tactic(auto, using(crate::proofs::Native::iterates))]
+fn iterates_closed(
+    program: &Program,
+    depth: u32,
+    levels: Option<u128>,
+    object: Value,
+    members: Seq<Value>,
+    frames: &mut Frames,
+    here: &Scope,
+    room: &mut Room,
+) -> Result<Now, Exit>
+    requires nested { Nested frames.old here.now }
+    ensures rest { Goes program.now result frames.new here.now room.new (rest program.now frames.old here.now (settled here.now (closed_by here.now.act (replied (again_by program.now (evaluator program.now depth) levels) here.now.act (Iterates object members) room.old)))) }
+    ensures nested { Stays result frames.new here.now }
+{
+    guard(depth, Guard::Close, frames, here)?;
+    members_from(
+        program, depth, levels, object, members, 0, frames, here, room,
+    )
+}
+
+/// Does what data answers to a call, and the call ends, or begins to.
 fn replied_closed(
-    program: &Kernel,
+    program: &Program,
     depth: u32,
     levels: Option<u128>,
     reply: Reply,
@@ -126,48 +148,10 @@ fn replied_closed(
     ensures nested { Stays result frames.new here.now }
 {
     match reply {
-        Reply::Iterates(object, members) => {
-            guard(depth, Guard::Close, frames, here)?;
-            members_from(
-                program, depth, levels, object, members, 0, frames, here, room,
-            )
-        }
-        Reply::Says(value) => said(
-            program,
-            depth,
-            levels,
-            Reply::Says(value),
-            frames,
-            here,
-            room,
+        Reply::Iterates(object, members) => iterates_closed(
+            program, depth, levels, object, members, frames, here, room,
         ),
-        Reply::Writes(text) => said(
-            program,
-            depth,
-            levels,
-            Reply::Writes(text),
-            frames,
-            here,
-            room,
-        ),
-        Reply::Lists(members) => said(
-            program,
-            depth,
-            levels,
-            Reply::Lists(members),
-            frames,
-            here,
-            room,
-        ),
-        Reply::Fails(problem) => said(
-            program,
-            depth,
-            levels,
-            Reply::Fails(problem),
-            frames,
-            here,
-            room,
-        ),
+        other => said(program, depth, levels, other, frames, here, room),
     }
 }
 
@@ -211,7 +195,7 @@ fn reply_to(
 /// What data answers to a call that tells no line.
 #[tactic(auto, using(crate::proofs::Native::says, crate::proofs::Native::says_not, crate::proofs::Rests::gone))]
 pub(crate) fn answered(
-    program: &Kernel,
+    program: &Program,
     depth: u32,
     levels: Option<u128>,
     receiver: Value,
@@ -234,7 +218,7 @@ pub(crate) fn answered(
 /// What data answers to a call whose line is told.
 #[tactic(auto, using(crate::proofs::Native::closes, crate::proofs::Native::closes_not, crate::proofs::Rests::gone))]
 fn answered_closed(
-    program: &Kernel,
+    program: &Program,
     depth: u32,
     levels: Option<u128>,
     receiver: Value,
@@ -257,7 +241,7 @@ fn answered_closed(
 /// A call on data, as it is held and as it is followed.
 #[tactic(auto, using(crate::proofs::Calling::data_told, crate::proofs::Calling::data_ends, crate::proofs::Rests::gone))]
 pub(crate) fn call_data(
-    program: &Kernel,
+    program: &Program,
     depth: u32,
     levels: Option<u128>,
     held: Value,

@@ -14,10 +14,10 @@ use crate::leaves::leaf_args;
 use crate::natives::member_at;
 use crate::now::{Now, again, enter, given, guard};
 use crate::patterns::copied;
-use def_kernel::Kernel;
 use ev_audit::{AuditView, AuditionAsk, audition_ask};
 use ev_base::{NodeId, ObjId, Seq, TextId, Value};
 use ev_prims::Problem;
+use ev_room::Program;
 use ev_room::audition::{
     DEAD_AUDITION, NOT_AN_AUDITOR, guard_asked, is_stamped, new_audition, prim_verdict, view_at,
 };
@@ -55,7 +55,7 @@ pub(crate) fn bears_stamp(auditor: Value, value: Value, room: &Room) -> Value
 /// An object is asked, with an audition of its own.
 #[tactic(auto, using(crate::proofs::Auditing::audit_begins, crate::proofs::Auditing::audit_ends, crate::proofs::Rests::gone))]
 fn audit(
-    program: &Kernel,
+    program: &Program,
     depth: u32,
     levels: Option<u128>,
     view: &AuditView,
@@ -77,7 +77,7 @@ fn audit(
 /// The verdict of an auditor, as it is held and as it is followed, or it begins.
 #[tactic(auto, using(crate::proofs::Auditing::prim_goes, crate::proofs::Calling::given_stays, crate::proofs::Rests::gone), unfolding(ev_steps::specs::Steps::verdict, ev_room::specs::Acts::and_then, ev_room::specs::Acts::fail))]
 fn verdict(
-    program: &Kernel,
+    program: &Program,
     depth: u32,
     levels: Option<u128>,
     view: &AuditView,
@@ -101,7 +101,7 @@ fn verdict(
 /// The call of an auditor has come to an end. However it did, the audition is dead after it.
 #[tactic(auto, using(crate::proofs::Auditing::audit_gave, crate::proofs::Auditing::audit_threw, crate::proofs::Auditing::audit_left, crate::proofs::Rests::gone))]
 pub fn audit_ended(
-    program: &Kernel,
+    program: &Program,
     audition: ObjId,
     came: Came,
     frames: &Frames,
@@ -128,7 +128,7 @@ pub fn audit_ended(
 /// The object comes to be, with these stamps.
 #[tactic(auto, using(crate::proofs::Rests::given_behind, crate::proofs::Rests::ended_behind, crate::proofs::Rests::nested_behind, crate::proofs::Rests::gone))]
 fn made(
-    program: &Kernel,
+    program: &Program,
     id: NodeId,
     pattern: NodeId,
     stamps: &[Value],
@@ -147,7 +147,7 @@ fn made(
 /// The auditor at a place is asked.
 #[tactic(auto, using(crate::proofs::Auditing::asks_next, crate::proofs::Rests::gone))]
 fn asked(
-    program: &Kernel,
+    program: &Program,
     depth: u32,
     id: NodeId,
     pattern: NodeId,
@@ -183,7 +183,7 @@ fn asked(
 /// The auditors from a place on are asked, and then the object comes to be.
 #[tactic(auto, using(crate::proofs::Auditing::asked_all, crate::proofs::Rests::gone))]
 pub(crate) fn ask_from(
-    program: &Kernel,
+    program: &Program,
     depth: u32,
     id: NodeId,
     pattern: NodeId,
@@ -209,7 +209,7 @@ pub(crate) fn ask_from(
 /// An auditor has given its verdict.
 #[tactic(auto, using(crate::proofs::Auditing::stamps_more, crate::proofs::Auditing::stamps_same, crate::proofs::Rests::gone))]
 pub fn stamped(
-    program: &Kernel,
+    program: &Program,
     depth: u32,
     id: NodeId,
     pattern: NodeId,
@@ -243,7 +243,7 @@ pub fn stamped(
 /// The auditors of an object expression so far are known.
 #[tactic(auto, using(crate::proofs::Auditing::auditors_next, crate::proofs::Auditing::auditors_done, crate::proofs::Again::unmarked))]
 fn object_on(
-    program: &Kernel,
+    program: &Program,
     depth: u32,
     mark: usize,
     id: NodeId,
@@ -282,7 +282,7 @@ fn object_on(
 /// The auditors of an object expression so far are known, and the leaves behind them are evaluated at once.
 #[tactic(auto, using(crate::proofs::Auditing::auditors_pass, crate::proofs::Auditing::auditors_end, crate::proofs::Rests::gone, crate::proofs::Again::unmarked))]
 pub fn auditors_on(
-    program: &Kernel,
+    program: &Program,
     depth: u32,
     mark: usize,
     id: NodeId,
@@ -307,7 +307,7 @@ pub fn auditors_on(
 /// An object expression begins.
 #[tactic(auto, using(crate::proofs::Leafy::all_nested, crate::proofs::Auditing::auditors_first, crate::proofs::Rests::gone))]
 pub fn object_node(
-    program: &Kernel,
+    program: &Program,
     depth: u32,
     id: NodeId,
     pattern: NodeId,
@@ -344,7 +344,7 @@ fn dead_problem(ask: AuditionAsk) -> TextId
 /// What an audition answers that is alive.
 #[tactic(auto, using(crate::proofs::Calling::given_goes, crate::proofs::Calling::given_stays, crate::proofs::Auditing::guard_goes, crate::proofs::Auditing::verdict_goes, crate::proofs::Rests::gone), unfolding(ev_steps::specs::Steps::audition_live, ev_room::specs::Acts::and_then, ev_room::specs::Acts::fails, ev_room::specs::Acts::fail))]
 fn audition_live(
-    program: &Kernel,
+    program: &Program,
     depth: u32,
     levels: Option<u128>,
     view: &AuditView,
@@ -377,7 +377,7 @@ fn audition_live(
 /// What an audition answers, which is alive or dead.
 #[tactic(auto, using(crate::proofs::Auditing::live_answers, crate::proofs::Auditing::dead_answers, crate::proofs::Rests::gone))]
 pub(crate) fn audition_answer(
-    program: &Kernel,
+    program: &Program,
     depth: u32,
     levels: Option<u128>,
     alive: bool,
@@ -402,7 +402,7 @@ pub(crate) fn audition_answer(
 /// A call on an audition, as it is held.
 #[tactic(auto, using(crate::proofs::Auditing::audition_told, crate::proofs::Auditing::audition_ends, crate::proofs::Rests::gone))]
 pub(crate) fn call_audition(
-    program: &Kernel,
+    program: &Program,
     depth: u32,
     levels: Option<u128>,
     held: Value,

@@ -15,10 +15,11 @@ use crate::matchers::matchers_begin;
 use crate::now::{Now, given};
 use crate::patterns::method_on;
 use crate::performs::perform;
-use def_kernel::{Kernel, Node};
+use def_kernel::Node;
 use ev_base::{ActId, Memory, NodeId, ObjId, Value};
 use ev_eventual::call_resolver;
 use ev_eventual::sending::NOT_NEAR;
+use ev_room::Program;
 use ev_room::ejector::call_ejector;
 use ev_room::exit::Exit;
 use ev_room::object::{Code, Object, look_code};
@@ -45,7 +46,7 @@ fn enter_body(scope: Scope, frames: &mut Frames, here: &mut Scope) -> Result<(),
 /// A method begins: its patterns are bound to the arguments, and then its body begins.
 #[tactic(auto, using(crate::proofs::Patterning::method_goes, crate::proofs::Patterning::method_ends, crate::proofs::Rests::nested_behind, crate::proofs::Rests::gone))]
 fn method_begins(
-    program: &Kernel,
+    program: &Program,
     depth: u32,
     patterns: &[NodeId],
     body: NodeId,
@@ -67,7 +68,7 @@ fn method_begins(
 /// A method begins, if there is one.
 #[tactic(auto, unfolding(crate::specs::Rest::opened_method))]
 pub(crate) fn found_begins(
-    program: &Kernel,
+    program: &Program,
     depth: u32,
     members: &[NodeId],
     verb: &Word,
@@ -117,7 +118,7 @@ fn activated(
 /// A call on an object begins, in the scope of the object's captures.
 #[tactic(auto, using(crate::proofs::Calling::made_begins, crate::proofs::Calling::made_ends, crate::proofs::Rests::gone))]
 fn call_made(
-    program: &Kernel,
+    program: &Program,
     depth: u32,
     receiver: Value,
     object: ObjId,
@@ -148,7 +149,7 @@ fn call_made(
 /// A call on what bears a number, as it is held: an object, an ejector, a resolver or an audition.
 #[tactic(auto, using(crate::proofs::Calling::runs, crate::proofs::Calling::leaves, crate::proofs::Calling::resolves, crate::proofs::Calling::audits, crate::proofs::Calling::given_stays, crate::proofs::Calling::look_ends, crate::proofs::Rests::gone))]
 fn call_object(
-    program: &Kernel,
+    program: &Program,
     depth: u32,
     levels: Option<u128>,
     receiver: Value,
@@ -182,7 +183,7 @@ fn call_object(
 /// A call on a value, as it is held and as it is followed, in which data and primitives call again so.
 #[tactic(auto, using(crate::proofs::Rests::gone), unfolding(ev_steps::specs::Steps::call_value, ev_room::specs::Acts::fail, ev_room::specs::Acts::and_then))]
 fn call_value(
-    program: &Kernel,
+    program: &Program,
     depth: u32,
     levels: Option<u128>,
     held: Value,
@@ -224,7 +225,7 @@ fn call_value(
 /// A call at so many levels of calls again, less one.
 #[tactic(auto, using(crate::proofs::Native::call_deep, crate::proofs::Native::call_goes))]
 fn call_at(
-    program: &Kernel,
+    program: &Program,
     depth: u32,
     levels: u128,
     receiver: Value,
@@ -260,7 +261,7 @@ fn call_at(
 /// A call whose receiver and arguments are known.
 #[tactic(auto, using(crate::proofs::Calling::call_goes))]
 pub fn calling(
-    program: &Kernel,
+    program: &Program,
     depth: u32,
     receiver: Value,
     verb: &Word,
@@ -282,7 +283,7 @@ pub fn calling(
 /// A call again: within so many levels, or, where a turn calls, with its levels counted anew.
 #[tactic(auto, unfolding(ev_steps::specs::Steps::again_by))]
 pub fn call_again(
-    program: &Kernel,
+    program: &Program,
     depth: u32,
     levels: Option<u128>,
     receiver: Value,

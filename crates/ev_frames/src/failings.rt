@@ -9,9 +9,9 @@ ghost use Rattle.ev_frames.specs.Rest.{Goes, Nested, Stays, rest, settled};
 
 use crate::frames::{Frames, Part};
 use crate::now::{Now, enter};
-use def_kernel::Kernel;
 use ev_base::{TextId, Value};
 use ev_prims::Guard;
+use ev_room::Program;
 use ev_room::coercion::{Coerced, guard_coerced};
 use ev_room::exit::{Came, Exit};
 use ev_room::room::Room;
@@ -33,7 +33,7 @@ pub fn is_null(value: Value) -> bool
 /// A refusal calls the ejector where there is one, and throws where that comes back.
 #[tactic(auto, using(crate::proofs::Failing::refuses_at_once, crate::proofs::Failing::refuses_by))]
 fn refuses(
-    program: &Kernel,
+    program: &Program,
     depth: u32,
     levels: Option<u128>,
     ejector: Value,
@@ -57,7 +57,7 @@ fn refuses(
 /// A native guard is asked to coerce a specimen with an ejector.
 #[tactic(auto, using(crate::proofs::Calling::settled_gave, crate::proofs::Calling::settled_ended, crate::proofs::Rests::gone), unfolding(ev_steps::specs::Steps::coerced_as, ev_room::specs::Acts::and_then, ev_room::specs::Acts::give, ev_room::specs::Acts::fail))]
 pub(crate) fn coerces(
-    program: &Kernel,
+    program: &Program,
     depth: u32,
     levels: Option<u128>,
     guard: Guard,

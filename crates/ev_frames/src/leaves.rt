@@ -7,8 +7,9 @@ ghost use Rattle.ev_room.specs.Acts.{Gives, GivesIn};
 ghost use Rattle.ev_frames.specs.Leaves.{Gathers, GathersAll, LeafGives, LeavesNodes, Passes, PassesAll};
 ghost use Rattle.ev_room.specs.declared.scope.Scope.{Scope as Surroundings};
 
-use def_kernel::{Kernel, Literal, Node};
+use def_kernel::{Literal, Node};
 use ev_base::{NodeId, Seq, Value};
+use ev_room::Program;
 use ev_room::data::text_kept;
 use ev_room::exit::Exit;
 use ev_room::nouns::read_bound;
@@ -52,7 +53,7 @@ pub fn noun_node(noun: &Word, here: &Scope, room: &mut Room) -> Result<Value, Ex
 /// Evaluates a literal.
 #[tactic(auto, using(ev_steps::proofs::Depth::expression_deep, ev_steps::proofs::Depth::expression_goes, ev_room::proofs::Exits::ends), unfolding(ev_steps::specs::Steps::opened_steps))]
 fn literal_leaf(
-    program: &Kernel,
+    program: &Program,
     depth: u32,
     id: NodeId,
     literal: &Literal,
@@ -72,7 +73,7 @@ fn literal_leaf(
 /// Evaluates a noun.
 #[tactic(auto, using(ev_steps::proofs::Depth::expression_deep, ev_steps::proofs::Depth::expression_goes, ev_room::proofs::Exits::ends), unfolding(ev_steps::specs::Steps::opened_steps))]
 fn noun_leaf(
-    program: &Kernel,
+    program: &Program,
     depth: u32,
     id: NodeId,
     noun: &Word,
@@ -91,7 +92,7 @@ fn noun_leaf(
 
 /// Evaluates a node that is a literal or a noun, and does nothing at any other.
 fn leaf_in(
-    program: &Kernel,
+    program: &Program,
     depth: u32,
     id: NodeId,
     node: &Node,
@@ -117,7 +118,7 @@ fn leaf_in(
 
 /// The same of the node of a number.
 pub fn leaf(
-    program: &Kernel,
+    program: &Program,
     depth: u32,
     id: NodeId,
     here: &Scope,
@@ -136,7 +137,7 @@ pub fn leaf(
 /// the last of them, or the one before.
 #[tactic(auto, using(crate::proofs::Leafy::leaf_passes, crate::proofs::Leafy::leaf_ends, std::proofs::lemmas::Option::slice_get_within))]
 pub fn leaves(
-    program: &Kernel,
+    program: &Program,
     depth: u32,
     begun: usize,
     value: Value,
@@ -162,7 +163,7 @@ pub fn leaves(
 /// Evaluates the arguments of a call behind those so far, as far as they are literals and nouns.
 #[tactic(auto, using(crate::proofs::Leafy::leaf_gathers, crate::proofs::Leafy::leaf_gathers_not, std::proofs::lemmas::Option::slice_get_within))]
 pub fn leaf_args(
-    program: &Kernel,
+    program: &Program,
     depth: u32,
     so_far: Seq<Value>,
     args: &[NodeId],

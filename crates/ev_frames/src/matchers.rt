@@ -12,10 +12,10 @@ ghost use Rattle.ev_frames.specs.declared.frames.Frame.TheVariants.{Case as Case
 use crate::frames::{Frame, Frames};
 use crate::now::Now;
 use crate::patterns::binding;
-use def_kernel::Kernel;
 use ev_base::{Memory, NodeId, ObjId, Seq, Value};
 use ev_heap::Happened;
 use ev_prims::Problem;
+use ev_room::Program;
 use ev_room::data::problem_id;
 use ev_room::ejector::{is_same, kill, new_ejector};
 use ev_room::exit::{Came, Exit};
@@ -54,7 +54,7 @@ fn enter_case(
 /// A matcher begins.
 #[tactic(auto, using(crate::proofs::Matching::case_begins, crate::proofs::Matching::ejector_ends, crate::proofs::Rests::gone))]
 fn case_begins(
-    program: &Kernel,
+    program: &Program,
     depth: u32,
     matcher: Matcher,
     matchers: Seq<Matcher>,
@@ -95,7 +95,7 @@ fn case_begins(
 /// The matchers are tried from a place on.
 #[tactic(auto, using(crate::proofs::Matching::next_case, crate::proofs::Matching::no_case))]
 fn cases_from(
-    program: &Kernel,
+    program: &Program,
     depth: u32,
     matchers: Seq<Matcher>,
     place: usize,
@@ -127,7 +127,7 @@ fn cases_from(
 /// The matchers of an object that has no such method are tried on a message.
 #[tactic(auto, using(crate::proofs::Matching::tries, crate::proofs::Matching::tries_none, crate::proofs::Matching::pair_ends, crate::proofs::Rests::gone))]
 pub(crate) fn matchers_begin(
-    program: &Kernel,
+    program: &Program,
     depth: u32,
     members: &[NodeId],
     verb: &Word,
@@ -151,7 +151,7 @@ pub(crate) fn matchers_begin(
 /// A matcher left by its ejector: the next one is tried in the scope before it.
 #[tactic(auto, using(crate::proofs::Matching::hands_over, crate::proofs::Matching::hand_ends, crate::proofs::Matching::cut_below, crate::proofs::Rests::gone))]
 fn hand_over(
-    program: &Kernel,
+    program: &Program,
     depth: u32,
     mark: usize,
     matchers: Seq<Matcher>,
@@ -174,7 +174,7 @@ fn hand_over(
 /// The pattern of a matcher has come to an end. However it did, the ejector is dead after it.
 #[tactic(auto, using(crate::proofs::Matching::case_gave, crate::proofs::Matching::case_threw, crate::proofs::Matching::case_other, crate::proofs::Matching::case_own, crate::proofs::Matching::case_below, crate::proofs::Matching::case_above))]
 pub fn case_resumes(
-    program: &Kernel,
+    program: &Program,
     depth: u32,
     mark: usize,
     ejector: ObjId,

@@ -11,9 +11,9 @@ use crate::calls::found_begins;
 use crate::frames::{Frames, Guard};
 use crate::now::{Now, given, guard};
 use crate::performs::perform;
-use def_kernel::Kernel;
 use ev_base::{ObjId, Value};
 use ev_eventual::resolver_answer;
+use ev_room::Program;
 use ev_room::ejector::ejector_answer;
 use ev_room::exit::Exit;
 use ev_room::object::{Code, Object, look_code};
@@ -25,7 +25,7 @@ use ev_word::Word;
 /// The code of an object runs in the turn's own activation, in the scope of the object's captures.
 #[tactic(auto, using(crate::proofs::Calling::run_begins, crate::proofs::Calling::run_nested))]
 fn run_code(
-    program: &Kernel,
+    program: &Program,
     depth: u32,
     verb: &Word,
     args: &[Value],
@@ -55,7 +55,7 @@ fn run_code(
 /// A message on what bears a number: an object, an ejector, a resolver or an audition.
 #[tactic(auto, using(crate::proofs::Calling::turn_runs, crate::proofs::Calling::turn_leaves, crate::proofs::Calling::turn_resolves, crate::proofs::Calling::turn_audits, crate::proofs::Calling::given_stays, crate::proofs::Calling::turn_ends, crate::proofs::Rests::gone))]
 fn object_takes(
-    program: &Kernel,
+    program: &Program,
     depth: u32,
     object: ObjId,
     verb: &Word,
@@ -82,7 +82,7 @@ fn object_takes(
 /// A turn takes a message on a target, as that is followed. It tells no line of its own.
 #[tactic(auto, using(crate::proofs::Rests::gone), unfolding(ev_steps::specs::Steps::turn_value, ev_room::specs::Acts::fail, ev_room::specs::Acts::and_then))]
 pub fn takes(
-    program: &Kernel,
+    program: &Program,
     depth: u32,
     target: Value,
     verb: &Word,

@@ -6,8 +6,8 @@ ghost use Rattle.ev_frames.specs.Rest.{Goes, Nested, Stays, rest, settled};
 
 use crate::frames::{Frames, Guard};
 use crate::now::{Now, guard};
-use def_kernel::Kernel;
 use ev_base::{Seq, Value};
+use ev_room::Program;
 use ev_room::exit::{Came, Exit};
 use ev_room::room::Room;
 use ev_room::scope::Scope;
@@ -25,7 +25,7 @@ pub(crate) fn member_at(members: &[Value], place: usize) -> Option<Value>
 /// An iteration goes on from a place.
 #[tactic(auto, using(crate::proofs::Native::member_begins, crate::proofs::Native::members_done))]
 pub fn members_from(
-    program: &Kernel,
+    program: &Program,
     depth: u32,
     levels: Option<u128>,
     object: Value,
@@ -57,7 +57,7 @@ pub fn members_from(
 /// A loop goes on that may have so many turns.
 #[tactic(auto, using(crate::proofs::Native::turn_begins, crate::proofs::Native::turns_none))]
 pub fn turns_from(
-    program: &Kernel,
+    program: &Program,
     depth: u32,
     levels: Option<u128>,
     object: Value,

@@ -7,8 +7,8 @@ ghost use Rattle.ev_frames.specs.Rest.{Goes, Nested, Stays, bound_as, bound_then
 
 use crate::frames::{Frames, Part};
 use crate::now::{Now, enter};
-use def_kernel::Kernel;
 use ev_base::{Memory, NodeId, Seq, Value};
+use ev_room::Program;
 use ev_room::data::copied_values;
 use ev_room::exit::{Came, Exit};
 use ev_room::room::Room;
@@ -26,7 +26,7 @@ pub fn copied(alloc: Global, nodes: &[NodeId]) -> Result<Seq<NodeId>, Memory>
 /// A pattern is bound to a value: at once, or it begins.
 #[tactic(auto, using(crate::proofs::Patterning::binding_begins, crate::proofs::Patterning::binding_pushed, crate::proofs::Patterning::binding_ends, crate::proofs::Rests::nested_behind, crate::proofs::Rests::gone))]
 pub fn binding(
-    program: &Kernel,
+    program: &Program,
     depth: u32,
     pattern: NodeId,
     value: Value,
@@ -50,7 +50,7 @@ pub fn binding(
 /// Patterns and values from a place on, of which the first is not bound at once.
 #[tactic(auto, using(crate::proofs::Patterning::binds_next, crate::proofs::Patterning::binds_done, crate::proofs::Patterning::binds_short))]
 fn binds_on(
-    program: &Kernel,
+    program: &Program,
     depth: u32,
     patterns: Seq<NodeId>,
     values: Seq<Value>,
@@ -83,7 +83,7 @@ fn binds_on(
 /// Patterns are bound to values from a place on.
 #[tactic(auto, using(crate::proofs::Patterning::binds_goes, crate::proofs::Patterning::binds_ends, crate::proofs::Rests::nested_behind, crate::proofs::Rests::gone))]
 pub fn binds_from(
-    program: &Kernel,
+    program: &Program,
     depth: u32,
     patterns: Seq<NodeId>,
     values: Seq<Value>,
@@ -116,7 +116,7 @@ pub fn binds_from(
 /// The patterns of a method from a place on, and then its body.
 #[tactic(auto, using(crate::proofs::Patterning::body_behind))]
 fn body_behind(
-    program: &Kernel,
+    program: &Program,
     depth: u32,
     patterns: Seq<NodeId>,
     body: NodeId,
@@ -147,7 +147,7 @@ fn body_behind(
 /// The patterns of a method are bound up to a place.
 #[tactic(auto, using(crate::proofs::Patterning::body_done))]
 pub(crate) fn method_on(
-    program: &Kernel,
+    program: &Program,
     depth: u32,
     patterns: &[NodeId],
     body: NodeId,

@@ -17,11 +17,11 @@ use crate::failings::coerces;
 use crate::frames::Frames;
 use crate::natives::turns_from;
 use crate::now::{Now, given};
-use def_kernel::Kernel;
 use ev_base::{PrimId, Value};
 use ev_eventual::{broken, make_promise, send_with, test_value, when_by};
 use ev_heap::Heap;
 use ev_prims::{Asked, Problem, Test, ask, compare, range};
+use ev_room::Program;
 use ev_room::coercion::null_or;
 use ev_room::data::{is_there, make_list, problem_id, thrown_id};
 use ev_room::exit::{Came, Exit};
@@ -43,7 +43,7 @@ fn pair_there(heap: &Heap, first: Value, second: Value) -> bool
 /// Whether the order of two followed values passes a test.
 #[tactic(auto, using(crate::proofs::Native::compares, crate::proofs::Native::compares_not))]
 fn compared_at(
-    program: &Kernel,
+    program: &Program,
     depth: u32,
     levels: Option<u128>,
     test: Test,
@@ -67,7 +67,7 @@ fn compared_at(
 /// The same of two values as they are held.
 #[tactic(auto, using(crate::proofs::Native::compares_held))]
 fn compared(
-    program: &Kernel,
+    program: &Program,
     depth: u32,
     levels: Option<u128>,
     test: Test,
@@ -91,7 +91,7 @@ fn compared(
 /// The integers from one to another, as these are followed.
 #[tactic(auto, using(crate::proofs::Native::ranges, crate::proofs::Rests::gone))]
 fn ranged(
-    program: &Kernel,
+    program: &Program,
     depth: u32,
     levels: Option<u128>,
     last: bool,
@@ -114,7 +114,7 @@ fn ranged(
 /// A loop begins, which may have as many turns as there is fuel.
 #[tactic(auto, using(crate::proofs::Native::loops))]
 fn loops(
-    program: &Kernel,
+    program: &Program,
     depth: u32,
     levels: Option<u128>,
     object: Value,
@@ -133,7 +133,7 @@ fn loops(
 /// The guard that takes null as well as this one, as it is followed.
 #[tactic(auto, using(crate::proofs::Native::adds_null))]
 fn adds_null(
-    program: &Kernel,
+    program: &Program,
     depth: u32,
     levels: Option<u128>,
     guard: Value,
@@ -153,7 +153,7 @@ fn adds_null(
 /// Does what is asked of a primitive, which tells no line of its own call.
 #[tactic(auto, using(crate::proofs::Calling::given_goes, crate::proofs::Calling::given_stays, crate::proofs::Rests::gone), unfolding(ev_steps::specs::Steps::performed, ev_room::specs::Acts::and_then, ev_room::specs::Acts::give, ev_room::specs::Acts::fails, ev_room::specs::Acts::fail))]
 pub(crate) fn perform(
-    program: &Kernel,
+    program: &Program,
     depth: u32,
     levels: Option<u128>,
     number: PrimId,

@@ -20,12 +20,12 @@ ghost use Rattle.ev_write.specs.Putting.{all_written, put_all, table_for};
 
 use crate::sending::{Sending, send_all};
 use crate::starting::first_connections;
-use def_kernel::Kernel;
 use def_op::Desc;
 use ev_base::{Limits, Memory, Value, VatId};
 use ev_event::History;
 use ev_intro::Words;
 use ev_read::LearntTable;
+use ev_room::Program;
 use ev_step_lines::Table;
 use ev_tables::Connection;
 use ev_vat::{Vat, VatStop};
@@ -155,7 +155,7 @@ impl Member {
     /// No node begins below `limits.depth` levels.
     pub fn first_turn(
         &mut self,
-        program: &Kernel,
+        program: &Program,
         nouns: &[Word],
         limits: Limits,
     ) -> Result<Vec<Sending>, VatStop>
@@ -177,7 +177,7 @@ impl Member {
     /// No node begins below `limits.depth` levels.
     pub fn turn(
         &mut self,
-        program: &Kernel,
+        program: &Program,
         limits: Limits,
     ) -> Result<Option<Vec<Sending>>, VatStop>
         requires ready { IsReady self.old.vat }

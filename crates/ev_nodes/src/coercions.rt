@@ -8,13 +8,13 @@ ghost use Rattle.ev_room.specs.Acts.{Gives};
 ghost use Rattle.ev_room.specs.declared.scope.Scope.{Scope as Surroundings};
 ghost use Rattle.ev_frames.specs.Rest.{Goes, Nested, Stays, bound_as, rest, settled};
 
-use def_kernel::Kernel;
 use ev_base::{ActId, NodeId, ObjId, PrimId, SlotId, TextId, Value};
 use ev_frames::calls::calling;
 use ev_frames::failings::{NOT_A_GUARD, is_null};
 use ev_frames::frames::{Frames, Part};
 use ev_frames::now::{Now, enter};
 use ev_heap::GuardKind;
+use ev_room::Program;
 use ev_room::coercion::{Coerced, native_coerced};
 use ev_room::exit::{Came, Exit};
 use ev_room::room::Room;
@@ -28,7 +28,7 @@ use ev_word::Word;
 /// A failing calls the ejector where there is one, and throws where that comes back.
 #[tactic(auto, using(crate::proofs::Coercing::fails_at_once, crate::proofs::Coercing::fails_by))]
 pub(crate) fn failing(
-    program: &Kernel,
+    program: &Program,
     depth: u32,
     ejector: Value,
     problem: TextId,
@@ -61,7 +61,7 @@ pub(crate) fn failing(
 /// An object is asked to coerce a specimen with an ejector.
 #[tactic(auto, using(crate::proofs::Coercing::asked_as))]
 fn ask_object(
-    program: &Kernel,
+    program: &Program,
     depth: u32,
     object: ObjId,
     specimen: Value,
@@ -93,7 +93,7 @@ fn ask_object(
 /// What a guard has made of a specimen is bound.
 #[tactic(auto, using(ev_frames::proofs::Patterning::step_bound, ev_frames::proofs::Patterning::step_ends, ev_frames::proofs::Rests::nested_behind, ev_frames::proofs::Rests::gone))]
 pub(crate) fn coerced(
-    program: &Kernel,
+    program: &Program,
     target: &Target,
     guard: GuardKind,
     value: Value,
@@ -112,7 +112,7 @@ pub(crate) fn coerced(
 /// A pattern at a specimen under a native guard, or under a primitive that is none.
 #[tactic(auto, using(crate::proofs::Coercing::native_takes, crate::proofs::Coercing::native_refuses, crate::proofs::Coercing::native_none, crate::proofs::Coercing::native_astray, ev_frames::proofs::Rests::gone))]
 fn native(
-    program: &Kernel,
+    program: &Program,
     depth: u32,
     target: &Target,
     number: PrimId,
@@ -140,7 +140,7 @@ fn native(
 /// A pattern at a specimen under an object as its guard.
 #[tactic(auto, using(crate::proofs::Coercing::object_binds))]
 fn by_object(
-    program: &Kernel,
+    program: &Program,
     depth: u32,
     target: Target,
     object: ObjId,
@@ -168,7 +168,7 @@ fn by_object(
 /// A pattern at a specimen, under a value as its guard.
 #[tactic(auto, using(crate::proofs::Patterning::ends_so, ev_frames::proofs::Rests::gone), unfolding(ev_steps::specs::Steps::bind_under))]
 pub(crate) fn under(
-    program: &Kernel,
+    program: &Program,
     depth: u32,
     target: Target,
     specimen: Value,
@@ -204,7 +204,7 @@ pub(crate) fn under(
 /// A pattern of one name or none begins: its guard is evaluated first, where it has one.
 #[tactic(auto, using(crate::proofs::Coercing::guard_begins, crate::proofs::Coercing::guard_none))]
 pub(crate) fn guarded(
-    program: &Kernel,
+    program: &Program,
     depth: u32,
     target: Target,
     guard: Option<NodeId>,
@@ -237,7 +237,7 @@ pub(crate) fn guarded(
 /// Writes a slot with what its native guard makes of a value.
 #[tactic(auto, using(crate::proofs::Coercing::under_takes, crate::proofs::Coercing::under_refuses, crate::proofs::Coercing::under_none, crate::proofs::Coercing::under_astray))]
 fn native_written(
-    program: &Kernel,
+    program: &Program,
     depth: u32,
     act: ActId,
     slot: SlotId,
@@ -260,7 +260,7 @@ fn native_written(
 /// A slot whose guard is an object is written with what that makes of a value.
 #[tactic(auto, using(crate::proofs::Coercing::object_writes))]
 fn object_writes(
-    program: &Kernel,
+    program: &Program,
     depth: u32,
     slot: SlotId,
     object: ObjId,
@@ -289,7 +289,7 @@ fn object_writes(
 /// A slot of this guard is written with what that makes of a value.
 #[tactic(auto, using(ev_frames::proofs::Calling::settled_gave, ev_frames::proofs::Calling::settled_ended, ev_frames::proofs::Rests::gone))]
 fn written_under(
-    program: &Kernel,
+    program: &Program,
     depth: u32,
     slot: SlotId,
     guard: GuardKind,
@@ -316,7 +316,7 @@ fn written_under(
 /// A slot is written with what its guard makes of a value.
 #[tactic(auto, using(crate::proofs::Coercing::cell_none, crate::proofs::Coercing::cell_goes, ev_frames::proofs::Rests::gone))]
 fn slot_assigned(
-    program: &Kernel,
+    program: &Program,
     depth: u32,
     slot: SlotId,
     value: Value,
@@ -337,7 +337,7 @@ fn slot_assigned(
 /// What is bound is written, which is to be a var slot.
 #[tactic(auto, using(crate::proofs::Coercing::bound_goes, crate::proofs::Coercing::bound_fixed, ev_frames::proofs::Rests::gone))]
 fn bound_assigned(
-    program: &Kernel,
+    program: &Program,
     depth: u32,
     bound: Bound,
     value: Value,
@@ -358,7 +358,7 @@ fn bound_assigned(
 /// The value of an assignment is known.
 #[tactic(auto, using(crate::proofs::Coercing::bound_none, ev_frames::proofs::Rests::gone))]
 pub(crate) fn assigned(
-    program: &Kernel,
+    program: &Program,
     depth: u32,
     bound: Option<Bound>,
     value: Value,

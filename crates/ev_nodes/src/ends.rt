@@ -9,7 +9,6 @@ ghost use Rattle.ev_room.specs.declared.scope.Scope.{Scope as Surroundings};
 ghost use Rattle.ev_frames.specs.Rest.{Goes, Nested, Stays, came_back, guarding, rest, settled};
 
 use crate::guards::handle;
-use def_kernel::Kernel;
 use ev_base::{NodeId, ObjId, Seq, Value};
 use ev_frames::audits::audit_ended;
 use ev_frames::frames::{Frames, Guard};
@@ -17,6 +16,7 @@ use ev_frames::natives::{members_from, turns_from};
 use ev_frames::now::{Now, guard};
 use ev_heap::Happened;
 use ev_prims::Problem;
+use ev_room::Program;
 use ev_room::call::closed;
 use ev_room::data::problem_id;
 use ev_room::ejector::{is_same, kill};
@@ -39,7 +39,7 @@ pub(crate) fn back(came: Came) -> Result<Value, Exit>
 /// What becomes of a value that left by the own ejector of an escape.
 #[tactic(auto, using(crate::proofs::Guarding::got_ends, crate::proofs::Guarding::got_none, crate::proofs::Guarding::got_some))]
 fn caught(
-    program: &Kernel,
+    program: &Program,
     depth: u32,
     catch: Option<(NodeId, NodeId)>,
     value: Value,
@@ -65,7 +65,7 @@ fn caught(
 /// The body of an escape has come to an end. However it did, the ejector is dead after it.
 #[tactic(auto, using(crate::proofs::Guarding::escape_gave, crate::proofs::Guarding::escape_threw, crate::proofs::Guarding::escape_own, crate::proofs::Guarding::escape_other))]
 fn escape_ended(
-    program: &Kernel,
+    program: &Program,
     depth: u32,
     catch: Option<(NodeId, NodeId)>,
     ejector: ObjId,
@@ -96,7 +96,7 @@ fn escape_ended(
 /// The body of a try has come to an end.
 #[tactic(auto, using(crate::proofs::Guarding::try_gave, crate::proofs::Guarding::try_threw, crate::proofs::Guarding::try_left))]
 fn try_ended(
-    program: &Kernel,
+    program: &Program,
     depth: u32,
     pattern: NodeId,
     handler: NodeId,
@@ -131,7 +131,7 @@ fn try_ended(
 /// The first part of a finally has come to an end.
 #[tactic(auto, using(crate::proofs::Guarding::last_begins))]
 fn first_ended(
-    program: &Kernel,
+    program: &Program,
     depth: u32,
     last: NodeId,
     came: Came,
@@ -150,7 +150,7 @@ fn first_ended(
 /// A call of an iteration has come to an end.
 #[tactic(auto, using(ev_frames::proofs::Rests::gone), unfolding(ev_frames::specs::Rest::came_back, ev_room::specs::Acts::and_then))]
 fn member_ended(
-    program: &Kernel,
+    program: &Program,
     depth: u32,
     levels: Option<u128>,
     object: Value,
@@ -177,7 +177,7 @@ fn member_ended(
 /// A turn of a loop has a value, which tells whether there is another.
 #[tactic(auto, unfolding(ev_steps::specs::Steps::after_turn, ev_room::specs::Acts::and_then, ev_room::specs::Acts::give, ev_room::specs::Acts::fails, ev_room::specs::Acts::fail))]
 fn turn_gave(
-    program: &Kernel,
+    program: &Program,
     depth: u32,
     levels: Option<u128>,
     object: Value,
@@ -201,7 +201,7 @@ fn turn_gave(
 /// A turn of a loop has come to an end.
 #[tactic(auto, using(ev_frames::proofs::Native::turn_goes, ev_frames::proofs::Rests::gone), unfolding(ev_frames::specs::Rest::came_back, ev_room::specs::Acts::and_then))]
 fn turn_ended(
-    program: &Kernel,
+    program: &Program,
     depth: u32,
     levels: Option<u128>,
     object: Value,
@@ -230,7 +230,7 @@ fn turn_ended(
 /// A part has come to an end of a node that leaves its scope as it was, which is this again.
 #[tactic(auto, using(crate::proofs::Guarding::alone_ends, crate::proofs::Guarding::last_gave, crate::proofs::Guarding::last_threw, crate::proofs::Guarding::last_left, ev_frames::proofs::Calling::settled_gave, ev_frames::proofs::Calling::settled_ended, ev_frames::proofs::Rests::gone), unfolding(ev_frames::specs::Rest::guarding))]
 pub(crate) fn guard_ended(
-    program: &Kernel,
+    program: &Program,
     depth: u32,
     guard: Guard,
     came: Came,

@@ -5,10 +5,10 @@ ghost use Rattle.def_kernel.specs.declared.node.Node.TheVariants.{Escape as Esca
 ghost use Rattle.ev_room.specs.declared.scope.Scope.{Scope as Surroundings};
 ghost use Rattle.ev_frames.specs.Rest.{Goes, Nested, Stays, handled_on, rest};
 
-use def_kernel::Kernel;
 use ev_base::{NodeId, Value};
 use ev_frames::frames::{Frames, Guard, Part};
 use ev_frames::now::{Now, enter, guard};
+use ev_room::Program;
 use ev_room::ejector::new_ejector;
 use ev_room::exit::Exit;
 use ev_room::room::Room;
@@ -18,7 +18,7 @@ use ev_steps::pattern::{Early, bind_at_once};
 /// Binds a pattern to a value, and then an expression begins in the scope after it.
 #[tactic(auto, using(crate::proofs::Patterning::handled_begins, crate::proofs::Patterning::handled_pushed, crate::proofs::Patterning::handled_ends, ev_frames::proofs::Rests::nested_behind, ev_frames::proofs::Rests::gone))]
 pub(crate) fn handle(
-    program: &Kernel,
+    program: &Program,
     depth: u32,
     pattern: NodeId,
     id: NodeId,
@@ -44,7 +44,7 @@ pub(crate) fn handle(
 /// An escape begins.
 #[tactic(auto, using(crate::proofs::Guarding::escape_begins, crate::proofs::Guarding::ejector_ends, ev_frames::proofs::Rests::gone))]
 pub(crate) fn escape_node(
-    program: &Kernel,
+    program: &Program,
     depth: u32,
     pattern: NodeId,
     body: NodeId,
@@ -74,7 +74,7 @@ pub(crate) fn escape_node(
 /// A try begins.
 #[tactic(auto, using(crate::proofs::Guarding::try_begins))]
 pub(crate) fn try_node(
-    program: &Kernel,
+    program: &Program,
     depth: u32,
     body: NodeId,
     pattern: NodeId,
@@ -94,7 +94,7 @@ pub(crate) fn try_node(
 /// A finally begins.
 #[tactic(auto, using(crate::proofs::Guarding::finally_begins))]
 pub(crate) fn finally_node(
-    program: &Kernel,
+    program: &Program,
     depth: u32,
     first: NodeId,
     last: NodeId,
@@ -113,7 +113,7 @@ pub(crate) fn finally_node(
 /// A hide begins.
 #[tactic(auto, using(crate::proofs::Guarding::hide_begins))]
 pub(crate) fn hide_node(
-    program: &Kernel,
+    program: &Program,
     depth: u32,
     inner: NodeId,
     frames: &mut Frames,

@@ -15,7 +15,6 @@ use crate::ends::{back, guard_ended};
 use crate::nodes::begin;
 use crate::parts::part_gave;
 use crate::patterns::{bind, match_resumes};
-use def_kernel::Kernel;
 use ev_base::{ActId, NodeId, ObjId, TextId, Value};
 use ev_eventual::message_in;
 use ev_eventual::sending::BAD_MESSAGE;
@@ -24,6 +23,7 @@ use ev_frames::frames::{Frame, Frames, Guard, Part};
 use ev_frames::matchers::case_resumes;
 use ev_frames::messages::takes;
 use ev_frames::now::Now;
+use ev_room::Program;
 use ev_room::bindings::Nouns;
 use ev_room::call::closed;
 use ev_room::exit::{Came, Exit};
@@ -34,7 +34,7 @@ use ev_word::Word;
 /// A node that hands on what its part throws goes on.
 #[tactic(auto, using(crate::proofs::Looping::part_goes, crate::proofs::Looping::part_threw, crate::proofs::Looping::part_left, crate::proofs::Looping::part_nested, crate::proofs::Looping::part_mark, crate::proofs::Looping::part_below))]
 fn part_resumes(
-    program: &Kernel,
+    program: &Program,
     depth: u32,
     mark: usize,
     part: Part,
@@ -57,7 +57,7 @@ fn part_resumes(
 /// A node goes on that leaves its scope as it was.
 #[tactic(auto, using(crate::proofs::Looping::guard_goes, crate::proofs::Looping::guard_nested))]
 fn guard_resumes(
-    program: &Kernel,
+    program: &Program,
     depth: u32,
     mark: usize,
     guard: Guard,
@@ -77,7 +77,7 @@ fn guard_resumes(
 /// The body of a method has come to an end.
 #[tactic(auto, using(crate::proofs::Looping::body_gave, crate::proofs::Looping::body_ended, crate::proofs::Looping::body_nested, ev_frames::proofs::Rests::gone))]
 fn body_resumes(
-    program: &Kernel,
+    program: &Program,
     saved: Scope,
     came: Came,
     frames: &Frames,
@@ -96,7 +96,7 @@ fn body_resumes(
 
 /// The innermost frame goes on, whose part has come to an end.
 fn resume(
-    program: &Kernel,
+    program: &Program,
     frame: Frame,
     came: Came,
     frames: &mut Frames,
@@ -150,7 +150,7 @@ fn stepped(next: Result<Now, Exit>) -> Result<Now, Result<Value, Exit>>
 /// A node begins.
 #[tactic(auto, using(crate::proofs::Looping::steps, crate::proofs::Looping::nests))]
 fn begun(
-    program: &Kernel,
+    program: &Program,
     depth: u32,
     id: NodeId,
     frames: &mut Frames,
@@ -168,7 +168,7 @@ fn begun(
 /// A pattern begins.
 #[tactic(auto, using(crate::proofs::Looping::steps, crate::proofs::Looping::nests))]
 fn bound(
-    program: &Kernel,
+    program: &Program,
     depth: u32,
     id: NodeId,
     value: Value,
@@ -187,7 +187,7 @@ fn bound(
 
 /// `run` of a value is called with a place and the member there.
 fn run_member(
-    program: &Kernel,
+    program: &Program,
     depth: u32,
     levels: Option<u128>,
     object: Value,
@@ -211,7 +211,7 @@ fn run_member(
 /// A member begins.
 #[tactic(auto, using(crate::proofs::Looping::steps, crate::proofs::Looping::nests))]
 fn member(
-    program: &Kernel,
+    program: &Program,
     depth: u32,
     levels: Option<u128>,
     object: Value,
@@ -234,7 +234,7 @@ fn member(
 /// `run` of a value is called.
 #[tactic(auto, using(crate::proofs::Looping::steps, crate::proofs::Looping::nests))]
 fn turn(
-    program: &Kernel,
+    program: &Program,
     depth: u32,
     levels: Option<u128>,
     object: Value,
@@ -264,7 +264,7 @@ fn turn(
 /// `run` of a value is called with a problem.
 #[tactic(auto, using(crate::proofs::Looping::steps, crate::proofs::Looping::nests))]
 fn refused(
-    program: &Kernel,
+    program: &Program,
     depth: u32,
     levels: Option<u128>,
     object: Value,
@@ -295,7 +295,7 @@ fn refused(
 /// A value is called with a verb and a list of arguments, as these are followed.
 #[tactic(auto, using(ev_frames::proofs::Native::calls_with, ev_frames::proofs::Native::calls_bad))]
 fn call_with(
-    program: &Kernel,
+    program: &Program,
     depth: u32,
     levels: Option<u128>,
     receiver: Value,
@@ -329,7 +329,7 @@ fn call_with(
 
 /// `audit` of a value is called with an audition.
 fn run_auditor(
-    program: &Kernel,
+    program: &Program,
     depth: u32,
     levels: Option<u128>,
     auditor: Value,
@@ -359,7 +359,7 @@ fn run_auditor(
 /// An auditor begins.
 #[tactic(auto, using(crate::proofs::Looping::steps, crate::proofs::Looping::nests))]
 fn audited(
-    program: &Kernel,
+    program: &Program,
     depth: u32,
     levels: Option<u128>,
     auditor: Value,
@@ -381,7 +381,7 @@ fn audited(
 /// The same, in the loop.
 #[tactic(auto, using(crate::proofs::Looping::steps, crate::proofs::Looping::nests))]
 fn called(
-    program: &Kernel,
+    program: &Program,
     depth: u32,
     levels: Option<u128>,
     receiver: Value,
@@ -404,7 +404,7 @@ fn called(
 /// A part has come to an end.
 #[tactic(auto, using(crate::proofs::Looping::steps, crate::proofs::Looping::nests))]
 fn resumed(
-    program: &Kernel,
+    program: &Program,
     frame: Frame,
     came: Came,
     frames: &mut Frames,
@@ -422,7 +422,7 @@ fn resumed(
 /// A part has come to an end, maybe of all.
 #[tactic(auto, using(crate::proofs::Looping::done))]
 fn ended(
-    program: &Kernel,
+    program: &Program,
     came: Came,
     frames: &mut Frames,
     here: &mut Scope,
@@ -440,7 +440,7 @@ fn ended(
 
 /// One step.
 fn step(
-    program: &Kernel,
+    program: &Program,
     now: Now,
     frames: &mut Frames,
     here: &mut Scope,
@@ -477,7 +477,7 @@ fn step(
 /// Does what comes next, and all that is left to do.
 /// After more steps than any machine makes it ends as after want of memory.
 fn run(
-    program: &Kernel,
+    program: &Program,
     first: Now,
     frames: &mut Frames,
     here: &mut Scope,
@@ -500,7 +500,7 @@ fn run(
 /// After more steps than any machine makes it ends as after want of memory.
 #[tactic(auto, using(crate::proofs::Looping::alone_gives, crate::proofs::Looping::nested_alone))]
 pub fn evaluate(
-    program: &Kernel,
+    program: &Program,
     depth: u32,
     id: NodeId,
     here: &mut Scope,
@@ -515,7 +515,7 @@ pub fn evaluate(
 /// What a turn does with a message begins, in the loop.
 #[tactic(auto, using(crate::proofs::Looping::steps, crate::proofs::Looping::nests))]
 fn taken(
-    program: &Kernel,
+    program: &Program,
     depth: u32,
     target: Value,
     verb: &Word,
@@ -538,7 +538,7 @@ fn taken(
 /// After more steps than any machine makes it ends as after want of memory.
 #[tactic(auto, using(crate::proofs::Looping::turn_gives, crate::proofs::Looping::turn_gave, crate::proofs::Looping::nested_alone))]
 pub fn take_message(
-    program: &Kernel,
+    program: &Program,
     depth: u32,
     act: ActId,
     target: Value,

@@ -1,7 +1,7 @@
 //! Nodes begin.
 
 ghost use Rattle.std.specs.Prelude.{◌≡◌, [], Some, drop, length, slice_get};
-ghost use Rattle.ev_steps.specs.Steps.{call_node, define, evaluator, if_node, last_of, match_node, set_node, step};
+ghost use Rattle.ev_steps.specs.Steps.{call_node, define, evaluator, if_node, last_of, literal_node, match_node, noun_node, set_node, step};
 ghost use Rattle.ev_base.specs.declared.values.Value.TheVariants.{Null};
 ghost use Rattle.def_kernel.specs.declared.node.Node.TheVariants.{Call, Sequence as Parts};
 ghost use Rattle.ev_room.specs.declared.scope.Scope.{Scope as Surroundings};
@@ -10,12 +10,13 @@ ghost use Rattle.ev_frames.specs.Rest.{Goes, Nested, Stays, call_on, rest};
 
 use crate::guards::{escape_node, finally_node, hide_node, try_node};
 use crate::parts::args_on;
-use def_kernel::{Kernel, Node};
+use def_kernel::{Literal, Node};
 use ev_base::{NodeId, Seq, Value};
 use ev_frames::audits::object_node;
 use ev_frames::frames::{Frames, Part};
 use ev_frames::leaves::{leaf, literal_node, noun_node};
 use ev_frames::now::{Now, enter};
+use ev_room::Program;
 use ev_room::exit::{Came, Exit};
 use ev_room::room::{Room, spend};
 use ev_room::scope::Scope;
@@ -23,10 +24,44 @@ use ev_room::tree::node_at;
 use ev_steps::pattern::part_at;
 use ev_word::Word;
 
+/// A literal ends at once.
+#[tactic(auto, using(ev_frames::proofs::Rests::goes_on, ev_frames::proofs::Rests::gone))]
+fn literal_step(
+    program: &Program,
+    literal: &Literal,
+    frames: &Frames,
+    here: &Scope,
+    room: &mut Room,
+) -> Result<Now, Exit>
+    requires nested { Nested frames.now here.now }
+    ensures rest { Goes program.now result frames.now here.now room.new (rest program.now frames.now here.now (literal_node literal.now here.now room.old)) }
+    ensures nested { Stays result frames.now here.now }
+{
+    let value = literal_node(literal, here, room)?;
+    Ok(Now::Ended(Came::Gave(value)))
+}
+
+/// A noun ends at once.
+#[tactic(auto, using(ev_frames::proofs::Rests::goes_on, ev_frames::proofs::Rests::gone))]
+fn noun_step(
+    program: &Program,
+    noun: &Word,
+    frames: &Frames,
+    here: &Scope,
+    room: &mut Room,
+) -> Result<Now, Exit>
+    requires nested { Nested frames.now here.now }
+    ensures rest { Goes program.now result frames.now here.now room.new (rest program.now frames.now here.now (noun_node noun.now here.now room.old)) }
+    ensures nested { Stays result frames.now here.now }
+{
+    let value = noun_node(noun, here, room)?;
+    Ok(Now::Ended(Came::Gave(value)))
+}
+
 /// An assignment begins. What is written is what the noun stood for before its value is evaluated.
 #[tactic(auto, using(crate::proofs::Begins::assign_begins))]
 fn set_node(
-    program: &Kernel,
+    program: &Program,
     depth: u32,
     noun: &Word,
     value: NodeId,
@@ -46,7 +81,7 @@ fn set_node(
 /// A definition begins.
 #[tactic(auto, using(crate::proofs::Begins::define_begins, crate::proofs::Begins::define_exits))]
 fn define(
-    program: &Kernel,
+    program: &Program,
     depth: u32,
     pattern: NodeId,
     exit: Option<NodeId>,
@@ -74,7 +109,7 @@ fn define(
 /// A call begins whose receiver is no leaf.
 #[tactic(auto, using(crate::proofs::Begins::call_begins))]
 fn call_framed(
-    program: &Kernel,
+    program: &Program,
     depth: u32,
     id: NodeId,
     receiver: NodeId,
@@ -96,7 +131,7 @@ fn call_framed(
 /// The arguments of a call are evaluated, whose receiver was at once.
 #[tactic(auto, using(ev_frames::proofs::Leafy::all_nested, ev_frames::proofs::Calling::verb_is, ev_frames::proofs::Calling::args_is))]
 fn args_begin(
-    program: &Kernel,
+    program: &Program,
     depth: u32,
     id: NodeId,
     receiver: NodeId,
@@ -122,7 +157,7 @@ fn args_begin(
 /// A call begins.
 #[tactic(auto, using(ev_frames::proofs::Leafy::call_leaf, ev_frames::proofs::Leafy::call_leaf_ends, ev_frames::proofs::Rests::gone))]
 fn call_node(
-    program: &Kernel,
+    program: &Program,
     depth: u32,
     id: NodeId,
     receiver: NodeId,
@@ -148,7 +183,7 @@ fn call_node(
 /// A sequence begins.
 #[tactic(auto, using(crate::proofs::Begins::sequence_begins, crate::proofs::Begins::sequence_empty))]
 fn sequence_node(
-    program: &Kernel,
+    program: &Program,
     depth: u32,
     id: NodeId,
     parts: &[NodeId],
@@ -173,7 +208,7 @@ fn sequence_node(
 /// An if begins.
 #[tactic(auto, using(crate::proofs::Begins::if_begins))]
 fn if_node(
-    program: &Kernel,
+    program: &Program,
     depth: u32,
     test: NodeId,
     yes: NodeId,
@@ -193,7 +228,7 @@ fn if_node(
 /// A match begins.
 #[tactic(auto, using(crate::proofs::Begins::match_begins))]
 fn match_node(
-    program: &Kernel,
+    program: &Program,
     depth: u32,
     value: NodeId,
     pattern: NodeId,
@@ -212,7 +247,7 @@ fn match_node(
 /// A node begins whose parts may be so many levels deep.
 #[tactic(auto, using(ev_frames::proofs::Rests::goes_on, ev_frames::proofs::Rests::gone), unfolding(ev_steps::specs::Steps::step, ev_room::specs::Acts::fail))]
 fn step(
-    program: &Kernel,
+    program: &Program,
     depth: u32,
     id: NodeId,
     node: &Node,
@@ -226,14 +261,8 @@ fn step(
     ensures nested { Stays result frames.new here.new }
 {
     match node {
-        Node::Lit(literal) => {
-            let value = literal_node(literal, here, room)?;
-            Ok(Now::Ended(Came::Gave(value)))
-        }
-        Node::Noun(noun) => {
-            let value = noun_node(noun, here, room)?;
-            Ok(Now::Ended(Came::Gave(value)))
-        }
+        Node::Lit(literal) => literal_step(program, literal, frames, here, room),
+        Node::Noun(noun) => noun_step(program, noun, frames, here, room),
         Node::Set(noun, value) => { set_node(program, depth, noun, *value, frames, here, room) }
         Node::Def {
             pattern,
@@ -305,7 +334,7 @@ fn step(
 /// The expression at a node begins, at most so many levels deep.
 #[tactic(auto, using(crate::proofs::Begins::begins_deep, crate::proofs::Begins::begins_spent, crate::proofs::Begins::begins_none, crate::proofs::Begins::begins_so, ev_frames::proofs::Rests::gone))]
 pub(crate) fn begin(
-    program: &Kernel,
+    program: &Program,
     depth: u32,
     id: NodeId,
     frames: &mut Frames,

@@ -5,11 +5,12 @@ ghost use Rattle.ev_steps.specs.Steps.{call, choose, define_by, evaluator, last_
 ghost use Rattle.def_kernel.specs.declared.node.Node.TheVariants.{Call, Sequence as Parts, If};
 ghost use Rattle.ev_room.specs.Acts.{Extends, GivesIn, and_then, cut, give, write_slot};
 ghost use Rattle.ev_room.specs.declared.scope.Scope.{Scope as Surroundings};
+ghost use Rattle.ev_frames.specs.declared.frames.Part.TheVariants.{Args, Auditors, Branch, Receiver, Writes};
 ghost use Rattle.ev_frames.specs.Rest.{Goes, Nested, Stays, args_of, call_on, going, parts_of, rest, settled, verb_of, yielding};
 
 use crate::coercions::{assigned, coerced, under};
 use crate::patterns::{asks, matching};
-use def_kernel::{Kernel, Node};
+use def_kernel::Node;
 use ev_base::{Memory, NodeId, Seq, SlotId, Value};
 use ev_frames::audits::{auditors_on, stamped};
 use ev_frames::calls::calling;
@@ -18,6 +19,7 @@ use ev_frames::leaves::{leaf_args, leaves};
 use ev_frames::now::{Now, again, enter};
 use ev_frames::patterns::{binding, binds_from};
 use ev_prims::Problem;
+use ev_room::Program;
 use ev_room::data::problem_id;
 use ev_room::exit::{Came, Exit};
 use ev_room::room::Room;
@@ -103,7 +105,7 @@ fn written(slot: SlotId, value: Value, here: &Scope, room: &mut Room) -> Result<
 /// The ejector of a definition is known.
 #[tactic(auto, using(crate::proofs::Patterning::define_on, ev_frames::proofs::Again::unmarked))]
 fn defined_by(
-    program: &Kernel,
+    program: &Program,
     depth: u32,
     mark: usize,
     pattern: NodeId,
@@ -125,7 +127,7 @@ fn defined_by(
 /// The value of a definition is known.
 #[tactic(auto, using(crate::proofs::Patterning::defined_begins, crate::proofs::Patterning::defined_pushed, crate::proofs::Patterning::defined_ends, ev_frames::proofs::Rests::nested_behind, ev_frames::proofs::Rests::gone))]
 fn defined(
-    program: &Kernel,
+    program: &Program,
     depth: u32,
     pattern: NodeId,
     ejector: Value,
@@ -153,7 +155,7 @@ fn defined(
 /// A part of a sequence has a value.
 #[tactic(auto, using(crate::proofs::Ending::sequence_on, crate::proofs::Ending::sequence_done, ev_frames::proofs::Again::unmarked))]
 fn sequenced(
-    program: &Kernel,
+    program: &Program,
     depth: u32,
     mark: usize,
     id: NodeId,
@@ -182,7 +184,7 @@ fn sequenced(
 /// The test of an if has a value.
 #[tactic(auto, using(crate::proofs::Ending::yes_begins, crate::proofs::Ending::no_begins, crate::proofs::Ending::cut_nested, crate::proofs::Ending::cut_marked, ev_frames::proofs::Again::unmarked), unfolding(ev_steps::specs::Steps::choose, ev_room::specs::Acts::fails, ev_room::specs::Acts::fail))]
 fn chosen(
-    program: &Kernel,
+    program: &Program,
     depth: u32,
     mark: usize,
     yes: NodeId,
@@ -214,7 +216,7 @@ fn chosen(
 /// The arguments of a call so far are known.
 #[tactic(auto, using(crate::proofs::Ending::args_on, crate::proofs::Ending::args_done, ev_frames::proofs::Again::unmarked, ev_frames::proofs::Rests::goes_as))]
 fn call_on(
-    program: &Kernel,
+    program: &Program,
     depth: u32,
     mark: usize,
     id: NodeId,
@@ -254,7 +256,7 @@ fn call_on(
 /// A part of a sequence has a value, and the leaves behind it are evaluated at once.
 #[tactic(auto, using(ev_frames::proofs::Leafy::passes_goes, ev_frames::proofs::Rests::goes_on, ev_frames::proofs::Rests::gone, ev_frames::proofs::Again::unmarked))]
 fn sequence_on(
-    program: &Kernel,
+    program: &Program,
     depth: u32,
     mark: usize,
     id: NodeId,
@@ -280,7 +282,7 @@ fn sequence_on(
 /// The arguments of a call so far are known, and the leaves behind them are evaluated at once.
 #[tactic(auto, using(ev_frames::proofs::Leafy::gathers_goes, ev_frames::proofs::Leafy::gathers_ends, ev_frames::proofs::Rests::gone, ev_frames::proofs::Again::unmarked))]
 pub(crate) fn args_on(
-    program: &Kernel,
+    program: &Program,
     depth: u32,
     mark: usize,
     id: NodeId,
@@ -305,10 +307,131 @@ pub(crate) fn args_on(
     )
 }
 
+/// The value of an assignment is known, and its slot is written.
+#[tactic(auto, using(ev_frames::proofs::Again::unmarked, ev_frames::proofs::Rests::given_behind, ev_frames::proofs::Rests::ended_behind, ev_frames::proofs::Rests::nested_behind, ev_frames::proofs::Rests::goes_on, ev_frames::proofs::Rests::gone), unfolding(ev_frames::specs::Rest::going, ev_room::specs::Acts::give, ev_room::specs::Acts::fail))]
+fn write_gave(
+    program: &Program,
+    depth: u32,
+    mark: usize,
+    slot: SlotId,
+    value: Value,
+    frames: &mut Frames,
+    here: &mut Scope,
+    room: &mut Room,
+) -> Result<Now, Exit>
+    requires mark { mark ≤ length here.old.nouns }
+    requires nested { Nested frames.old (cut mark here.old) }
+    ensures rest { Goes program.now result frames.new here.new room.new (rest program.now frames.old here.old (going program.now (evaluator program.now depth) here.old.act mark (Writes slot) value here.old room.old)) }
+    ensures nested { Stays result frames.new here.new }
+{
+    let value = written(slot, value, here, room)?;
+    Ok(Now::Ended(Came::Gave(value)))
+}
+
+/// The receiver of a call is known.
+#[tactic(auto, using(ev_frames::proofs::Again::unmarked, ev_frames::proofs::Rests::goes_on, ev_frames::proofs::Rests::gone), unfolding(ev_frames::specs::Rest::going, ev_room::specs::Acts::give, ev_room::specs::Acts::fail))]
+fn receiver_gave(
+    program: &Program,
+    depth: u32,
+    mark: usize,
+    id: NodeId,
+    value: Value,
+    frames: &mut Frames,
+    here: &mut Scope,
+    room: &mut Room,
+) -> Result<Now, Exit>
+    requires mark { mark ≤ length here.old.nouns }
+    requires nested { Nested frames.old (cut mark here.old) }
+    ensures rest { Goes program.now result frames.new here.new room.new (rest program.now frames.old here.old (going program.now (evaluator program.now depth) here.old.act mark (Receiver id) value here.old room.old)) }
+    ensures nested { Stays result frames.new here.new }
+{
+    let none = Seq::new(room.alloc);
+    let verb = verb_at(room.alloc, program.nodes(), id)?;
+    let args = args_at(program.nodes(), id);
+    args_on(
+        program, depth, mark, id, value, &verb, none, args, frames, here, room,
+    )
+}
+
+/// One more argument of a call is known.
+#[tactic(auto, using(ev_frames::proofs::Again::unmarked, ev_frames::proofs::Again::one_more, ev_frames::proofs::Rests::goes_on, ev_frames::proofs::Rests::gone), unfolding(ev_frames::specs::Rest::going, ev_room::specs::Acts::give, ev_room::specs::Acts::fail))]
+fn argument_gave(
+    program: &Program,
+    depth: u32,
+    mark: usize,
+    id: NodeId,
+    receiver: Value,
+    so_far: Seq<Value>,
+    value: Value,
+    frames: &mut Frames,
+    here: &mut Scope,
+    room: &mut Room,
+) -> Result<Now, Exit>
+    requires mark { mark ≤ length here.old.nouns }
+    requires nested { Nested frames.old (cut mark here.old) }
+    ensures rest { Goes program.now result frames.new here.new room.new (rest program.now frames.old here.old (going program.now (evaluator program.now depth) here.old.act mark (Args id receiver so_far) value here.old room.old)) }
+    ensures nested { Stays result frames.new here.new }
+{
+    let mut values = so_far;
+    values.push(value)?;
+    let verb = verb_at(room.alloc, program.nodes(), id)?;
+    let args = args_at(program.nodes(), id);
+    args_on(
+        program, depth, mark, id, receiver, &verb, values, args, frames, here, room,
+    )
+}
+
+/// One more auditor of an object expression is known.
+#[tactic(auto, using(ev_frames::proofs::Again::unmarked, ev_frames::proofs::Again::one_more, ev_frames::proofs::Rests::goes_on, ev_frames::proofs::Rests::gone), unfolding(ev_frames::specs::Rest::going, ev_room::specs::Acts::give, ev_room::specs::Acts::fail))]
+fn auditor_gave(
+    program: &Program,
+    depth: u32,
+    mark: usize,
+    id: NodeId,
+    pattern: NodeId,
+    auditors: Seq<NodeId>,
+    so_far: Seq<Value>,
+    value: Value,
+    frames: &mut Frames,
+    here: &mut Scope,
+    room: &mut Room,
+) -> Result<Now, Exit>
+    requires mark { mark ≤ length here.old.nouns }
+    requires nested { Nested frames.old (cut mark here.old) }
+    ensures rest { Goes program.now result frames.new here.new room.new (rest program.now frames.old here.old (going program.now (evaluator program.now depth) here.old.act mark (Auditors id pattern auditors so_far) value here.old room.old)) }
+    ensures nested { Stays result frames.new here.new }
+{
+    let mut values = so_far;
+    values.push(value)?;
+    auditors_on(
+        program, depth, mark, id, pattern, auditors, values, frames, here, room,
+    )
+}
+
+/// A branch of an if has a value, and its names go.
+#[tactic(auto, using(crate::proofs::Ending::branch_ends, ev_frames::proofs::Again::unmarked, ev_frames::proofs::Rests::given_behind, ev_frames::proofs::Rests::ended_behind, ev_frames::proofs::Rests::nested_behind, ev_frames::proofs::Rests::goes_on, ev_frames::proofs::Rests::gone), unfolding(ev_frames::specs::Rest::going, ev_room::specs::Acts::give, ev_room::specs::Acts::fail))]
+fn branch_gave(
+    program: &Program,
+    depth: u32,
+    mark: usize,
+    value: Value,
+    frames: &mut Frames,
+    here: &mut Scope,
+    room: &mut Room,
+) -> Result<Now, Exit>
+    requires mark { mark ≤ length here.old.nouns }
+    requires nested { Nested frames.old (cut mark here.old) }
+    ensures rest { Goes program.now result frames.new here.new room.new (rest program.now frames.old here.old (going program.now (evaluator program.now depth) here.old.act mark Branch value here.old room.old)) }
+    ensures nested { Stays result frames.new here.new }
+{
+    cut(room.alloc, mark, here);
+    Ok(Now::Ended(Came::Gave(value)))
+}
+
 /// A part of a node has a value.
 #[tactic(auto, using(ev_frames::proofs::Again::unmarked, ev_frames::proofs::Again::one_more, crate::proofs::Ending::branch_ends, ev_frames::proofs::Rests::given_behind, ev_frames::proofs::Rests::ended_behind, ev_frames::proofs::Rests::nested_behind, ev_frames::proofs::Rests::goes_on, ev_frames::proofs::Rests::gone), unfolding(ev_frames::specs::Rest::going, ev_room::specs::Acts::give, ev_room::specs::Acts::fail))]
 pub(crate) fn part_gave(
-    program: &Kernel,
+    program: &Program,
     depth: u32,
     mark: usize,
     part: Part,
@@ -324,10 +447,7 @@ pub(crate) fn part_gave(
 {
     match part {
         Part::Assign(bound) => assigned(program, depth, bound, value, frames, here, room),
-        Part::Writes(slot) => {
-            let value = written(slot, value, here, room)?;
-            Ok(Now::Ended(Came::Gave(value)))
-        }
+        Part::Writes(slot) => write_gave(program, depth, mark, slot, value, frames, here, room),
         Part::Guarded(target, specimen, ejector) => {
             let guard = room.refs.deref(value);
             under(
@@ -356,30 +476,13 @@ pub(crate) fn part_gave(
         }
         Part::Fails(id) => Err(Exit::Thrown(id)),
         Part::Matching(pattern) => matching(program, depth, pattern, value, frames, here, room),
-        Part::Receiver(id) => {
-            let none = Seq::new(room.alloc);
-            let verb = verb_at(room.alloc, program.nodes(), id)?;
-            let args = args_at(program.nodes(), id);
-            args_on(
-                program, depth, mark, id, value, &verb, none, args, frames, here, room,
-            )
-        }
-        Part::Args(id, receiver, values) => {
-            let mut values = values;
-            values.push(value)?;
-            let verb = verb_at(room.alloc, program.nodes(), id)?;
-            let args = args_at(program.nodes(), id);
-            args_on(
-                program, depth, mark, id, receiver, &verb, values, args, frames, here, room,
-            )
-        }
-        Part::Auditors(id, pattern, auditors, values) => {
-            let mut values = values;
-            values.push(value)?;
-            auditors_on(
-                program, depth, mark, id, pattern, auditors, values, frames, here, room,
-            )
-        }
+        Part::Receiver(id) => receiver_gave(program, depth, mark, id, value, frames, here, room),
+        Part::Args(id, receiver, values) => argument_gave(
+            program, depth, mark, id, receiver, values, value, frames, here, room,
+        ),
+        Part::Auditors(id, pattern, auditors, values) => auditor_gave(
+            program, depth, mark, id, pattern, auditors, values, value, frames, here, room,
+        ),
         Part::Stamps(id, pattern, auditor, auditors, place, stamps) => stamped(
             program, depth, id, pattern, auditor, auditors, place, stamps, value, frames, here,
             room,
@@ -394,9 +497,6 @@ pub(crate) fn part_gave(
             let answer = room.refs.deref(value);
             chosen(program, depth, mark, yes, no, answer, frames, here, room)
         }
-        Part::Branch => {
-            cut(room.alloc, mark, here);
-            Ok(Now::Ended(Came::Gave(value)))
-        }
+        Part::Branch => branch_gave(program, depth, mark, value, frames, here, room),
     }
 }

@@ -1,7 +1,8 @@
 //! Patterns begin, and matches.
 
 ghost use Rattle.std.specs.Prelude.{◌≡◌, ◌≤◌, ◌==◌, ◌∷◌, [], List, OnOk, length, slice_get};
-ghost use Rattle.ev_steps.specs.Steps.{bind_asked, not_matched, bind_items, bind_list, bind_step, bind_via, call, evaluator, failed, match_on};
+ghost use Rattle.ev_steps.specs.Steps.{bind_asked, bind_guarded, not_matched, bind_items, bind_list, bind_step, bind_via, call, evaluator, failed, match_on};
+ghost use Rattle.ev_steps.specs.declared.target.Target.TheVariants as target;
 ghost use Rattle.ev_prims.specs.Answers.{members_at};
 ghost use Rattle.ev_room.specs.Acts.{Extends, and_then, cut, give};
 ghost use Rattle.ev_room.specs.declared.scope.Scope.{Scope as Surroundings};
@@ -10,12 +11,13 @@ ghost use Rattle.ev_frames.specs.Rest.{Goes, Nested, Stays, bound_as, came_to, r
 ghost use Rattle.ev_frames.specs.declared.frames.Frame.TheVariants.{Match as MatchOf, Part as PartOf};
 
 use crate::coercions::{failing, guarded};
-use def_kernel::{Kernel, Node};
+use def_kernel::Node;
 use ev_base::{Memory, NodeId, ObjId, Seq, TextId, Value};
 use ev_frames::calls::calling;
 use ev_frames::frames::{Frame, Frames, Part};
 use ev_frames::now::{Now, again, enter};
 use ev_frames::patterns::{binding, binds_from, copied};
+use ev_room::Program;
 use ev_room::data::{copied_values, members_of};
 use ev_room::ejector::{is_same, kill, new_ejector};
 use ev_room::exit::{Came, Exit};
@@ -33,7 +35,7 @@ const NOT_A_LIST: TextId = TextId(16);
 /// A list pattern at a list of these members.
 #[tactic(auto, using(crate::proofs::Patterning::list_binds, crate::proofs::Patterning::list_fails))]
 fn bind_members(
-    program: &Kernel,
+    program: &Program,
     depth: u32,
     patterns: &[NodeId],
     members: Seq<Value>,
@@ -58,7 +60,7 @@ fn bind_members(
 /// A list pattern at a value.
 #[tactic(auto, unfolding(ev_steps::specs::Steps::bind_items))]
 fn bind_items(
-    program: &Kernel,
+    program: &Program,
     depth: u32,
     patterns: &[NodeId],
     value: Value,
@@ -94,7 +96,7 @@ fn bind_items(
 /// What a value gives for another is evaluated, and bound.
 #[tactic(auto, using(crate::proofs::Patterning::asks_on))]
 pub(crate) fn asks(
-    program: &Kernel,
+    program: &Program,
     depth: u32,
     mark: usize,
     pattern: NodeId,
@@ -129,7 +131,7 @@ pub(crate) fn asks(
 /// A pattern that asks another value begins.
 #[tactic(auto, using(crate::proofs::Patterning::via_begins))]
 fn via_step(
-    program: &Kernel,
+    program: &Program,
     depth: u32,
     expression: NodeId,
     pattern: NodeId,
@@ -147,10 +149,56 @@ fn via_step(
     Ok(Now::Begin(depth, expression))
 }
 
+/// A final pattern begins.
+#[tactic(auto, using(ev_frames::proofs::Rests::gone))]
+fn final_step(
+    program: &Program,
+    depth: u32,
+    noun: &Word,
+    guard: Option<NodeId>,
+    value: Value,
+    ejector: Value,
+    frames: &mut Frames,
+    here: &mut Scope,
+    room: &mut Room,
+) -> Result<Now, Exit>
+    requires nested { Nested frames.old here.old }
+    ensures rest { Goes program.now result frames.new here.new room.new (rest program.now frames.old here.old (bound_as (bind_guarded program.now (evaluator program.now depth) (target.Final noun.now) guard value ejector here.old room.old))) }
+    ensures nested { Stays result frames.new here.new }
+{
+    let target = Target::Final(noun.share()?);
+    guarded(
+        program, depth, target, guard, value, ejector, frames, here, room,
+    )
+}
+
+/// A variable pattern begins.
+#[tactic(auto, using(ev_frames::proofs::Rests::gone))]
+fn var_step(
+    program: &Program,
+    depth: u32,
+    noun: &Word,
+    guard: Option<NodeId>,
+    value: Value,
+    ejector: Value,
+    frames: &mut Frames,
+    here: &mut Scope,
+    room: &mut Room,
+) -> Result<Now, Exit>
+    requires nested { Nested frames.old here.old }
+    ensures rest { Goes program.now result frames.new here.new room.new (rest program.now frames.old here.old (bound_as (bind_guarded program.now (evaluator program.now depth) (target.Var noun.now) guard value ejector here.old room.old))) }
+    ensures nested { Stays result frames.new here.new }
+{
+    let target = Target::Var(noun.share()?);
+    guarded(
+        program, depth, target, guard, value, ejector, frames, here, room,
+    )
+}
+
 /// A pattern begins whose parts may be so many levels deep.
 #[tactic(auto, using(ev_frames::proofs::Rests::gone, crate::proofs::Patterning::ends_so), unfolding(ev_steps::specs::Steps::bind_step))]
 fn bind_step(
-    program: &Kernel,
+    program: &Program,
     depth: u32,
     node: &Node,
     value: Value,
@@ -164,18 +212,12 @@ fn bind_step(
     ensures nested { Stays result frames.new here.new }
 {
     match node {
-        Node::Final(noun, guard) => {
-            let target = Target::Final(noun.share()?);
-            guarded(
-                program, depth, target, *guard, value, ejector, frames, here, room,
-            )
-        }
-        Node::Var(noun, guard) => {
-            let target = Target::Var(noun.share()?);
-            guarded(
-                program, depth, target, *guard, value, ejector, frames, here, room,
-            )
-        }
+        Node::Final(noun, guard) => final_step(
+            program, depth, noun, *guard, value, ejector, frames, here, room,
+        ),
+        Node::Var(noun, guard) => var_step(
+            program, depth, noun, *guard, value, ejector, frames, here, room,
+        ),
         Node::Any(guard) => guarded(
             program,
             depth,
@@ -232,7 +274,7 @@ fn bind_step(
 /// The pattern at a node begins, at most so many levels deep.
 #[tactic(auto, using(crate::proofs::Patterning::begins_deep, crate::proofs::Patterning::begins_spent, crate::proofs::Patterning::begins_none, crate::proofs::Patterning::begins_so, ev_frames::proofs::Rests::gone))]
 pub(crate) fn bind(
-    program: &Kernel,
+    program: &Program,
     depth: u32,
     id: NodeId,
     value: Value,
@@ -273,7 +315,7 @@ fn enter_match(
 /// The value of a match is known.
 #[tactic(auto, using(crate::proofs::Patterning::match_goes, crate::proofs::Patterning::ejector_ends, ev_frames::proofs::Rests::gone))]
 pub(crate) fn matching(
-    program: &Kernel,
+    program: &Program,
     depth: u32,
     pattern: NodeId,
     value: Value,
@@ -302,7 +344,7 @@ pub(crate) fn matching(
 /// A match has failed: its scope is cut back, and its names are bound anew.
 #[tactic(auto, using(crate::proofs::Patterning::match_own, crate::proofs::Patterning::match_own_ends, crate::proofs::Patterning::match_after, crate::proofs::Patterning::match_gone))]
 fn match_failed(
-    program: &Kernel,
+    program: &Program,
     mark: usize,
     pattern: NodeId,
     value: Value,
@@ -323,7 +365,7 @@ fn match_failed(
 /// The pattern of a match has come to an end. However it did, the ejector is dead after it.
 #[tactic(auto, using(crate::proofs::Patterning::match_gave, crate::proofs::Patterning::match_threw, crate::proofs::Patterning::match_other, crate::proofs::Patterning::match_fails, crate::proofs::Patterning::match_mark, crate::proofs::Patterning::match_below, ev_frames::proofs::Again::unmarked))]
 pub(crate) fn match_resumes(
-    program: &Kernel,
+    program: &Program,
     mark: usize,
     ejector: ObjId,
     pattern: NodeId,

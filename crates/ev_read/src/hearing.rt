@@ -14,7 +14,7 @@ use crate::news::{Hearing, News};
 use crate::values::{hear_value, hear_values};
 use def_op::{Desc, Op, Resolved};
 use ev_arrive::{Carried, Incoming, Subject};
-use ev_base::VatId;
+use ev_base::{Seq, Str, VatId};
 use ev_op::decode;
 use ev_pass::{Interior, Reference, Swiss};
 use ev_receive::Heard;
@@ -73,14 +73,14 @@ fn hear_message(
     news: &mut News,
     asks: bool,
     target: &Desc,
-    verb: &str,
-    args: &[Desc],
+    verb: &Str,
+    args: &Seq<Desc>,
 ) -> Result<Heard, HearFault>
     ensures { Shows told result news.new (message_heard inside.now connection.now learnt.now asks (described target.now) verb.now (all_described args.now) news.old) }
 {
     let target = hear_name(connection, news, target)?;
-    let args = hear_values(inside, connection, learnt, news, args)?;
-    let verb = Word::copy_of(inside.alloc, verb)?;
+    let args = hear_values(inside, connection, learnt, news, args.as_slice())?;
+    let verb = Word::copy_of(inside.alloc, verb.as_str())?;
     Ok(Heard::Deliver {
         message: Carried::New,
         asks,
@@ -99,8 +99,8 @@ fn hear_asking(
     news: &mut News,
     question: u64,
     target: &Desc,
-    verb: &str,
-    args: &[Desc],
+    verb: &Str,
+    args: &Seq<Desc>,
 ) -> Result<Heard, HearFault>
     ensures { Shows told result news.new (where_next connection.now question (message_heard inside.now connection.now learnt.now true (described target.now) verb.now (all_described args.now)) news.old) }
 {
@@ -195,24 +195,10 @@ fn hear_note(
             verb,
             args,
         } => hear_asking(
-            inside,
-            connection,
-            learnt,
-            news,
-            *question,
-            target,
-            verb.as_str(),
-            args.as_slice(),
+            inside, connection, learnt, news, *question, target, verb, args,
         ),
         Op::DeliverOnly { target, verb, args } => hear_message(
-            inside,
-            connection,
-            learnt,
-            news,
-            false,
-            target,
-            verb.as_str(),
-            args.as_slice(),
+            inside, connection, learnt, news, false, target, verb, args,
         ),
         Op::Provide { target, swiss } => {
             hear_provide(inside, connection, learnt, news, target, *swiss)

@@ -29,12 +29,12 @@ ghost use Rattle.ev_member.specs.Vat.{IsReady};
 use crate::outgoing::Outgoing;
 use crate::starting::first_names;
 use crate::telling::tell_step;
-use def_kernel::Kernel;
 use ev_base::{Limits, Memory, Msg, VatId};
 use ev_event::History;
 use ev_intro::Words;
 use ev_member::{Arrival, Member, Sending, VatStop};
 use ev_naming::{Told, VatNames};
+use ev_room::Program;
 use ev_word::Word;
 use std::alloc::Global;
 
@@ -77,7 +77,7 @@ impl Resident {
         &mut self,
         fuel: u32,
         words: &mut Words,
-        program: &Kernel,
+        program: &Program,
         nouns: &[Word],
         limits: Limits,
     ) -> Result<Vec<Sending>, VatStop>
@@ -99,7 +99,7 @@ impl Resident {
         &mut self,
         fuel: u32,
         words: &mut Words,
-        program: &Kernel,
+        program: &Program,
         limits: Limits,
     ) -> Result<Option<Vec<Sending>>, VatStop>
         requires ready { IsReady self.old.member.vat }

@@ -11,7 +11,7 @@ use crate::object::capture_of;
 use crate::room::{Room, tell};
 use crate::scope::Scope;
 use crate::tree::node_at;
-use def_kernel::{Kernel, Node};
+use def_kernel::Node;
 use ev_audit::{
     AuditView, AuditorSet, FreeName, NativeAuditor, Rule, audited_by, deep_frozen_test, free_name,
     functional_test, guard_at, selfless_test,
@@ -20,6 +20,7 @@ use ev_base::{ActId, Memory, NodeId, ObjId, PrimId, Seq, Str, TextId, Value};
 use ev_heap::{Happened, Heap, Shape};
 use ev_kernel_printer::free_names;
 use ev_prims::Problem;
+use ev_program::Program;
 use ev_word::Word;
 use std::alloc::Global;
 
@@ -109,15 +110,18 @@ fn view_of(
 #[tactic(auto, unfolding(crate::specs::Acts::view_at))]
 pub fn view_at(
     alloc: Global,
-    program: &Kernel,
+    program: &Program,
     id: NodeId,
     pattern: NodeId,
     here: &Scope,
 ) -> Result<AuditView, Memory>
     ensures { IfOk result (λ view. view ≡ view_at program.now id pattern here.now) }
 {
-    let free = free_names(alloc, program, id)?;
     let pattern = node_at(program.nodes(), pattern);
+    if let Some(free) = program.captured(id) {
+        return view_of(alloc, id, pattern, free, &here.nouns);
+    }
+    let free = free_names(alloc, program.tree(), id)?;
     view_of(alloc, id, pattern, free.as_slice(), &here.nouns)
 }
 

@@ -9,9 +9,9 @@ ghost use Rattle.ev_room.specs.Forms.{Builds, behind, build, build_item, formed,
 use crate::data::{make_list, text_kept, text_value};
 use crate::exit::Exit;
 use crate::room::Room;
-use def_kernel::Kernel;
 use ev_base::{ActId, Memory, NodeId, Seq, Value};
 use ev_kernel_printer::{Item, as_items};
+use ev_program::Program;
 use std::alloc::Global;
 use std::marker::Model;
 
@@ -175,9 +175,14 @@ fn build(act: ActId, items: &[Item], room: &mut Room) -> Result<Value, Exit>
 
 /// The form of the object expression at a node, which an activation makes.
 #[tactic(auto, using(crate::proofs::Forming::form_gives))]
-pub fn object_form(program: &Kernel, act: ActId, id: NodeId, room: &mut Room) -> Result<Value, Exit>
+pub fn object_form(
+    program: &Program,
+    act: ActId,
+    id: NodeId,
+    room: &mut Room,
+) -> Result<Value, Exit>
     ensures outcome { Gives result room.new (object_form program.now act id room.old) }
 {
-    let items = as_items(room.alloc, program, id)?;
+    let items = as_items(room.alloc, program.tree(), id)?;
     build(act, items.as_slice(), room)
 }

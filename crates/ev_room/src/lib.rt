@@ -20,3 +20,6 @@ pub mod tree;
 pub use coercion::{Coerced, guard_coerced, native_coerced, null_or};
 pub use exit::{Came, Exit};
 pub use room::Room;
+
+// What crates above name of a program, so that they need not stand on its crate themselves.
+pub use ev_program::Program;

@@ -15,10 +15,11 @@ use crate::exit::Exit;
 use crate::room::{Room, tell};
 use crate::scope::{Binding, Bound, NO_GUARD, Scope};
 use crate::tree::node_at;
-use def_kernel::{Kernel, Node};
+use def_kernel::Node;
 use ev_base::{ActId, Memory, NodeId, ObjId, PromId, Seq, Str, Value};
 use ev_heap::{AuditView, Capture, Caught, Happened, Shape, Shared};
 use ev_kernel_printer::free_names;
+use ev_program::Program;
 use ev_word::Word;
 use std::alloc::Global;
 use std::marker::Model;
@@ -301,7 +302,7 @@ fn object_as(
 /// Makes an object of the expression at a node, with the stamps of the auditors that approved.
 #[tactic(auto, using(crate::proofs::Exits::ends, crate::proofs::Fronts::itself_in_front), unfolding(crate::specs::Acts::opened_acts))]
 pub fn object_at(
-    program: &Kernel,
+    program: &Program,
     id: NodeId,
     pattern: NodeId,
     stamps: &[Value],
@@ -311,7 +312,10 @@ pub fn object_at(
     ensures outcome { GivesIn result here.new room.new (object_at program.now id pattern stamps.now here.old room.old) }
     ensures front { Extends here.old here.new }
 {
-    let free = free_names(room.alloc, program, id)?;
     let pattern = node_at(program.nodes(), pattern);
+    if let Some(free) = program.captured(id) {
+        return object_as(id, pattern, free, stamps, here, room);
+    }
+    let free = free_names(room.alloc, program.tree(), id)?;
     object_as(id, pattern, free.as_slice(), stamps, here, room)
 }

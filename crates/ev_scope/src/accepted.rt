@@ -32,6 +32,14 @@ impl Scoped {
         &self.tree
     }
 
+    /// The tree, given back.
+    pub fn into_tree(self) -> Kernel
+        ensures { result ≡ self.tree }
+    {
+        let Scoped { tree, given: _ } = self;
+        tree
+    }
+
     /// The names under which it was checked.
     pub fn given(&self) -> &Seq<Str>
         ensures { result.now ≡ self.now.given }

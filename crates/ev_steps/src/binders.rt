@@ -5,8 +5,9 @@ ghost use Rattle.def_machine.specs.Free.{bound_nouns};
 ghost use Rattle.ev_steps.specs.Binders.{at_level, below, below_of, finds, leaves, own, perhaps};
 ghost use Rattle.ev_steps.specs.declared.binders.Task.{Task as TaskOf};
 
-use def_kernel::{Kernel, Node};
+use def_kernel::Node;
 use ev_base::{Memory, NodeId, Seq};
+use ev_room::Program;
 use ev_room::tree::node_at;
 use ev_word::Word;
 use std::alloc::Global;
@@ -204,7 +205,7 @@ fn look(
 #[tactic(auto, using(crate::proofs::Bound::starts))]
 pub fn bound_nouns(
     alloc: Global,
-    program: &Kernel,
+    program: &Program,
     pattern: NodeId,
 ) -> Result<Seq<Bindable>, Memory>
     ensures { IfOk result (λ nouns. nouns ≡ bound_nouns program.now pattern) }

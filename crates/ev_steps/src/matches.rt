@@ -6,9 +6,9 @@ ghost use Rattle.ev_steps.specs.Steps.{bind_unmatched, no_match, not_matched, un
 ghost use Rattle.ev_room.specs.Acts.{Binds, Extends, Gives, GivesIn};
 
 use crate::binders::{Bindable, bound_nouns};
-use def_kernel::Kernel;
 use ev_base::{ActId, NodeId, TextId, Value};
 use ev_heap::Happened;
+use ev_room::Program;
 use ev_room::exit::Exit;
 use ev_room::room::{Room, tell};
 use ev_room::scope::{Binding, Bound, NO_GUARD, Scope};
@@ -83,7 +83,7 @@ fn unmatched(names: &[Bindable], here: &mut Scope, room: &mut Room) -> Result<()
 /// A match has failed with this value.
 #[tactic(auto, using(ev_room::proofs::Exits::ends, ev_room::proofs::Fronts::itself_in_front), unfolding(crate::specs::Steps::opened_steps))]
 pub fn not_matched(
-    program: &Kernel,
+    program: &Program,
     pattern: NodeId,
     value: Value,
     here: &mut Scope,

@@ -9,9 +9,10 @@ ghost use Rattle.ev_room.specs.Acts.{Binds, Extends, with_noun};
 ghost use Rattle.ev_room.specs.declared.scope.Bound.TheVariants.{Fixed};
 
 use crate::target::Target;
-use def_kernel::{Kernel, Node};
+use def_kernel::Node;
 use ev_base::{Memory, NodeId, Value};
 use ev_heap::{GuardKind, Happened};
+use ev_room::Program;
 use ev_room::exit::Exit;
 use ev_room::room::{Room, spend, tell};
 use ev_room::scope::{Binding, Bound, NO_GUARD, Scope};
@@ -112,7 +113,7 @@ pub fn bind_coerced(
 /// Binds a noun finally to a value, in a pattern without guard.
 #[tactic(auto, using(crate::proofs::Depth::pattern_deep, crate::proofs::Depth::pattern_goes, ev_room::proofs::Exits::ends, ev_room::proofs::Fronts::itself_in_front, ev_room::proofs::Fronts::more_in_front, ev_room::proofs::Fronts::kept_in_front), unfolding(crate::specs::Steps::opened_steps))]
 fn bind_final(
-    program: &Kernel,
+    program: &Program,
     depth: u32,
     id: NodeId,
     noun: &Word,
@@ -136,7 +137,7 @@ fn bind_final(
 /// Binds a noun to a new var slot with a value.
 #[tactic(auto, using(crate::proofs::Depth::pattern_deep, crate::proofs::Depth::pattern_goes, ev_room::proofs::Exits::ends, ev_room::proofs::Fronts::itself_in_front, ev_room::proofs::Fronts::more_in_front, ev_room::proofs::Fronts::kept_in_front), unfolding(crate::specs::Steps::opened_steps))]
 fn bind_var(
-    program: &Kernel,
+    program: &Program,
     depth: u32,
     id: NodeId,
     noun: &Word,
@@ -159,7 +160,7 @@ fn bind_var(
 /// Binds nothing.
 #[tactic(auto, using(crate::proofs::Depth::pattern_deep, crate::proofs::Depth::pattern_goes, ev_room::proofs::Exits::ends, ev_room::proofs::Fronts::itself_in_front), unfolding(crate::specs::Steps::opened_steps))]
 fn bind_any(
-    program: &Kernel,
+    program: &Program,
     depth: u32,
     id: NodeId,
     value: Value,
@@ -180,7 +181,7 @@ fn bind_any(
 /// Binds a pattern that is a name or nothing without a guard, and does nothing at any other.
 #[tactic(auto, using(ev_room::proofs::Fronts::itself_in_front))]
 fn bind_in(
-    program: &Kernel,
+    program: &Program,
     depth: u32,
     id: NodeId,
     node: &Node,
@@ -214,7 +215,7 @@ fn bind_in(
 /// The same of the node of a number.
 #[tactic(auto, using(ev_room::proofs::Fronts::itself_in_front))]
 pub fn bind_at_once(
-    program: &Kernel,
+    program: &Program,
     depth: u32,
     id: NodeId,
     value: Value,
@@ -235,7 +236,7 @@ pub fn bind_at_once(
 /// Binds patterns to values from a place on, as far as they can be bound at once: the place behind them.
 #[tactic(auto, using(crate::proofs::Binding::one_bound, crate::proofs::Binding::one_ends, std::proofs::lemmas::Option::slice_get_within, ev_room::proofs::Fronts::itself_in_front, ev_room::proofs::Fronts::in_front))]
 pub fn bind_from(
-    program: &Kernel,
+    program: &Program,
     depth: u32,
     patterns: &[NodeId],
     values: &[Value],

@@ -13,10 +13,10 @@ use Rattle.ev_script.specs.declared.script.VatScript.{VatScript}
 use Rattle.ev_script.proofs.Admitted.{read_admitted}
 use Rattle.ev_world.specs.Running.{tree_in}
 use Rattle.law_name.specs.Names.{IsAmong}
-use Rattle.law_covered.specs.Formed.{AllOf}
-use Rattle.law_checked.specs.Checked.{IsGiven}
+use Rattle.law_never_astray.specs.Formed.{AllOf}
+use Rattle.law_read_scripts.specs.Checked.{IsGiven}
 use Rattle.law_read_scripts.specs.Runs.{AreReadTo}
-use Rattle.law_read_scripts.proofs.Astray.{no_read_script_goes_astray}
+use Rattle.law_read_scripts.proofs.NeverAstray.{no_read_script_goes_astray}
 use Rattle.ev_top.specs.Headline.{NoRunGoesAstray}
 use Rattle.ev_top.specs.Machine.{greatest_depth}
 use Rattle.ev_top.specs.Programs.{AreRead, IsRead, name_found, name_of, names_for, safe_names}

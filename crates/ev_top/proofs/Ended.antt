@@ -10,8 +10,8 @@ use Rattle.law_local.specs.Mirrors.{RunMirrors}
 use Rattle.law_local.proofs.Texts.{texts_mirror}
 use Rattle.law_peers.specs.Steady.{RunsSteadily}
 use Rattle.law_schedule.specs.Scripts.{tree_at}
-use Rattle.law_script.specs.Accepted.{MeetsTheLaws}
-use Rattle.law_script.proofs.Meets.{meets}
+use Rattle.law_read_scripts.specs.Accepted.{MeetsTheLaws}
+use Rattle.law_read_scripts.proofs.Meets.{meets}
 use Rattle.ev_scope.specs.declared.accepted.Scoped.{Scoped}
 use Rattle.ev_script.specs.Rules.{IsAdmitted}
 use Rattle.ev_script.specs.declared.script.Script.{Script}

@@ -4,7 +4,7 @@ use Rattle.def_local.specs.Numbers as numbers
 use Rattle.law_local.specs.Mirrors.{RunMirrors}
 use Rattle.law_local.proofs.WholeRuns.{whole_runs_mirror}
 use Rattle.law_peers.specs.Steady.{RunsSteadily}
-use Rattle.law_script.specs.Accepted.{MeetsTheLaws}
+use Rattle.law_read_scripts.specs.Accepted.{MeetsTheLaws}
 use Rattle.law_steady.proofs.Anew.{lawful_steady}
 
 pub runs_are_steady : (script : machine.Script) → MeetsTheLaws script → RunsSteadily script

@@ -10,7 +10,7 @@ use Rattle.def_run.specs.World.{Program, Entry, NoticeLink, World, Goes, Stopped
 use Rattle.law_machine.specs.Breaks.{settled_value, SeveredStays}
 use Rattle.law_run.specs.Runs.{EachVat}
 use Rattle.law_halt.specs.Halted.{LeavesOf}
-use Rattle.law_severed.specs.Gifts.{SameGifts}
+use Rattle.law_gift.specs.Gifts.{SameGifts}
 use Rattle.law_gift.specs.Unopened.{UnopenedRest, UnopenedBreak}
 use Rattle.law_fate.specs.Fate.{fates, sent}
 use Rattle.law_fate.specs.Carry.{carries}

@@ -15,3 +15,6 @@ mod summary;
 
 pub use program::top;
 pub use status::{Refusal, Stage, Status};
+
+// The run of a script and a vat by itself, for those who call them with limits or programs of their own.
+pub use ev_world::{Program, RunEnd, Vat, VatStop, write_run};

@@ -34,10 +34,10 @@ use Rattle.law_renaming.specs.Alone.{start}
 use Rattle.law_acts.proofs.Sounds.{all_and, all_on, grown_by, grown_on, there_on}
 use Rattle.law_acts.proofs.Stands.{Met, itself, activation_met, before_back, tell_met, vat}
 use Rattle.law_acts.proofs.Weights.{IsBefore}
-use Rattle.law_eventual.proofs.Referring.{base_of, ground_of, inside_of, reads_before, sound_after}
-use Rattle.law_inside.proofs.Lines.{line_tells}
-use Rattle.law_inside.proofs.Sends as holds
-use Rattle.law_inside.specs.Inside.{Anything, EndsOf, InsideOf}
+use Rattle.law_acts.proofs.Referring.{base_of, ground_of, inside_of, reads_before, sound_after}
+use Rattle.law_acts.proofs.Lines.{line_tells}
+use Rattle.law_acts.proofs.Sends as holds
+use Rattle.law_acts.specs.Kinds.{Anything, EndsOf, InsideOf}
 
 pub closes_by : (q : Result (Unit {0}) Stop) (t : Interior) (out : inside.Out (Unit {0})) → inside.Gives q t out → Closed (closed_by q) t out
 unfolding closed_by stop_of

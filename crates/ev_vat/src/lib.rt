@@ -6,3 +6,6 @@ pub mod closing;
 pub mod vat;
 
 pub use vat::{Vat, VatStop};
+
+// What crates above name of a program, so that they need not stand on its crate themselves.
+pub use ev_room::Program;

@@ -16,7 +16,6 @@ ghost use Rattle.ev_refs.specs.Reading.{message_by};
 ghost use Rattle.ev_vat.specs.Vat.{ArrivalIs, ClosesSo, IsReady, MessageThere, StaysStopped, StepIs, TurnIs, UnlessMemory, closed_by, stop_in, stop_of, taken};
 ghost use Rattle.law_arrivals.specs.Arrivals.{NoteFits, vat_in};
 
-use def_kernel::Kernel;
 use ev_arrive::host::Host;
 use ev_arrive::notice::notice;
 use ev_base::{ActId, Limits, Memory, PromId, Seq, Value, VatId};
@@ -28,6 +27,7 @@ use ev_receive::arriving::arrive;
 use ev_receive::brought::Heard;
 use ev_receive::receiving::{Sight, receive};
 use ev_refs::{Message, Refs};
+use ev_room::Program;
 use ev_room::room::{new_activation, tell};
 use ev_settle::{finish, throw};
 use ev_word::Word;
@@ -118,7 +118,7 @@ fn begin(receiver: Value, inside: &mut Interior) -> Result<ActId, Memory>
 }
 
 /// The opening turn evaluates the program, where these nouns are bound to the names behind the vat's root, and resolves that root.
-fn open(program: &Kernel, nouns: &[Word], depth: u32, inside: &mut Interior) -> Result<(), VatStop>
+fn open(program: &Program, nouns: &[Word], depth: u32, inside: &mut Interior) -> Result<(), VatStop>
     requires sound { IsSound inside.old }
     ensures step { (w : World) (rest : List Words) → texts_of w ≡ inside.new.heap.texts ++ rest → inside.old.words.key ≡ w.key
         → StepIs w result inside.new (opening (names w) program.now depth (Prom 0) (roots_from 1 nouns.now) (vat_of w inside.old)) }
@@ -152,7 +152,7 @@ fn tell_taken(act: ActId, message: &Message, inside: &mut Interior) -> Result<()
 /// A turn takes a message, runs what its target does with it, and resolves its answer.
 #[tactic(auto, using(crate::proofs::Steps::target_there, crate::proofs::Steps::args_there))]
 fn take(
-    program: &Kernel,
+    program: &Program,
     depth: u32,
     message: &Message,
     inside: &mut Interior,
@@ -223,7 +223,7 @@ fn notice_cut(peer: VatId, host: &mut Host) -> Result<(), VatStop>
 
 /// The first message of the queue is taken, if there is one.
 #[tactic(auto, using(crate::proofs::Steps::front_there, crate::proofs::Steps::front_sound, crate::proofs::Steps::turn_takes, crate::proofs::Steps::turn_stops, crate::proofs::Steps::turn_idle))]
-fn take_first(program: &Kernel, depth: u32, inside: &mut Interior) -> Result<bool, VatStop>
+fn take_first(program: &Program, depth: u32, inside: &mut Interior) -> Result<bool, VatStop>
     requires sound { IsSound inside.old }
     ensures turn { (w : World) (rest : List Words) → texts_of w ≡ inside.new.heap.texts ++ rest → inside.old.words.key ≡ w.key
         → TurnIs w program.now depth result inside.old inside.new }
@@ -315,7 +315,7 @@ impl Vat {
     /// No node begins below `limits.depth` levels.
     pub fn first_turn(
         &mut self,
-        program: &Kernel,
+        program: &Program,
         nouns: &[Word],
         limits: Limits,
     ) -> Result<(), VatStop>
@@ -340,7 +340,7 @@ impl Vat {
     /// A turn takes the first message of the queue; it answers false exactly where the queue is empty, and then nothing changes.
     ///
     /// No node begins below `limits.depth` levels.
-    pub fn turn(&mut self, program: &Kernel, limits: Limits) -> Result<bool, VatStop>
+    pub fn turn(&mut self, program: &Program, limits: Limits) -> Result<bool, VatStop>
         requires ready { IsReady self.old }
         ensures turn { self.old.stopped ≡ None → (w : World) (rest : List Words) → texts_of w ≡ self.new.host.inside.heap.texts ++ rest → self.old.host.inside.words.key ≡ w.key
             → TurnIs w program.now limits.depth result self.old.host.inside self.new.host.inside }

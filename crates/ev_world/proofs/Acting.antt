@@ -1,5 +1,5 @@
 -- What a step of a vat came to in the code, in the run in numbers.
-use Rattle.std.proofs.Common.{◌≡◌, inl, inr, ℕ, Bool, ◌<◌, List, [], ◌++◌, Option, Some, None, Result, Ok, Err, get_or, length, map, refl, sym, ap, subst, ◌∙◌}
+use Rattle.std.proofs.Common.{◌≡◌, inl, inr, ℕ, Bool, ◌<◌, List, [], ◌++◌, Option, Some, None, Result, Ok, Err, get_or, length, refl, sym, ap, subst, ◌∙◌}
 use Rattle.std.specs.Prelude.{IsErr, IsErrAnd, filter, slice_get, slice_set}
 use Rattle.std.proofs.lemmas.List.{length-set}
 use Rattle.def_event.specs.Lines.{is_no_frame}
@@ -25,7 +25,6 @@ use Rattle.ev_outcome.specs.Standing.{NamesStand, ObjectsStand}
 use Rattle.ev_pass.specs.Reading.{names_under}
 use Rattle.ev_resident.specs.Standing.{IsResident, IsStepped}
 use Rattle.ev_resident.specs.declared.resident.Resident.{Resident}
-use Rattle.ev_scope.specs.declared.accepted.Scoped.{Scoped}
 use Rattle.ev_resident.specs.Vat.{IsReady, StopsWith}
 use Rattle.ev_resident.specs.declared.VatStop.{VatStop}
 use Rattle.ev_resident.specs.declared.VatStop.TheVariants.{Fuel, Deep, WordRepeated, Astray, Memory}
@@ -167,7 +166,7 @@ module _ (S : Script) (w : Vats) (u : ℕ) (m : Member) (b : Brought) (s : machi
     depth = took.limits ∙ at.depth;
     count = ap length took.residents ∙ length-set c.residents.items u q ∙ at.count;
     members = at.members;
-    programs = ap (map (λ (p : Scoped). p.tree)) took.programs ∙ at.programs;
+    programs = took.programs ∙ at.programs;
     nouns = took.nouns ∙ at.nouns;
     ways = stand;
     history = lines;

@@ -1,5 +1,5 @@
 -- What a step left and told is the state of the run after it.
-use Rattle.std.proofs.Common.{◌≡◌, ◌⊎◌, inl, inr, ℕ, Bool, zero, ◌<◌, List, ◌++◌, Option, Some, get_or, length, map, sym, ap, subst, ◌∙◌}
+use Rattle.std.proofs.Common.{◌≡◌, ◌⊎◌, inl, inr, ℕ, Bool, zero, ◌<◌, List, ◌++◌, Option, Some, get_or, length, sym, ap, subst, ◌∙◌}
 use Rattle.std.specs.Prelude.{drop, slice_get, slice_set}
 use Rattle.std.proofs.lemmas.List.{length-set}
 use Rattle.def_event.specs.declared.event.Event.{Event as ShownEvent}
@@ -26,7 +26,6 @@ use Rattle.ev_resident.specs.declared.outgoing.Outgoing.{Outgoing}
 use Rattle.ev_resident.specs.declared.resident.Resident.{Resident}
 use Rattle.ev_room.specs.Reading.{vat_of}
 use Rattle.ev_resident.specs.Vat.{IsReady}
-use Rattle.ev_scope.specs.declared.accepted.Scoped.{Scoped}
 use Rattle.ev_ways.specs.Rows.{Lane}
 use Rattle.ev_ways.specs.Standing.{WaysStand}
 use Rattle.ev_ways.proofs.Cuts.{shown_join}
@@ -202,7 +201,7 @@ module _ (S : Script) (w : Vats) (u : ℕ) (m : Member) (head : List Event) (b :
       members = length-set w.members u member_now ∙ mid.members;
       residents = residents_are rs e.residents.items f are;
       rooms = rooms_are rs e.residents.items f are;
-      programs = ap (map (λ (p : Scoped). p.tree)) programs ∙ mid.programs;
+      programs = programs ∙ mid.programs;
       nouns = nouns ∙ mid.nouns;
       ways = subst (λ (rows : List (List Lane)). WaysStand s.drawn (length S.vats) (left_by w u head m b s).ways rows) (sym ways) (pushes_stand s.drawn (length S.vats) u (frames_of s naming_now s.outbox b.connections) ys w.ways c.ways said.outgoing mid.ways);
       history = history ∙ lines_are ∙ ap (λ (v : Bool). told_so v (shown_events s.drawn (left_by w u head m b s).history)) (sym wire);

@@ -16,7 +16,6 @@ use Rattle.ev_room.specs.Reading.{roots_from}
 use Rattle.ev_resident.specs.MemberStanding.{with_draws}
 use Rattle.ev_pass.specs.Acts.{words_by}
 use Rattle.ev_pass.specs.Reading.{names_under}
-use Rattle.ev_scope.specs.declared.accepted.Scoped.{Scoped}
 use Rattle.ev_world.specs.Standing.{IsWorld}
 use Rattle.ev_world.specs.Steadily.{OpensSteadily, StepsSteadily}
 use Rattle.ev_world.specs.declared.world.World.{World}
@@ -26,12 +25,9 @@ use Rattle.law_peers.specs.Steady.{StepIsSteady}
 
 -- ---- programs and nouns
 
-same_at : {A B C : Type 0} (f : A → C) (g : B → C) (xs : List A) (ys : List B) (k : ℕ) (x : A) (y : B) → map f xs ≡ map g ys → slice_get xs k ≡ Some x → slice_get ys k ≡ Some y → f x ≡ g y
-same_at {C = C} f g xs ys k x y e i j =
-    only refl (ap (option_map f) (sym i) ∙ sym (slice_get-map f xs k) ∙ ap (λ (zs : List C). slice_get zs k) e ∙ slice_get-map g ys k ∙ ap (option_map g) j)
-
-pub tree_is : (S : Script) (w : Vats) (c : World) (u : ℕ) (x : Scoped) (p : Program) → IsWorld S w c → slice_get c.programs.items u ≡ Some x → slice_get S.vats u ≡ Some p → x.tree ≡ p.tree
-tree_is S w c u x p at i j = same_at (λ (z : Scoped). z.tree) (λ (z : Program). z.tree) c.programs.items S.vats u x p at.programs i j
+pub tree_is : (S : Script) (w : Vats) (c : World) (u : ℕ) (x : List Node) (p : Program) → IsWorld S w c → slice_get c.programs.items u ≡ Some x → slice_get S.vats u ≡ Some p → x ≡ p.tree
+tree_is S w c u x p at i j =
+    only refl (sym i ∙ ap (λ (zs : List (List Node)). slice_get zs u) at.programs ∙ slice_get-map (λ (z : Program). z.tree) S.vats u ∙ ap (option_map (λ (z : Program). z.tree)) j)
 
 nouns_are : (S : Script) (w : Vats) (c : World) (u : ℕ) (ns : List Words) (p : Program) → IsWorld S w c → slice_get c.nouns.items u ≡ Some ns → slice_get S.vats u ≡ Some p → ns ≡ map (name_at S.vats) p.knows
 nouns_are S w c u ns p at i j =
@@ -44,14 +40,14 @@ roots_given ps k (v ∷ vs) = ap (λ (bs : List (Binding Local)). record { noun 
 
 -- ---- the opening turn
 
-module _ (S : Script) (w : Vats) (u : ℕ) (p : Program) (m : Member) (c : World) (x : Scoped) (ns : List Words) (there : slice_get S.vats u ≡ Some p) (at : IsWorld S w c) (here : slice_get w.members u ≡ Some m) (program : slice_get c.programs.items u ≡ Some x)
+module _ (S : Script) (w : Vats) (u : ℕ) (p : Program) (m : Member) (c : World) (x : List Node) (ns : List Words) (there : slice_get S.vats u ≡ Some p) (at : IsWorld S w c) (here : slice_get w.members u ≡ Some m) (program : slice_get c.programs.items u ≡ Some x)
     (nouns : slice_get c.nouns.items u ≡ Some ns) where
   abbrev pub opened : Done Local (Unit {0})
-  opened = opening (names_under c.words.key) x.tree c.limits.depth (Prom 0) (roots_from 1 ns) (with_draws c.fuel (words_by c.words.key c.words.count) m.vat)
+  opened = opening (names_under c.words.key) x c.limits.depth (Prom 0) (roots_from 1 ns) (with_draws c.fuel (words_by c.words.key c.words.count) m.vat)
 
   opened_is : opened ≡ opening (numbers S) p.tree S.depth (Prom zero) (given S.vats 1 p.knows) (ready w m.vat)
   opened_is =
-      ap (λ (K : Naming Local Local). opening K x.tree c.limits.depth (Prom 0) (roots_from 1 ns) (with_draws c.fuel (words_by c.words.key c.words.count) m.vat)) (numbers_are S c.words.key at.key)
+      ap (λ (K : Naming Local Local). opening K x c.limits.depth (Prom 0) (roots_from 1 ns) (with_draws c.fuel (words_by c.words.key c.words.count) m.vat)) (numbers_are S c.words.key at.key)
       ∙ ap (λ (t : List Node). opening (numbers S) t c.limits.depth (Prom 0) (roots_from 1 ns) (with_draws c.fuel (words_by c.words.key c.words.count) m.vat)) (tree_is S w c u x p at program there)
       ∙ ap (λ (d : ℕ). opening (numbers S) p.tree d (Prom 0) (roots_from 1 ns) (with_draws c.fuel (words_by c.words.key c.words.count) m.vat)) at.depth
       ∙ ap (λ (bs : List (Binding Local)). opening (numbers S) p.tree S.depth (Prom 0) bs (with_draws c.fuel (words_by c.words.key c.words.count) m.vat)) (ap (roots_from 1) (nouns_are S w c u ns p at nouns there) ∙ roots_given S.vats 1 p.knows)

@@ -153,7 +153,7 @@ module _ (script : TheirScript) (programs : List Scoped) (depth : ℕ) where
       let trees = map (λ (p : Scoped). p.tree) programs in
       sym (trees_from (tree_in programs) trees zero script.vats (length-map programs (λ (p : Scoped). p.tree) ∙ many) (λ i. let at : zero + i ≡ i = omega arith in ap (tree_in programs) at))
 
-  pub begun : (c : World) → IsAdmitted script → length programs ≡ length script.vats → c.programs.items ≡ programs → AreStarted script (length script.vats) c.residents.items
+  pub begun : (c : World) → IsAdmitted script → length programs ≡ length script.vats → c.programs.items ≡ map (λ (p : Scoped). p.tree) programs → AreStarted script (length script.vats) c.residents.items
       → c.nouns.items ≡ map (λ (v : VatScript). map (name_at (bare script.vats)) v.knows) script.vats → c.ways ≡ fresh_rows (length script.vats) → c.words ≡ record { key = script.key; count = 0 }
       → c.fuel ≡ script.fuel → c.limits.depth ≡ depth → c.history ≡ [] → IsWorld S (begins S) c
   unfolding begins words_by shown_events
@@ -166,7 +166,7 @@ module _ (script : TheirScript) (programs : List Scoped) (depth : ℕ) where
     members = many_fresh S zero S.vats;
     residents = residents_stand c.residents.items admitted.knows started;
     rooms = rooms c.residents.items started;
-    programs = ap (map (λ (p : Scoped). p.tree)) same ∙ trees_are many;
+    programs = same ∙ trees_are many;
     nouns = nouns ∙ nouns_alike (tree_in programs) script.vats zero script.vats;
     ways = subst (λ (rows : List (List Lane)). WaysStand [] (length S.vats) (ways_from S.vats zero S.vats) rows) (sym (ways ∙ ap fresh_rows count_is)) (start_stands [] S.vats);
     history = history ∙ none_told c.wire;

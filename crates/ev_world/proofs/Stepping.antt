@@ -22,7 +22,6 @@ use Rattle.ev_pass.specs.Acts.{words_by}
 use Rattle.ev_pass.specs.Reading.{names_under}
 use Rattle.ev_resident.specs.Standing.{IsResident}
 use Rattle.ev_resident.specs.declared.resident.Resident.{Resident}
-use Rattle.ev_scope.specs.declared.accepted.Scoped.{Scoped}
 use Rattle.ev_resident.specs.declared.VatStop.{VatStop}
 use Rattle.ev_world.specs.Midway.{IsMidway}
 use Rattle.ev_world.specs.Standing.{Comes, HaltsAs, IsWorld}
@@ -55,9 +54,9 @@ answered S w u m c r is at here found call = let was : IsResident S w u m r = at
 abbrev pub OpensSo : {A : Type 0} → World → List Node → List Words → (A → List Sending) → Result A VatStop → Ours → Member → Type 0
 OpensSo {A} c t vs read answer q m = Steps {A = A} c.fuel (words_by c.words.key c.words.count) m (own m) read answer q (opening (names_under c.words.key) t c.limits.depth (Prom 0) (roots_from 1 vs))
 
-module _ (S : Script) (w : Vats) (u : ℕ) (p : Program) (c : World) (r : Resident) (x : Scoped) (ns : List Words) (t : List Node) (vs : List Words) (there : slice_get S.vats u ≡ Some p) (at : IsWorld S w c) (found : slice_get c.residents.items u ≡ Some r)
-    (program : slice_get c.programs.items u ≡ Some x) (nouns : slice_get c.nouns.items u ≡ Some ns) (tree : t ≡ x.tree) (names : vs ≡ ns) {A : Type 0} (read : A → List Sending) where
-  opens_so : (answer : Result A VatStop) (q : Ours) (m : Member) → OpensSo {A = A} c t vs read answer q m → OpensSo {A = A} c x.tree ns read answer q m
+module _ (S : Script) (w : Vats) (u : ℕ) (p : Program) (c : World) (r : Resident) (x : List Node) (ns : List Words) (t : List Node) (vs : List Words) (there : slice_get S.vats u ≡ Some p) (at : IsWorld S w c) (found : slice_get c.residents.items u ≡ Some r)
+    (program : slice_get c.programs.items u ≡ Some x) (nouns : slice_get c.nouns.items u ≡ Some ns) (tree : t ≡ x) (names : vs ≡ ns) {A : Type 0} (read : A → List Sending) where
+  opens_so : (answer : Result A VatStop) (q : Ours) (m : Member) → OpensSo {A = A} c t vs read answer q m → OpensSo {A = A} c x ns read answer q m
   opens_so answer q m call = subst (λ (z : List Node). OpensSo {A = A} c z ns read answer q m) tree (subst (λ (zs : List Words). OpensSo {A = A} c t zs read answer q m) names call)
 
   pub open_halts : (e : VatStop) (q : Ours) → Answers c r (OpensSo {A = A} c t vs read (Err e) q) → HaltsAs e u c.wire (open_member S u p w (slice_get w.members u)) c.history
@@ -120,9 +119,9 @@ set_twice [] i y z = refl
 set_twice (x ∷ xs) zero y z = refl
 set_twice {B = B} (x ∷ xs) (suc i) y z = ap (λ (ys : List B). x ∷ ys) (set_twice xs i y z)
 
-module _ (S : Script) (w : Vats) (u k : ℕ) (c : World) (r : Resident) (x : Scoped) (t : List Node) (at : IsWorld S w c) (found : slice_get c.residents.items u ≡ Some r) (program : slice_get c.programs.items u ≡ Some x) (tree : t ≡ x.tree)
+module _ (S : Script) (w : Vats) (u k : ℕ) (c : World) (r : Resident) (x : List Node) (t : List Node) (at : IsWorld S w c) (found : slice_get c.residents.items u ≡ Some r) (program : slice_get c.programs.items u ≡ Some x) (tree : t ≡ x)
     {A : Type 0} (read : A → List Sending) where
-  turns_to : (answer : Result (Option A) VatStop) (q : Ours) (m : Member) → slice_get w.members u ≡ Some m → Answers c r (TurnsTo {A = A} c t read answer q) → TurnsTo {A = A} c x.tree read answer q m
+  turns_to : (answer : Result (Option A) VatStop) (q : Ours) (m : Member) → slice_get w.members u ≡ Some m → Answers c r (TurnsTo {A = A} c t read answer q) → TurnsTo {A = A} c x read answer q m
   turns_to answer q m here call = subst (λ (z : List Node). TurnsTo {A = A} c z read answer q m) tree (answered S w u m c r (TurnsTo {A = A} c t read answer q) at here found call)
 
   its_program : (p : Program) × (slice_get S.vats u ≡ Some p)
@@ -162,7 +161,7 @@ module _ (S : Script) (w : Vats) (u k : ℕ) (c : World) (r : Resident) (x : Sco
       let y = receiver S w u c r at found in
       let m : Member = y.0 in
       let i = turns_to (Ok None) q.member m y.1 call in
-      let none = turns_none {A = A} c.fuel (words_by c.words.key c.words.count) m read i.0 q.member (λ v. taking (names_under c.words.key) x.tree c.limits.depth v) m.vat.queue i.2 in
+      let none = turns_none {A = A} c.fuel (words_by c.words.key c.words.count) m read i.0 q.member (λ v. taking (names_under c.words.key) x c.limits.depth v) m.vat.queue i.2 in
       let again : e.residents.items ≡ slice_set mid.residents.items u z =
       residents ∙ sym (ap (λ (rs : List Resident). slice_set rs u z) took.residents ∙ set_twice c.residents.items u q z) in (
         record w { history = w.history ++ Idle k ∷ [] },

@@ -1,5 +1,5 @@
 -- A turn, and one with no message to take.
-use Rattle.std.proofs.Common.{◌≡◌, ◌⊎◌, inl, inr, ℕ, Bool, List, [], ◌∷◌, ◌++◌, Option, Some, None, Ok, Err, length, map, refl, sym, ap, subst, ◌∙◌, append-nil}
+use Rattle.std.proofs.Common.{◌≡◌, ◌⊎◌, inl, inr, ℕ, Bool, List, [], ◌∷◌, ◌++◌, Option, Some, None, Ok, Err, length, refl, sym, ap, subst, ◌∙◌, append-nil}
 use Rattle.std.specs.Prelude.{slice_get, slice_set}
 use Rattle.std.proofs.lemmas.List.{length-set}
 use Rattle.def_event.specs.declared.event.Event.{Event as ShownEvent}
@@ -26,7 +26,6 @@ use Rattle.ev_resident.proofs.Worlds.{world_of}
 use Rattle.ev_resident.specs.Standing.{IsResident}
 use Rattle.ev_resident.specs.declared.resident.Resident.{Resident}
 use Rattle.ev_room.specs.Reading.{World as Seen, vat_of}
-use Rattle.ev_scope.specs.declared.accepted.Scoped.{Scoped}
 use Rattle.ev_resident.specs.declared.VatStop.{VatStop}
 use Rattle.ev_resident.specs.declared.VatStop.TheVariants.{Fuel, Deep, WordRepeated, Astray, Memory}
 use Rattle.ev_ways.proofs.Cuts.{shown_join}
@@ -72,17 +71,17 @@ turn_stops m read Memory c d h = tt
 
 -- ---- a turn
 
-module _ (S : Script) (w : Vats) (u : ℕ) (p : Program) (m : Member) (c : World) (x : Scoped) (at : IsWorld S w c) (program : slice_get c.programs.items u ≡ Some x) (there : slice_get S.vats u ≡ Some p) where
+module _ (S : Script) (w : Vats) (u : ℕ) (p : Program) (m : Member) (c : World) (x : List Node) (at : IsWorld S w c) (program : slice_get c.programs.items u ≡ Some x) (there : slice_get S.vats u ≡ Some p) where
   abbrev pub takes : Message Local → machine.Act Local (Unit {0})
-  takes q = taking (names_under c.words.key) x.tree c.limits.depth q
+  takes q = taking (names_under c.words.key) x c.limits.depth q
 
-  tree_now : x.tree ≡ tree_at S.vats u
+  tree_now : x ≡ tree_at S.vats u
   unfolding tree_at
   tree_now = tree_is S w c u x p at program there ∙ ap (λ (o : Option Program). elim o as (λ _. List Node) [ Some q ↦ q.tree | None ↦ [] ]) (sym there)
 
   pub takes_is : (q : Message Local) (qs : List (Message Local)) → takes q (record (with_draws c.fuel (words_by c.words.key c.words.count) m.vat) { queue = qs }) ≡ taking (numbers S) (tree_at S.vats u) S.depth q (record (ready w m.vat) { queue = qs })
   takes_is q qs =
-      ap (λ (K : Naming Local Local). taking K x.tree c.limits.depth q (record (with_draws c.fuel (words_by c.words.key c.words.count) m.vat) { queue = qs })) (numbers_are S c.words.key at.key)
+      ap (λ (K : Naming Local Local). taking K x c.limits.depth q (record (with_draws c.fuel (words_by c.words.key c.words.count) m.vat) { queue = qs })) (numbers_are S c.words.key at.key)
       ∙ ap (λ (t : List Node). taking (numbers S) t c.limits.depth q (record (with_draws c.fuel (words_by c.words.key c.words.count) m.vat) { queue = qs })) tree_now
       ∙ ap (λ (d : ℕ). taking (numbers S) (tree_at S.vats u) d q (record (with_draws c.fuel (words_by c.words.key c.words.count) m.vat) { queue = qs })) at.depth
       ∙ ap (λ (v : machine.Vat Local). taking (numbers S) (tree_at S.vats u) S.depth q (record v { queue = qs })) (ready_is w c.fuel (words_by c.words.key c.words.count) m.vat at.fuel at.drawn)
@@ -153,7 +152,7 @@ idles S w u k m before c mid e r q z found at here took is_found same rested res
   members = at.members;
   residents = λ h n x i f. let is = resident_is h n x i f (same_or_not u h) in record { member = is.member; ready = is.ready; key = is.key; names = is.names; objects = is.objects };
   rooms = λ h x f. room_is h x f (same_or_not u h);
-  programs = ap (map (λ (p : Scoped). p.tree)) (programs ∙ took.programs) ∙ at.programs;
+  programs = (programs ∙ took.programs) ∙ at.programs;
   nouns = nouns ∙ took.nouns ∙ at.nouns;
   ways = subst (λ (rows : List (List Lane)). WaysStand w.drawn (length S.vats) w.ways rows) (sym ways) at.ways;
   history =

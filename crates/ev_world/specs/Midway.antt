@@ -14,7 +14,6 @@ use Rattle.ev_naming.specs.Standing.{Says, mails_of}
 use Rattle.ev_outcome.specs.Standing.{NamesStand, ObjectsStand}
 use Rattle.ev_resident.specs.Standing.{IsResident, IsStepped}
 use Rattle.ev_resident.specs.declared.resident.Resident.{Resident}
-use Rattle.ev_scope.specs.declared.accepted.Scoped.{Scoped}
 use Rattle.ev_resident.specs.Vat.{IsReady}
 use Rattle.ev_ways.specs.Standing.{WaysStand}
 use Rattle.ev_world.specs.Standing.{told_so}
@@ -52,7 +51,7 @@ pub record IsMidway (S : Script) (w : Vats) (u : ℕ) (m : Member) (head : List 
   pub depth : c.limits.depth ≡ S.depth
   pub count : length c.residents.items ≡ length S.vats
   pub members : length w.members ≡ length S.vats
-  pub programs : map (λ (p : Scoped). p.tree) c.programs.items ≡ map (λ (p : Program). p.tree) S.vats
+  pub programs : c.programs.items ≡ map (λ (p : Program). p.tree) S.vats
   pub nouns : c.nouns.items ≡ map (λ (p : Program). map (name_at S.vats) p.knows) S.vats
   pub ways : WaysStand s.drawn (length S.vats) w.ways c.ways
   pub history : c.history ≡ told_so c.wire (shown_events s.drawn (w.history ++ head))

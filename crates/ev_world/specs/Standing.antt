@@ -10,7 +10,6 @@ use Rattle.def_run.specs.World.{Program, Script, name_at}
 use Rattle.ev_pass.specs.Acts.{words_by}
 use Rattle.ev_resident.specs.Standing.{IsResident}
 use Rattle.ev_resident.specs.declared.resident.Resident.{Resident}
-use Rattle.ev_scope.specs.declared.accepted.Scoped.{Scoped}
 use Rattle.ev_resident.specs.Vat.{IsReady}
 use Rattle.ev_resident.specs.declared.VatStop.{VatStop}
 use Rattle.ev_resident.specs.declared.VatStop.TheVariants.{Fuel, Deep, WordRepeated, Astray, Memory}
@@ -37,7 +36,7 @@ pub record IsWorld (S : Script) (w : Vats) (c : World) : Type 0 where
   pub members : length w.members ≡ length S.vats
   pub residents : (u : ℕ) (m : Member) (r : Resident) → slice_get w.members u ≡ Some m → slice_get c.residents.items u ≡ Some r → IsResident S w u m r
   pub rooms : (u : ℕ) (r : Resident) → slice_get c.residents.items u ≡ Some r → length r.names.naming.objects ≡ length S.vats
-  pub programs : map (λ (p : Scoped). p.tree) c.programs.items ≡ map (λ (p : Program). p.tree) S.vats
+  pub programs : c.programs.items ≡ map (λ (p : Program). p.tree) S.vats
   pub nouns : c.nouns.items ≡ map (λ (p : Program). map (name_at S.vats) p.knows) S.vats
   pub ways : WaysStand w.drawn (length S.vats) w.ways c.ways
   pub history : c.history ≡ told_so c.wire (shown_events w.drawn w.history)

@@ -18,3 +18,7 @@ pub use events::{Ran, run_events};
 pub use run::RunEnd;
 pub use writing::Unfinished;
 pub use written::write_run;
+
+// What programs and tests name of a vat by itself, so that they need not stand on its crate.
+pub use ev_resident::{Vat, VatStop};
+pub use ev_room::Program;

@@ -3,6 +3,7 @@
 ghost use Rattle.std.specs.Prelude.{◌≡◌, IfOk, length, map};
 ghost use Rattle.def_local.specs.Numbers.{begins};
 ghost use Rattle.def_run.specs.World.{knowers, name_at};
+ghost use Rattle.ev_scope.specs.declared.accepted.Scoped.{Scoped as Tree};
 ghost use Rattle.ev_script.specs.Rules.{IsAdmitted};
 ghost use Rattle.ev_script.specs.declared.script.VatScript.{VatScript as Vat};
 ghost use Rattle.ev_world.specs.Running.{script_of};
@@ -14,6 +15,7 @@ use ev_base::{Limits, Memory, Seq, VatId};
 use ev_event::History;
 use ev_intro::Words;
 use ev_resident::Resident;
+use ev_room::Program;
 use ev_scope::Scoped;
 use ev_script::{Script, VatScript};
 use ev_ways::Ways;
@@ -92,6 +94,18 @@ fn residents_of(alloc: Global, script: &Script, count: u8) -> Result<Vec<Residen
     Ok(residents)
 }
 
+/// The programs of these trees, in order.
+fn programs_of(alloc: Global, mut trees: Vec<Scoped>) -> Result<Vec<Program>, Memory>
+    ensures { IfOk result (λ programs. programs.items ≡ map (λ (tree : Tree). tree.tree) trees.items) }
+{
+    let mut programs = Vec::new(alloc);
+    while !trees.is_empty() {
+        let tree = trees.remove(0).into_tree();
+        programs.push(Program::new(alloc, tree)?)?;
+    }
+    Ok(programs)
+}
+
 impl World {
     /// The vats of a script at the start of its run, each with its program.
     pub(crate) fn start(
@@ -111,6 +125,7 @@ impl World {
         let Ok(count) = u8::try_from(vats.len()) else {
             return Err(Memory);
         };
+        let programs = programs_of(alloc, programs)?;
         let residents = residents_of(alloc, script, count)?;
         let nouns = all_nouns(alloc, vats)?;
         let ways = Ways::new(alloc, count)?;

@@ -3,8 +3,7 @@
 ghost use Rattle.std.specs.Prelude.{◌≡◌, ◌+◌, ◌<◌, ◌^◌, Some, IfOk, OnOk, length, map, slice_get, zero};
 ghost use Rattle.def_local.specs.Numbers.{Runs, Vats, begins, open_from, open_member, step, step_number, steps_from};
 ghost use Rattle.def_run.specs.World as their;
-ghost use Rattle.def_run.specs.World.{Program};
-ghost use Rattle.def_run.specs.World.{Script as TheirScript};
+ghost use Rattle.def_run.specs.World.{Program as TheirProgram, Script as TheirScript};
 ghost use Rattle.ev_world.specs.Ends.{course_of};
 ghost use Rattle.ev_world.specs.Running.{script_of};
 ghost use Rattle.ev_world.specs.Standing.{AreReady, CourseIs, IsWorld, RunIs};
@@ -20,7 +19,7 @@ use ev_event::History;
 use ev_intro::Words;
 use ev_naming::Told;
 use ev_resident::{Resident, VatStop};
-use ev_scope::Scoped;
+use ev_room::Program;
 use ev_script::{Entry, Script};
 use ev_ways::Ways;
 use ev_ways::telling::tell_lost;
@@ -39,7 +38,7 @@ pub(crate) struct Halted {
 pub(crate) struct World {
     /// By their numbers.
     pub(crate) residents: Vec<Resident>,
-    pub(crate) programs: Vec<Scoped>,
+    pub(crate) programs: Vec<Program>,
     /// Of each vat the nouns for the vats that it knows, in order.
     pub(crate) nouns: Vec<Seq<Word>>,
     pub(crate) ways: Ways,
@@ -55,7 +54,7 @@ impl World {
     /// The opening turn of that vat.
     pub(crate) fn open(&mut self, alloc: Global, vat: usize) -> Result<(), VatStop>
         requires ready { AreReady self.old.residents.items }
-        ensures step { (S : TheirScript) (w : Vats) (p : Program) → slice_get S.vats vat ≡ Some p → IsWorld S w self.old → OpensSteadily S vat p w
+        ensures step { (S : TheirScript) (w : Vats) (p : TheirProgram) → slice_get S.vats vat ≡ Some p → IsWorld S w self.old → OpensSteadily S vat p w
             → CourseIs S result vat (open_member S vat p w (slice_get w.members vat)) self.new }
         ensures ready { OnOk result (AreReady self.new.residents.items) }
         ensures wire { self.new.wire ≡ self.old.wire }
@@ -75,7 +74,7 @@ impl World {
         let sendings = resident.first_turn(
             self.fuel,
             &mut self.words,
-            program.tree(),
+            program,
             nouns.as_slice(),
             self.limits,
         )?;
@@ -108,8 +107,7 @@ impl World {
             return Err(VatStop::Memory);
         };
         let before = exports_of(alloc, &resident.member, count)?;
-        let Some(sendings) = resident.turn(self.fuel, &mut self.words, program.tree(), self.limits)?
-        else {
+        let Some(sendings) = resident.turn(self.fuel, &mut self.words, program, self.limits)? else {
             self.fuel = resident.rest(&mut self.words);
             self.history.push(Event::Idle(number))?;
             return Ok(());

@@ -16,3 +16,13 @@ pub mod Stands
 pub mod Takings
 pub mod Weights
 pub mod Words
+pub mod Lists
+pub mod Follows
+pub mod Acts
+pub mod Passes
+pub mod Settles
+pub mod Sends
+pub mod Lines
+pub mod Promises
+pub mod Referring
+pub mod EventualSends

@@ -44,12 +44,12 @@ use Rattle.ev_arrive.specs.declared.host.Subject.{Subject}
 use Rattle.ev_arrive.specs.declared.host.Subject.TheVariants as subject
 use Rattle.law_acts.proofs.Following.{every_got}
 use Rattle.law_acts.proofs.Sounds.{all_on, there_on}
-use Rattle.law_eventual.proofs.Referring.{base_of, each_of, ground_of, inside_of}
-use Rattle.law_inside.proofs.Acts.{draw_of, refer, send_out_of, tell_of, then_of, to_tell_of, unless_of, with_known}
-use Rattle.law_inside.proofs.Passes.{inform_of}
-use Rattle.law_inside.proofs.Sends.{resolve_of}
-use Rattle.law_inside.proofs.Settles.{come_of, forward_of, settle_of}
-use Rattle.law_inside.specs.Inside.{Anything, Base, EndsOf, InsideOf, ReferencesIn, StopOf}
+use Rattle.law_acts.proofs.Referring.{base_of, each_of, ground_of, inside_of}
+use Rattle.law_acts.proofs.Acts.{draw_of, refer, send_out_of, tell_of, then_of, to_tell_of, unless_of, with_known}
+use Rattle.law_acts.proofs.Passes.{inform_of}
+use Rattle.law_acts.proofs.Sends.{resolve_of}
+use Rattle.law_acts.proofs.Settles.{come_of, forward_of, settle_of}
+use Rattle.law_acts.specs.Kinds.{Anything, Base, EndsOf, InsideOf, ReferencesIn, StopOf}
 use Rattle.law_arrivals.specs.Arrivals.{EndsSound, Leaves, Whatever}
 use Rattle.law_arrivals.proofs.Leaving.{Sounds, leaves_inside, leaves_on, leaves_same, more_grown, sounds_and, sounds_at, sounds_give, sounds_if, sounds_then, sounds_within, then_leaves}
 

@@ -17,7 +17,7 @@ use Rattle.ev_receive.specs.Learning.{are_kept, is_kept, keep_list, learn, learn
 use Rattle.ev_receive.proofs.Fits.{all_fit_learnt, fits_learnt}
 use Rattle.ev_settle.specs.Changes.{come}
 use Rattle.law_acts.proofs.Sounds.{all_and, grown_on, grown_same, last_list, list_sound, micro_sound, there_on}
-use Rattle.law_inside.specs.Inside.{Anything, StopOf}
+use Rattle.law_acts.specs.Kinds.{Anything, StopOf}
 use Rattle.law_arrivals.specs.Arrivals.{EndsIn, EndsSound, MoreLists, Whatever}
 use Rattle.law_arrivals.proofs.Leaving.{leaves_same, loosened, more_grown, then_leaves}
 use Rattle.law_arrivals.proofs.Arrives.{come_sounds, learn_gift_sounds}

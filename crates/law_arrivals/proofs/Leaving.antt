@@ -10,8 +10,8 @@ use Rattle.ev_pass.specs.declared.interior.Stop.{Stop}
 use Rattle.ev_room.specs.Sound.{Grown, IsSound, is_there}
 use Rattle.ev_arrive.specs.Acts.{Act, Out, and_then, around, ◌>>=◌, ◌>>◌, give, within}
 use Rattle.ev_arrive.specs.declared.host.Host.{Host}
-use Rattle.law_inside.specs.Inside.{Anything, EndsOf, InsideOf, StopOf}
-use Rattle.law_eventual.proofs.Referring.{base_of, sound_after}
+use Rattle.law_acts.specs.Kinds.{Anything, EndsOf, InsideOf, StopOf}
+use Rattle.law_acts.proofs.Referring.{base_of, sound_after}
 use Rattle.law_arrivals.specs.Arrivals.{EndsIn, EndsSound, Leaves, MoreLists, Whatever}
 
 -- ---- lists alone

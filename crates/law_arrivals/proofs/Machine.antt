@@ -25,8 +25,8 @@ use Rattle.ev_receive.specs.declared.brought.Heard.{Heard}
 use Rattle.ev_receive.specs.declared.receiving.Sight.{Sight}
 use Rattle.ev_room.specs.Reading.{World, beside, cell_of, line_of, names, referred_line, texts_of, thing_of, vat_of}
 use Rattle.ev_room.specs.Sound.{IsSound}
-use Rattle.law_eventual.proofs.Referring.{reads_before}
-use Rattle.law_inside.proofs.Lines.{line_tells}
+use Rattle.law_acts.proofs.Referring.{reads_before}
+use Rattle.law_acts.proofs.Lines.{line_tells}
 use Rattle.law_arrivals.specs.Arrivals.{EndsSound, Means, MoreLists, NoteFits, vat_in}
 use Rattle.law_arrivals.proofs.Arrives as sounds
 use Rattle.law_arrivals.proofs.Receives as notes

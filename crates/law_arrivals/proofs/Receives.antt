@@ -26,7 +26,7 @@ use Rattle.ev_receive.specs.declared.brought.Heard.{Heard}
 use Rattle.ev_receive.specs.declared.brought.Heard.TheVariants.{Deliver, Open, Ask, Settled, Elsewhere, Shorten}
 use Rattle.ev_receive.specs.declared.receiving.Sight.{Sight}
 use Rattle.law_acts.proofs.Sounds.{all_on}
-use Rattle.law_inside.specs.Inside.{StopOf}
+use Rattle.law_acts.specs.Kinds.{StopOf}
 use Rattle.law_arrivals.specs.Arrivals.{EndsSound, Leaves, NoteFits, Whatever}
 use Rattle.law_arrivals.proofs.Arrives.{arrive_ask_sounds, arrive_elsewhere_sounds, arrive_open_sounds, arrive_shorten_sounds, deliver_ends, draw_sounds, learn_message_sounds, learn_name_sounds, learn_subject_sounds, named_there, settle_ends}
 use Rattle.law_arrivals.proofs.Learns.{AllThere, OneThere, learn_each_ends, learn_ends}

@@ -17,7 +17,7 @@ use Rattle.ev_receive.specs.Bringing.{all_parts, part}
 use Rattle.ev_receive.specs.Fitting.{AllFit, Fits}
 use Rattle.ev_receive.specs.declared.brought.Heard.{Heard}
 use Rattle.ev_receive.specs.declared.brought.Heard.TheVariants.{Deliver, Open, Ask, Settled, Elsewhere, Shorten}
-use Rattle.law_inside.specs.Inside.{StopOf}
+use Rattle.law_acts.specs.Kinds.{StopOf}
 
 -- ---- what is left
 

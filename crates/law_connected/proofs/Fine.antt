@@ -4,12 +4,13 @@ use Rattle.std.specs.Prelude.{slice_get, nat_le, codes}
 use Rattle.def_machine.specs.Values.{Words, Value, Null, Prim, Items, Naming}
 use Rattle.def_machine.specs.State.{Bound, Fixed, Slot, Binding, Scope, Cell, View, Thing, Made, Ejector, Audition, Resolver, Happened, Called, SlotMade, SlotRead, SlotWrote, ListMade, EjectorMade, Vat, Stop, Done, Gives, Throws, Ejects, Stops, Act, ◌>>=◌, ◌>>◌, and_then, for_some, end_by, ending, give, throw, stop, eject, look, tell, spend, spent, new_thing, kill, change, dead, new_slot, holding, write_slot, new_list}
 use Rattle.def_machine.specs.Refs.{Place}
+use Rattle.def_machine.specs.Free.{same_words}
 use Rattle.def_machine.specs.Native.{Reply, Says, Writes, Lists as Listed, Iterates, Fails, Asked, MakesList, Ranges, Same as SameEver, Compares, Loops, SendsTo, CallsTo, MakesPromise, Breaks, Tells, Whens, ThrowsIt, IsStamped, Coerces, AddsNull, NoMethod}
 use Rattle.def_machine.specs.Scopes.{Answer, Answers, AuditionAsk, GetsForm, GetsGuard, Asks, NoAuditionAsk, ResolverAsk, Resolves, Smashes, NoResolverAsk}
 use Rattle.law_machine.proofs.StepLaws.{get_append}
-use Rattle.law_connected.specs.Known.{Item, AValue, ASlot, IsAmong, AllOf, IsThing, Knows, told as told_by, tells, by, values}
+use Rattle.law_connected.specs.Known.{Item, AValue, AGuard, ASlot, IsAmong, AllOf, IsThing, Knows, told as told_by, tells, by, values}
 use Rattle.law_natives.specs.Natives.{ReplyHas, AskedHas}
-use Rattle.law_connected.specs.Connected.{served, open_after, Judges, GivenBack, LineWell, uses, itself}
+use Rattle.law_connected.specs.Connected.{served, open_after, Judges, GivenBack, LineWell, callee, uses, itself}
 use Rattle.law_connected.specs.ConnectedLaws as laws
 use Rattle.law_connected.proofs.Traces.{among_last}
 use Rattle.law_connected.specs.Settlings.{IsCaused, IsResolver, IsHanded, IsGiven, SettlesWell, Follows}
@@ -19,6 +20,7 @@ use Rattle.law_connected.specs.Activations.{Rises}
 use Rattle.law_connected.specs.Told.{ReadTold}
 use Rattle.law_connected.specs.News.{thing_made, slot_made, list_made}
 use Rattle.law_connected.proofs.Rising.{rises_line, rises_new, length_end}
+use Rattle.law_connected.proofs.Adding.{adds_line, adds_new}
 use Rattle.law_connected.proofs.Idle.{Idle, IdleEnds}
 use Rattle.law_connected.proofs.Ground.{Ground, all_map, opens, with_line, opens_last, idles_opens, held, Has, Knew, ViewKnown, Judged, Grows, Good, has_up, resolver_up, thing_up, among_up, judges_up, view_up, judged_up, given_up, grows_same, grows_line, grows_trans, grows_by, PutTold, put_up, CellTold, makes_none, good_block, good_line, good_by, idles_grows, idles_good}
 
@@ -33,6 +35,10 @@ pub data Fact (N : Type 0) : Type 0 where
   -- the activation is that
   IsAct : ℕ → Fact N
   IsValue : Value N → Fact N
+  -- it is known as a guard
+  IsGuard : Value N → Fact N
+  -- it may be called so
+  IsCallee : Value N → Words → List (Value N) → Fact N
   AreValues : List (Value N) → Fact N
   AreLists : List (List (Value N)) → Fact N
   IsSlot : ℕ → Fact N
@@ -48,7 +54,8 @@ pub data Fact (N : Type 0) : Type 0 where
   Leads : Value N → Value N → Fact N
   IsReply : Reply N → Fact N
   IsAsked : Asked N → Fact N
-  IsAuditionAsk : AuditionAsk N → Fact N
+  -- what is asked of an audition under that verb
+  IsAuditionAsk : Words → AuditionAsk N → Fact N
   -- it made that ejector
   MadeEjector : ℕ → Fact N
   -- what was handed to an ejector
@@ -61,8 +68,8 @@ pub data Fact (N : Type 0) : Type 0 where
   -- what an audition with that view may be made for
   IsJudging : View N → Fact N
   IsJudged : ℕ → View N → Fact N
-  -- what a receiver that begins no activation may give back
-  MayGive : Value N → Value N → Fact N
+  -- what a receiver that begins no activation may give back under that verb
+  MayGive : Value N → Words → Value N → Fact N
   MayThing : ℕ → Option (Thing N) → Fact N
   -- where a followed value is
   IsPlaced : Value N → Place N → Fact N
@@ -176,7 +183,7 @@ written_guards (x ∷ cs) (suc n) (suc k) v c e = written_guards cs n k v c e
 
 module _ {N W : Type 0} (K : Naming N W) (E : Ground N W) (a : ℕ) where
   abbrev pub BoundKnown : Vat N → Bound N → Type 0
-  BoundKnown s (Fixed v g) = Knew K E s a v × Knew K E s a g
+  BoundKnown s (Fixed v g) = Knew K E s a v × Has K E s a (AGuard g)
   BoundKnown s (Slot k) = Has K E s a (ASlot k)
 
   abbrev pub NounKnown : Vat N → Binding N → Type 0
@@ -185,11 +192,11 @@ module _ {N W : Type 0} (K : Naming N W) (E : Ground N W) (a : ℕ) where
   abbrev pub AskedKnown : Vat N → Asked N → Type 0
   AskedKnown s q = AskedHas (Knew K E s a) q
 
-  abbrev pub AuditionAskKnown : Vat N → AuditionAsk N → Type 0
-  AuditionAskKnown s GetsForm = Unit {0}
-  AuditionAskKnown s (GetsGuard x) = Unit {0}
-  AuditionAskKnown s (Asks x) = Knew K E s a x
-  AuditionAskKnown s NoAuditionAsk = Unit {0}
+  abbrev pub AuditionAskKnown : Vat N → Words → AuditionAsk N → Type 0
+  AuditionAskKnown s verb GetsForm = Unit {0}
+  AuditionAskKnown s verb (GetsGuard x) = same_words (codes "getGuard") verb ≡ true
+  AuditionAskKnown s verb (Asks x) = Knew K E s a x
+  AuditionAskKnown s verb NoAuditionAsk = Unit {0}
 
   abbrev pub Handed : Vat N → ℕ → Value N → Type 0
   Handed s n v = (b : ℕ) × (x : Value N) × (verb : Words) × (args : List (Value N)) × IsAmong (Called b x verb args None) s.happened × IsThing K E.start.vat.known s.happened x n × IsAmong v (Null ∷ args)
@@ -218,6 +225,8 @@ module _ {N W : Type 0} (K : Naming N W) (E : Ground N W) (a : ℕ) where
   Holds s (Also A B) = Holds s A × Holds s B
   Holds s (IsAct b) = b ≡ a
   Holds s (IsValue v) = Knew K E s a v
+  Holds s (IsGuard v) = Has K E s a (AGuard v)
+  Holds s (IsCallee x verb args) = Has K E s a (callee x verb args)
   Holds s (AreValues vs) = AllOf (Knew K E s a) vs
   Holds s (AreLists vss) = AllOf (AllOf (Knew K E s a)) vss
   Holds s (IsSlot k) = Has K E s a (ASlot k)
@@ -225,12 +234,12 @@ module _ {N W : Type 0} (K : Naming N W) (E : Ground N W) (a : ℕ) where
   Holds s (IsScope here) = (here.act ≡ a) × AllOf (NounKnown s) here.nouns × (served (opens s) ≡ None)
   Holds s (MayValue o) = MayBe (Knew K E s a) o
   Holds s (MayBound o) = MayBe (BoundKnown s) o
-  Holds s (MayCell k o) = MayBe (λ c. Knew K E s a c.guard × PutTold K E s k c.value) o
+  Holds s (MayCell k o) = MayBe (λ c. Has K E s a (AGuard c.guard) × PutTold K E s k c.value) o
   Holds s (WasPut k v) = PutTold K E s k v
   Holds s (Leads x y) = Follows K E.start s.happened x y
   Holds s (IsReply r) = ReplyHas (Knew K E s a) r
   Holds s (IsAsked q) = AskedKnown s q
-  Holds s (IsAuditionAsk q) = AuditionAskKnown s q
+  Holds s (IsAuditionAsk verb q) = AuditionAskKnown s verb q
   Holds s (MadeEjector j) = IsAmong (EjectorMade a (K.object j)) s.happened
   Holds s (WasHanded n v) = Handed s n v
   Holds s (MayHand n o) = MayBe (Handed s n) o
@@ -238,7 +247,7 @@ module _ {N W : Type 0} (K : Naming N W) (E : Ground N W) (a : ℕ) where
   Holds s (IsAt x i) = IsThing K E.start.vat.known s.happened x i
   Holds s (IsJudging view) = Judging s view
   Holds s (IsJudged i view) = Judged K E s i view
-  Holds s (MayGive x v) = GivenBack K (held K E s) s.happened a x None v
+  Holds s (MayGive x verb v) = GivenBack K (held K E s) s.happened a x verb None v
   Holds s (MayThing i o) = MayBe (ThingThere s i) o
   Holds s (IsPlaced y p) = PlacedAt K E.start y p
   Holds s (IsLine e) = IsAmong e s.happened
@@ -284,7 +293,7 @@ module _ {N W : Type 0} (K : Naming N W) (E : Ground N W) (a : ℕ) where
     knew_up v h = has_up K E s t g a (AValue v) h
 
     bound_up : (b : Bound N) → BoundKnown s b → BoundKnown t b
-    bound_up (Fixed v k) h = (knew_up v h.0, knew_up k h.1)
+    bound_up (Fixed v k) h = (knew_up v h.0, has_up K E s t g a (AGuard k) h.1)
     bound_up (Slot k) h = has_up K E s t g a (ASlot k) h
 
     reply_up : (r : Reply N) → ReplyHas (Knew K E s a) r → ReplyHas (Knew K E t a) r
@@ -312,11 +321,11 @@ module _ {N W : Type 0} (K : Naming N W) (E : Ground N W) (a : ℕ) where
     asked_up (AddsNull x) h = knew_up x h
     asked_up NoMethod h = tt
 
-    ask_up : (q : AuditionAsk N) → AuditionAskKnown s q → AuditionAskKnown t q
-    ask_up GetsForm h = tt
-    ask_up (GetsGuard x) h = tt
-    ask_up (Asks x) h = knew_up x h
-    ask_up NoAuditionAsk h = tt
+    ask_up : (verb : Words) (q : AuditionAsk N) → AuditionAskKnown s verb q → AuditionAskKnown t verb q
+    ask_up verb GetsForm h = tt
+    ask_up verb (GetsGuard x) h = h
+    ask_up verb (Asks x) h = knew_up x h
+    ask_up verb NoAuditionAsk h = tt
 
     pub handed_up : (n : ℕ) (v : Value N) → Handed s n v → Handed t n v
     handed_up n v h = (h.0, h.1, h.2, h.3, among_up K E s t g (Called h.0 h.1 h.2 h.3 None) h.4, thing_up K E s t g h.1 n h.5, h.6)
@@ -351,6 +360,8 @@ module _ {N W : Type 0} (K : Naming N W) (E : Ground N W) (a : ℕ) where
     holds_up (Also A B) e h = (holds_up A e.0 h.0, holds_up B e.1 h.1)
     holds_up (IsAct b) e h = h
     holds_up (IsValue v) e h = knew_up v h
+    holds_up (IsGuard v) e h = has_up K E s t g a (AGuard v) h
+    holds_up (IsCallee x verb args) e h = has_up K E s t g a (callee x verb args) h
     holds_up (AreValues vs) e h = all_map _ _ knew_up vs h
     holds_up (AreLists vss) e h = all_map _ _ (λ vs k. all_map _ _ knew_up vs k) vss h
     holds_up (IsSlot k) e h = has_up K E s t g a (ASlot k) h
@@ -358,12 +369,12 @@ module _ {N W : Type 0} (K : Naming N W) (E : Ground N W) (a : ℕ) where
     holds_up (IsScope here) e h = (h.0, all_map _ _ (λ b k. bound_up b.bound k) here.nouns h.1, ap served e ∙ h.2)
     holds_up (MayValue o) e h = may_up _ _ knew_up o h
     holds_up (MayBound o) e h = may_up _ _ bound_up o h
-    holds_up (MayCell k o) e h = may_up _ _ (λ c m. (knew_up c.guard m.0, put_up K E s t g k c.value m.1)) o h
+    holds_up (MayCell k o) e h = may_up _ _ (λ c m. (has_up K E s t g a (AGuard c.guard) m.0, put_up K E s t g k c.value m.1)) o h
     holds_up (WasPut k v) e h = put_up K E s t g k v h
     holds_up (Leads x y) e h = leads_up x y h
     holds_up (IsReply r) e h = reply_up r h
     holds_up (IsAsked q) e h = asked_up q h
-    holds_up (IsAuditionAsk q) e h = ask_up q h
+    holds_up (IsAuditionAsk verb q) e h = ask_up verb q h
     holds_up (MadeEjector j) e h = among_up K E s t g (EjectorMade a (K.object j)) h
     holds_up (WasHanded n v) e h = handed_up n v h
     holds_up (MayHand n o) e h = may_up _ _ (handed_up n) o h
@@ -371,7 +382,7 @@ module _ {N W : Type 0} (K : Naming N W) (E : Ground N W) (a : ℕ) where
     holds_up (IsAt x i) e h = thing_up K E s t g x i h
     holds_up (IsJudging view) e h = judging_up view e h
     holds_up (IsJudged i view) e h = judged_up K E s t g i view h
-    holds_up (MayGive x v) e h = given_up K E s t g a x None v h
+    holds_up (MayGive x verb v) e h = given_up K E s t g a x verb None v h
     holds_up (MayThing i o) e h = may_up _ _ (there_up i) o h
     holds_up (IsPlaced y p) e h = h
     holds_up (IsLine l) e h = among_up K E s t g l h
@@ -386,6 +397,8 @@ module _ {N W : Type 0} (K : Naming N W) (E : Ground N W) (a : ℕ) where
   all_keep s t e (Also A B) = (all_keep s t e A, all_keep s t e B)
   all_keep s t e (IsAct b) = tt
   all_keep s t e (IsValue v) = tt
+  all_keep s t e (IsGuard v) = tt
+  all_keep s t e (IsCallee x verb args) = tt
   all_keep s t e (AreValues vs) = tt
   all_keep s t e (AreLists vss) = tt
   all_keep s t e (IsSlot k) = tt
@@ -398,7 +411,7 @@ module _ {N W : Type 0} (K : Naming N W) (E : Ground N W) (a : ℕ) where
   all_keep s t e (Leads x y) = tt
   all_keep s t e (IsReply r) = tt
   all_keep s t e (IsAsked q) = tt
-  all_keep s t e (IsAuditionAsk q) = tt
+  all_keep s t e (IsAuditionAsk verb q) = tt
   all_keep s t e (MadeEjector j) = tt
   all_keep s t e (WasHanded n v) = tt
   all_keep s t e (MayHand n o) = tt
@@ -406,7 +419,7 @@ module _ {N W : Type 0} (K : Naming N W) (E : Ground N W) (a : ℕ) where
   all_keep s t e (IsAt x i) = tt
   all_keep s t e (IsJudging view) = e
   all_keep s t e (IsJudged i view) = tt
-  all_keep s t e (MayGive x v) = tt
+  all_keep s t e (MayGive x verb v) = tt
   all_keep s t e (MayThing i o) = tt
   all_keep s t e (IsPlaced y p) = tt
   all_keep s t e (IsLine l) = tt
@@ -621,7 +634,7 @@ module _ {N W : Type 0} (K : Naming N W) (E : Ground N W) (a : ℕ) where
         (λ i node caught stamps q. inl (old_thing s.things x (Made node caught stamps) i (no_object x node caught stamps inert) (get_or_last s.things x (Made node caught stamps) i q)))
         (λ i y q. inl q)
         (λ q. subst (λ m. Rises (length E.things) (map (thing_made K) (s.happened ++ e n ∷ [])) m) (sym (length_end s.things x)) (rises_new (thing_made K) (length E.things) n s.happened (e n) (some n) q))
-        (rises_line slot_made (length E.slots) (length s.slots) s.happened (e n) (none n)) (rises_line list_made E.lists (length s.lists) s.happened (e n) (new n)) g in
+        (rises_line slot_made (length E.slots) (length s.slots) s.happened (e n) (none n)) (adds_line list_made E.lists s.lists s.happened (e n) (new n)) g in
         widen H s t (f n t) p ((h n).after t good (still_holds s t p C c, d u n));
   }
 
@@ -665,7 +678,7 @@ module _ {N W : Type 0} (K : Naming N W) (E : Ground N W) (a : ℕ) where
         let good : Good K E t = good_block K E s t e refl (refl, refl, refl, refl, refl) tt (grown_slot s x) ((inl (has_up K E s u w a (AValue v) (j.at s c)), tt), (x, get_end s.slots x, has_up K E s u w a (AValue g) (i.at s c)))
         tt (λ n view f. inl f) (λ n p f. inl f) (λ n node caught stamps f. inl f) (λ n y f. slot_told s v g n y (get_or_last s.slots x y n f))
         (rises_line (thing_made K) (length E.things) (length s.things) s.happened e refl)
-        (λ y. subst (λ m. Rises (length E.slots) (map slot_made (s.happened ++ e ∷ [])) m) (sym (length_end s.slots x)) (rises_new slot_made (length E.slots) k s.happened e refl y)) (rises_line list_made E.lists (length s.lists) s.happened e refl) q in
+        (λ y. subst (λ m. Rises (length E.slots) (map slot_made (s.happened ++ e ∷ [])) m) (sym (length_end s.slots x)) (rises_new slot_made (length E.slots) k s.happened e refl y)) (adds_line list_made E.lists s.lists s.happened e refl) q in
         widen H s t (m k t) p ((h k).after t good (still_holds s t p C c, is_told u e (ASlot k) (inl refl)));
   }
 
@@ -690,7 +703,7 @@ module _ {N W : Type 0} (K : Naming N W) (E : Ground N W) (a : ℕ) where
         let good : Good K E t = good_block K E s t e refl (refl, refl, refl, refl, refl) tt (grown_write s n v) ((inl (has_up K E s u w a (ASlot n) (i.at s c)), (inl (has_up K E s u w a (AValue v) (j.at s c)), tt)), tt)
         tt (λ l view f. inl f) (λ l p f. inl f) (λ l node caught stamps f. inl f) (λ l y f. write_told s n v l y (written_cells s.slots n l v y f))
         (rises_line (thing_made K) (length E.things) (length s.things) s.happened e refl)
-        (λ y. subst (λ m. Rises (length E.slots) (map slot_made (s.happened ++ e ∷ [])) m) (sym (written_length s.slots n v)) (rises_line slot_made (length E.slots) (length s.slots) s.happened e refl y)) (rises_line list_made E.lists (length s.lists) s.happened e refl) q in
+        (λ y. subst (λ m. Rises (length E.slots) (map slot_made (s.happened ++ e ∷ [])) m) (sym (written_length s.slots n v)) (rises_line slot_made (length E.slots) (length s.slots) s.happened e refl y)) (adds_line list_made E.lists s.lists s.happened e refl) q in
         widen H s t (m t) p (h.after t good (still_holds s t p C c));
   }
 
@@ -712,7 +725,7 @@ module _ {N W : Type 0} (K : Naming N W) (E : Ground N W) (a : ℕ) where
         tt (λ n view f. inl f) (λ n p f. inl f) (λ n node caught stamps f. inl f) (λ n y f. inl f)
         (rises_line (thing_made K) (length E.things) (length s.things) s.happened e refl)
         (rises_line slot_made (length E.slots) (length s.slots) s.happened e refl)
-        (λ y. subst (λ n. Rises E.lists (map list_made (s.happened ++ e ∷ [])) n) (sym (length_end s.lists vs)) (rises_new list_made E.lists k s.happened e refl y)) q in
+        (adds_new list_made E.lists s.lists vs s.happened e refl) q in
         widen H s t (m k t) p ((h k).after t good (still_holds s t p C c, is_told u e (AValue (Items k)) (inl refl)));
   }
 

@@ -6,26 +6,32 @@ use Rattle.def_machine.specs.State.{Bound, Fixed, Slot, Scope, Binding, Cell, Vi
 use Rattle.def_machine.specs.Refs.{Place, Near, follow, settle, resolve}
 use Rattle.def_machine.specs.Form.{Item as Piece, Begin, End, Word, Fact as Fixing, literal_value}
 use Rattle.def_machine.specs.Native.{Reply, Says, Writes, Lists as Listed, Iterates, Fails, Guard, Asked, MakesList, Ranges, Same as SameEver, Compares, Loops, SendsTo, CallsTo, MakesPromise, Breaks, Tells, Whens, ThrowsIt, IsStamped, Coerces, AddsNull, NoMethod}
+use Rattle.def_machine.specs.Free.{same_words}
 use Rattle.def_machine.specs.Scopes as scopes
 use Rattle.def_machine.specs.Perform as perform
 use Rattle.def_machine.specs.Calls as calls
 use Rattle.def_machine.specs.Scopes.{Answer, Evaluator, Caller, Body, Case, AuditionAsk, GetsForm, GetsGuard, Asks, NoAuditionAsk, ResolverAsk, Resolves, Smashes, NoResolverAsk}
 use Rattle.def_kernel.specs.declared.node.Node.{Node}
-use Rattle.law_connected.specs.Known.{AValue, itself as at_itself, IsAmong, AllOf, tells, by, values, Runs, called, told, endowed}
-use Rattle.law_connected.specs.Connected.{served, unless_begun, open_after, uses, evaluates, asks}
+use Rattle.law_connected.specs.Known.{AValue, AGuard, itself as at_itself, IsAmong, AllOf, tells, by, values, Runs, called, told, endowed}
+use Rattle.law_connected.specs.Connected.{served, unless_begun, open_after, callee, uses, evaluates, asks}
 use Rattle.law_connected.specs.Settlings.{resolved, smashed}
 use Rattle.law_connected.proofs.Traces.{among_last}
 use Rattle.law_connected.specs.Activations.{Rises}
 use Rattle.law_connected.specs.News.{own_number, thing_made, slot_made, list_made}
 use Rattle.law_connected.proofs.Rising.{rises_line, rises_new, length_end}
-use Rattle.law_connected.proofs.Ground.{Ground, opens, with_line, opens_last, held, Knew, Judged, Grows, Good, has_up, thing_up, judges_up, view_up, judged_up, grows_line, grows_trans, grows_by, grows_same, makes_none, good_block, good_line, good_by}
-use Rattle.law_connected.proofs.Fine.{Fact, Also, IsAct, IsValue, AreValues, AreLists, IsSlot, IsScope, MayBound, MayCell, WasPut, Leads, IsReply, IsAsked, IsAuditionAsk, MadeEjector, WasHanded, MayHand, WasCalled, IsAt, IsJudging, IsJudged, MayGive, MayThing, answer, nothing, NounKnown, Judging, Holds, Gets, Passes, Ends, Fine, get_or_last, old_thing, ResolverOf, HandedTo, MayAsk, GivenTo, MaySettle, grows_thing, holds_up, still_holds, passes_same, widen, fine_bind, fine_less, fine_ending, fine_more, fine_left, fine_give, fine_throw, fine_eject, fine_stop, fine_look, act_is, is_told}
-use Rattle.law_connected.proofs.Looks.{look_cell, got, got_left, got_itself, got_flag, got_text, got_no_lists, got_lists, got_literal, got_asked, got_audition_ask, got_hand, got_may_ask, look_lead, got_may_give, got_item, got_judged, look_thing, look_leads, GuardReply, guard_asked_known}
+use Rattle.law_connected.proofs.Adding.{adds_line}
+use Rattle.law_connected.proofs.Ground.{Ground, opens, with_line, opens_last, held, Has, Knew, Judged, Grows, Good, has_up, thing_up, judges_up, view_up, judged_up, grows_line, grows_trans, grows_by, grows_same, makes_none, good_block, good_line, good_by}
+use Rattle.law_connected.proofs.Fine.{Fact, Also, IsAct, IsValue, IsGuard, IsCallee, AreValues, AreLists, IsSlot, IsScope, MayBound, MayCell, WasPut, Leads, IsReply, IsAsked, IsAuditionAsk, MadeEjector, WasHanded, MayHand, WasCalled, IsAt, IsJudging, IsJudged, MayGive, MayThing, answer, nothing, NounKnown, Judging, Holds, Gets, Passes, Ends, Fine, get_or_last, old_thing, ResolverOf, HandedTo, MayAsk, GivenTo, MaySettle, grows_thing, holds_up, still_holds, passes_same, widen, fine_bind, fine_less, fine_ending, fine_more, fine_left, fine_give, fine_throw, fine_eject, fine_stop, fine_look, act_is, is_told}
+use Rattle.law_connected.proofs.Looks.{look_cell, got, got_left, got_itself, got_flag, got_text, got_no_lists, got_lists, got_literal, got_asked, got_audition_ask, got_hand, got_may_ask, look_lead, got_may_give, got_item, got_judged, got_callee, got_coercer, look_thing, look_leads, look_coerce, GuardReply, guard_asked_known}
 use Rattle.law_connected.proofs.Rules.{fine, bind_flag, bind_resolver, fine_promise, fine_send, fine_react, if_same, then_got, called_well, CallEnds, ended_ends, fine_with_lines, nouns_from, fine_send_only, bind_standing, fine_settle, fine_resolve}
 
 -- a call by the activation, whatever is called
 abbrev pub GoodCaller : {N W : Type 0} (K : Naming N W) → Ground N W → ℕ → Caller N → Type 0
 GoodCaller {N} K E a again = (C : Fact N) (act : ℕ) → Gets K E a C (IsAct act) → (x : Value N) → Gets K E a C (IsValue x) → (verb : Words) (args : List (Value N)) → Gets K E a C (AreValues args) → Fine K E a C (again act x verb args) IsValue
+
+-- a call by the activation on what it knows as a guard, to coerce
+abbrev pub GoodCoercer : {N W : Type 0} (K : Naming N W) → Ground N W → ℕ → Caller N → Type 0
+GoodCoercer {N} K E a again = (C : Fact N) (act : ℕ) → Gets K E a C (IsAct act) → (g : Value N) → Gets K E a C (IsGuard g) → (x : Value N) → Gets K E a C (IsValue x) → (j : Value N) → Gets K E a C (IsValue j) → Fine K E a C (again act g (codes "coerce") (x ∷ j ∷ [])) IsValue
 
 -- so do the nodes below, whichever activation evaluates them
 pub record GoodEvaluator {N W : Type 0} (K : Naming N W) (E : Ground N W) (rec : Evaluator N) : Type 0 where
@@ -66,7 +72,7 @@ module _ {N W : Type 0} (K : Naming N W) (E : Ground N W) (spots : (i : ℕ) →
   unfolding perform.native_coerce
   fine_native_coerce {a = a} {C = C} again g_again act g_act g j g_j x g_x = search (fine, fine_failed) depth 30
 
-  pub fine_coerce_near : {a : ℕ} {C : Fact N} → (again : Caller N) → GoodCaller K E a again → (act : ℕ) → Gets K E a C (IsAct act) → (g : Value N) → Gets K E a C (IsValue g) → (j : Value N) → Gets K E a C (IsValue j) → (x : Value N) → Gets K E a C (IsValue x) → (p : Place N) → Fine K E a C (perform.coerce_near K tree again act g j x p) IsValue
+  pub fine_coerce_near : {a : ℕ} {C : Fact N} → (again : Caller N) → GoodCoercer K E a again → (act : ℕ) → Gets K E a C (IsAct act) → (g : Value N) → Gets K E a C (IsGuard g) → (j : Value N) → Gets K E a C (IsValue j) → (x : Value N) → Gets K E a C (IsValue x) → (p : Place N) → Fine K E a C (perform.coerce_near K tree again act g j x p) IsValue
   unfolding perform.coerce_near
   fine_coerce_near {a = a} {C = C} again g_again act g_act g g_g j g_j x g_x Near = search (fine, fine_handed) depth 30
   fine_coerce_near {a = a} {C = C} again g_again act g_act g g_g j g_j x g_x _ = search (fine) depth 30
@@ -76,11 +82,11 @@ module _ {N W : Type 0} (K : Naming N W) (E : Ground N W) (spots : (i : ℕ) →
   fine_coerce_native {a = a} {C = C} again g_again act g_act (Some g) j g_j x g_x = search (fine, fine_native_coerce) depth 30
   fine_coerce_native {a = a} {C = C} again g_again act g_act None j g_j x g_x = search (fine) depth 30
 
-  pub fine_coerce : {a : ℕ} {C : Fact N} → (again : Caller N) → GoodCaller K E a again → (act : ℕ) → Gets K E a C (IsAct act) → (g : Value N) → Gets K E a C (IsValue g) → (j : Value N) → Gets K E a C (IsValue j) → (x : Value N) → Gets K E a C (IsValue x) → Fine K E a C (perform.coerce K tree again act g j x) IsValue
+  pub fine_coerce : {a : ℕ} {C : Fact N} → (again : Caller N) → GoodCaller K E a again → GoodCoercer K E a again → (act : ℕ) → Gets K E a C (IsAct act) → (g : Value N) → Gets K E a C (IsGuard g) → (j : Value N) → Gets K E a C (IsValue j) → (x : Value N) → Gets K E a C (IsValue x) → Fine K E a C (perform.coerce K tree again act g j x) IsValue
   unfolding perform.coerce
-  fine_coerce {a = a} {C = C} again g_again act g_act (Prim n) g_g j g_j x g_x = search (fine, fine_coerce_native) depth 30
-  fine_coerce {a = a} {C = C} again g_again act g_act (Ref n) g_g j g_j x g_x = search (fine, fine_coerce_near) depth 30
-  fine_coerce {a = a} {C = C} again g_again act g_act _ g_g j g_j x g_x = search (fine) depth 30
+  fine_coerce {a = a} {C = C} again g_again h_again act g_act (Prim n) g_g j g_j x g_x = search (fine, fine_coerce_native) depth 30
+  fine_coerce {a = a} {C = C} again g_again h_again act g_act (Ref n) g_g j g_j x g_x = search (fine, fine_coerce_near) depth 30
+  fine_coerce {a = a} {C = C} again g_again h_again act g_act _ g_g j g_j x g_x = search (fine) depth 30
 
   pub fine_store : {a : ℕ} {C : Fact N} → (act : ℕ) → Gets K E a C (IsAct act) → (vs : List (Value N)) → Gets K E a C (AreValues vs) → Fine K E a C (perform.store K tree act vs) IsValue
   unfolding perform.store
@@ -230,7 +236,7 @@ module _ {N W : Type 0} (K : Naming N W) (E : Ground N W) (spots : (i : ℕ) →
         (λ k node caught stamps q. inl (old_object view s.things k node caught stamps (get_or_last s.things (Audition true view) (Made node caught stamps) k q)))
         (λ k x q. inl q)
         (λ q. subst (λ m. Rises (length E.things) (map (thing_made K) (s.happened ++ e ∷ [])) m) (sym (length_end s.things (Audition true view))) (rises_new (thing_made K) (length E.things) n s.happened e (ap own_number (spots n)) q))
-        (rises_line slot_made (length E.slots) (length s.slots) s.happened e refl) (rises_line list_made E.lists (length s.lists) s.happened e refl) g in
+        (rises_line slot_made (length E.slots) (length s.slots) s.happened e refl) (adds_line list_made E.lists s.lists s.happened e refl) g in
         widen K E a H s t (f n t) p ((h n).after t good (still_holds K E a s t p C c, is_told K E a u e (AValue (Ref (K.object n))) (inl refl)));
   }
 
@@ -263,13 +269,13 @@ module _ {N W : Type 0} (K : Naming N W) (E : Ground N W) (spots : (i : ℕ) →
   fine_build {a = a} {C = C} act g_act (End ∷ i ∷ is) (f ∷ fs) g_fs = fine_bind K E a IsValue (fine_make_list act g_act f (record { at = λ s h. (g_fs.at s h).0 })) (λ v. fine_build {C = Also C (IsValue v)} act (got_left K E a C (IsValue v) (IsAct act) g_act) (i ∷ is) (calls.with_item K tree v fs) (got_item K E a tree (Also C (IsValue v)) v fs (got K E a C (IsValue v)) (record { at = λ s h. (g_fs.at s h.0).1 })))
   fine_build {a = a} {C = C} act g_act _ _ g_fs = fine_stop K E a _
 
-  guard_ends : (a : ℕ) (again : Caller N) (act : ℕ) (x : Value N) (s : Vat N) (r : Reply N) → Good K E s → GuardReply K E a tree (λ v. Holds K E a s (MayGive x v)) r → Ends K E a (MayGive x) s (perform.reply K tree again act r s)
+  guard_ends : (a : ℕ) (again : Caller N) (act : ℕ) (x : Value N) (verb : Words) (s : Vat N) (r : Reply N) → Good K E s → GuardReply K E a tree (λ v. Holds K E a s (MayGive x verb v)) r → Ends K E a (MayGive x verb) s (perform.reply K tree again act r s)
   unfolding perform.reply give throw
-  guard_ends a again act x s (Says v) g h = (passes_same K E a s, g, h)
-  guard_ends a again act x s (Fails p) g h = (passes_same K E a s, g)
-  guard_ends a again act x s (Writes t) g h = absurd h
-  guard_ends a again act x s (Listed vs) g h = absurd h
-  guard_ends a again act x s (Iterates o vs) g h = absurd h
+  guard_ends a again act x verb s (Says v) g h = (passes_same K E a s, g, h)
+  guard_ends a again act x verb s (Fails p) g h = (passes_same K E a s, g)
+  guard_ends a again act x verb s (Writes t) g h = absurd h
+  guard_ends a again act x verb s (Listed vs) g h = absurd h
+  guard_ends a again act x verb s (Iterates o vs) g h = absurd h
 
   reply_map : (a : ℕ) (P Q : Value N → Type 0) → ((v : Value N) → P v → Q v) → (r : Reply N) → GuardReply K E a tree P r → GuardReply K E a tree Q r
   reply_map a P Q f (Says v) h = f v h
@@ -278,34 +284,34 @@ module _ {N W : Type 0} (K : Naming N W) (E : Ground N W) (spots : (i : ℕ) →
   reply_map a P Q f (Listed vs) h = absurd h
   reply_map a P Q f (Iterates o vs) h = absurd h
 
-  -- the guard that an audition tells is known to who evaluates what it judges
-  guard_given : {a : ℕ} {C : Fact N} (again : Caller N) (act : ℕ) (view : View N) (x y : Value N) (i : ℕ) → Gets K E a C (IsAt x i) → Gets K E a C (IsJudged i view)
-      → Fine K E a C (look (λ s. scopes.guard_asked view.free (follow K s y)) >>= (λ r. perform.reply K tree again act r)) (MayGive x)
+  -- the guard that an audition tells is known as a guard to who evaluates what it judges
+  guard_given : {a : ℕ} {C : Fact N} (again : Caller N) (act : ℕ) (view : View N) (x : Value N) (verb : Words) (y : Value N) (i : ℕ) → ((s : Vat N) → Holds K E a s C → same_words (codes "getGuard") verb ≡ true) → Gets K E a C (IsAt x i) → Gets K E a C (IsJudged i view)
+      → Fine K E a C (look (λ s. scopes.guard_asked view.free (follow K s y)) >>= (λ r. perform.reply K tree again act r)) (MayGive x verb)
   unfolding ◌>>=◌ look and_then
-  guard_given {a = a} again act view x y i g j = record {
+  guard_given {a = a} again act view x verb y i q g j = record {
     after = λ s h c. let t = g.at s c in let d = j.at s c in
-        guard_ends a again act x s (scopes.guard_asked view.free (follow K s y)) h (reply_map a (Knew K E s d.0) (λ v. Holds K E a s (MayGive x v)) (λ v k. inr (d.0, i, t, d.1, k)) (scopes.guard_asked view.free (follow K s y)) (guard_asked_known K E a tree s d.0 view.free (follow K s y) d.2));
+        guard_ends a again act x verb s (scopes.guard_asked view.free (follow K s y)) h (reply_map a (λ v. Has K E s d.0 (AGuard v)) (λ v. Holds K E a s (MayGive x verb v)) (λ v k. inr (q s c, d.0, i, t, d.1, k)) (scopes.guard_asked view.free (follow K s y)) (guard_asked_known K E a tree s d.0 view.free (follow K s y) d.2));
   }
 
-  given_of : {a : ℕ} {C : Fact N} {m : Act N (Value N)} (x : Value N) → Fine K E a C m IsValue → Fine K E a C m (MayGive x)
-  given_of {a = a} x h = fine_more K E a IsValue (MayGive x) h (λ v. got_may_give K E a (IsValue v) x v (got_itself K E a (IsValue v)))
+  given_of : {a : ℕ} {C : Fact N} {m : Act N (Value N)} (x : Value N) (verb : Words) → Fine K E a C m IsValue → Fine K E a C m (MayGive x verb)
+  given_of {a = a} x verb h = fine_more K E a IsValue (MayGive x verb) h (λ v. got_may_give K E a (IsValue v) x verb v (got_itself K E a (IsValue v)))
 
   -- an audition that is called
-  audition_live : {a : ℕ} {C : Fact N} (again : Caller N) → GoodCaller K E a again → (act : ℕ) → Gets K E a C (IsAct act) → (view : View N) (q : AuditionAsk N) → Gets K E a C (IsAuditionAsk q)
-      → (x : Value N) (verb : Words) (args : List (Value N)) (i : ℕ) → Gets K E a C (WasCalled x verb args) → Gets K E a C (IsAt x i) → Gets K E a C (IsJudged i view) → Fine K E a C (calls.audition_live K tree again act view q) (MayGive x)
+  audition_live : {a : ℕ} {C : Fact N} (again : Caller N) → GoodCaller K E a again → (act : ℕ) → Gets K E a C (IsAct act) → (view : View N) (verb : Words) (q : AuditionAsk N) → Gets K E a C (IsAuditionAsk verb q)
+      → (x : Value N) (args : List (Value N)) (i : ℕ) → Gets K E a C (WasCalled x verb args) → Gets K E a C (IsAt x i) → Gets K E a C (IsJudged i view) → Fine K E a C (calls.audition_live K tree again act view q) (MayGive x verb)
   unfolding calls.audition_live
-  audition_live {a = a} {C = C} again g act k view GetsForm h x verb args i c t j = given_of x (fine_build act k _ [] (got_no_lists K E a C))
-  audition_live {a = a} {C = C} again g act k view (GetsGuard y) h x verb args i c t j = guard_given again act view x y i t j
-  audition_live {a = a} {C = C} again g act k view (Asks y) h x verb args i c t j = let d : Gets K E a C (IsValue y) = record { at = λ s b. h.at s b } in let w : Gets K E a C (IsJudging view) = got_judged K E a tree C view x verb args i c t j in given_of x (search (fine, fine_verdict) depth 30)
-  audition_live {a = a} {C = C} again g act k view NoAuditionAsk h x verb args i c t j = fine_throw K E a _
+  audition_live {a = a} {C = C} again g act k view verb GetsForm h x args i c t j = given_of x verb (fine_build act k _ [] (got_no_lists K E a C))
+  audition_live {a = a} {C = C} again g act k view verb (GetsGuard y) h x args i c t j = guard_given again act view x verb y i (λ s b. h.at s b) t j
+  audition_live {a = a} {C = C} again g act k view verb (Asks y) h x args i c t j = let d : Gets K E a C (IsValue y) = record { at = λ s b. h.at s b } in let w : Gets K E a C (IsJudging view) = got_judged K E a tree C view x verb args i c t j in given_of x verb (search (fine, fine_verdict) depth 30)
+  audition_live {a = a} {C = C} again g act k view verb NoAuditionAsk h x args i c t j = fine_throw K E a _
 
-  audition_called : {a : ℕ} {C : Fact N} (again : Caller N) → GoodCaller K E a again → (act : ℕ) → Gets K E a C (IsAct act) → (view : View N) (q : AuditionAsk N) → Gets K E a C (IsAuditionAsk q)
-      → (x : Value N) (verb : Words) (args : List (Value N)) (i : ℕ) → Gets K E a C (WasCalled x verb args) → Gets K E a C (IsAt x i) → Gets K E a C (IsJudged i view) → Fine K E a C (calls.audition_answer K tree again act true view q) (MayGive x)
+  audition_called : {a : ℕ} {C : Fact N} (again : Caller N) → GoodCaller K E a again → (act : ℕ) → Gets K E a C (IsAct act) → (view : View N) (verb : Words) (q : AuditionAsk N) → Gets K E a C (IsAuditionAsk verb q)
+      → (x : Value N) (args : List (Value N)) (i : ℕ) → Gets K E a C (WasCalled x verb args) → Gets K E a C (IsAt x i) → Gets K E a C (IsJudged i view) → Fine K E a C (calls.audition_answer K tree again act true view q) (MayGive x verb)
   unfolding calls.audition_answer
-  audition_called {a = a} again g act k view GetsForm h x verb args i c t j = audition_live again g act k view GetsForm h x verb args i c t j
-  audition_called {a = a} again g act k view (GetsGuard y) h x verb args i c t j = audition_live again g act k view (GetsGuard y) h x verb args i c t j
-  audition_called {a = a} again g act k view (Asks y) h x verb args i c t j = audition_live again g act k view (Asks y) h x verb args i c t j
-  audition_called {a = a} again g act k view NoAuditionAsk h x verb args i c t j = fine_throw K E a _
+  audition_called {a = a} again g act k view verb GetsForm h x args i c t j = audition_live again g act k view verb GetsForm h x args i c t j
+  audition_called {a = a} again g act k view verb (GetsGuard y) h x args i c t j = audition_live again g act k view verb (GetsGuard y) h x args i c t j
+  audition_called {a = a} again g act k view verb (Asks y) h x args i c t j = audition_live again g act k view verb (Asks y) h x args i c t j
+  audition_called {a = a} again g act k view verb NoAuditionAsk h x args i c t j = fine_throw K E a _
 
   pub audition_dead : {a : ℕ} {C : Fact N} {H : Value N → Fact N} (again : Caller N) (act : ℕ) (view : View N) (q : AuditionAsk N) → Fine K E a C (calls.audition_answer K tree again act false view q) H
   unfolding calls.audition_answer
@@ -380,30 +386,30 @@ module _ {N W : Type 0} (K : Naming N W) (E : Ground N W) (spots : (i : ℕ) →
 
   -- what an ejector, an audition or a resolver answers to a call
   thing_called : {a : ℕ} {C : Fact N} (again : Caller N) → GoodCaller K E a again → (act : ℕ) → Gets K E a C (IsAct act) → (i : ℕ) (t : Thing N) → Gets K E a C (MayThing i (Some t)) → (x : Value N) (verb : Words) (args : List (Value N)) → Gets K E a C (AreValues args)
-      → Gets K E a C (WasCalled x verb args) → Gets K E a C (IsAt x i) → Fine K E a C (calls.thing_answer K tree again act i t verb args) (MayGive x)
+      → Gets K E a C (WasCalled x verb args) → Gets K E a C (IsAt x i) → Fine K E a C (calls.thing_answer K tree again act i t verb args) (MayGive x verb)
   unfolding calls.thing_answer
   thing_called {a = a} {C = C} again good act k i (Ejector live) g x verb args h c p = ejector_called i live _ (got_hand K E a C i x verb args c p)
-  thing_called {a = a} {C = C} again good act k i (Audition true view) g x verb args h c p = audition_called again good act k view _ (got_audition_ask K E a C verb args h) x verb args i c p (record { at = λ s b. g.at s b })
+  thing_called {a = a} {C = C} again good act k i (Audition true view) g x verb args h c p = audition_called again good act k view verb _ (got_audition_ask K E a C verb args h) x args i c p (record { at = λ s b. g.at s b })
   thing_called {a = a} {C = C} again good act k i (Audition false view) g x verb args h c p = audition_dead again act view _
-  thing_called {a = a} {C = C} again good act k i (Resolver q) g x verb args h c p = given_of x (fine_resolver_answer i q (record { at = λ s b. g.at s b }) _ (got_may_ask K E a C i x verb args c p))
+  thing_called {a = a} {C = C} again good act k i (Resolver q) g x verb args h c p = given_of x verb (fine_resolver_answer i q (record { at = λ s b. g.at s b }) _ (got_may_ask K E a C i x verb args c p))
   thing_called {a = a} {C = C} again good act k i (Made node caught stamps) g x verb args h c p = fine_stop K E a _
 
-  lines_thing : {a : ℕ} {C : Fact N} (again : Caller N) → GoodCaller K E a again → (act : ℕ) → Gets K E a C (IsAct act) → (x : Value N) → Gets K E a C (IsValue x) → (i : ℕ) (t : Thing N) → Gets K E a C (MayThing i (Some t)) → (verb : Words) (args : List (Value N)) → Gets K E a C (AreValues args)
+  lines_thing : {a : ℕ} {C : Fact N} (again : Caller N) → GoodCaller K E a again → (act : ℕ) → Gets K E a C (IsAct act) → (x : Value N) (i : ℕ) (t : Thing N) → Gets K E a C (MayThing i (Some t)) → (verb : Words) (args : List (Value N)) → Gets K E a C (IsCallee x verb args) → Gets K E a C (AreValues args)
       → Gets K E a C (IsAt x i) → Fine K E a C (scopes.with_lines act x verb args (calls.thing_answer K tree again act i t verb args)) IsValue
-  lines_thing {a = a} {C = C} again good act k x v i t g verb args h p = fine_with_lines K E a (Also (Also (IsAct act) (MayThing i (Some t))) (Also (AreValues args) (IsAt x i))) act x verb args (calls.thing_answer K tree again act i t verb args) (λ s u. ((tt, tt), (tt, tt))) (record { at = λ s b. ((k.at s b, g.at s b), (h.at s b, p.at s b)) }) k v h
+  lines_thing {a = a} {C = C} again good act k x i t g verb args v h p = fine_with_lines K E a (Also (Also (IsAct act) (MayThing i (Some t))) (Also (AreValues args) (IsAt x i))) act x verb args (calls.thing_answer K tree again act i t verb args) (λ s u. ((tt, tt), (tt, tt))) (record { at = λ s b. ((k.at s b, g.at s b), (h.at s b, p.at s b)) }) k v h
       (thing_called again good act (record { at = λ s b. b.0.0.0 }) i t (record { at = λ s b. b.0.0.1 }) x verb args (record { at = λ s b. b.0.1.0 }) (record { at = λ s b. b.1 }) (record { at = λ s b. b.0.1.1 }))
 
   lines_data : {a : ℕ} {C : Fact N} (again : Caller N) → GoodCaller K E a again → (act : ℕ) → Gets K E a C (IsAct act) → (x : Value N) → Gets K E a C (IsValue x) → (y : Value N) → Gets K E a C (IsValue y) → (verb : Words) (args : List (Value N)) → Gets K E a C (AreValues args)
       → Fine K E a C (scopes.with_lines act x verb args (perform.data_answer K tree again act y verb args)) IsValue
-  lines_data {a = a} {C = C} again good act k x v y g verb args h = fine_with_lines K E a (Also (Also (IsAct act) (IsValue y)) (AreValues args)) act x verb args (perform.data_answer K tree again act y verb args) (λ s u. ((tt, tt), tt)) (record { at = λ s b. ((k.at s b, g.at s b), h.at s b) }) k v h
-      (given_of x (fine_data_answer again good act (record { at = λ s b. b.0.0.0 }) y (record { at = λ s b. b.0.0.1 }) verb args (record { at = λ s b. b.0.1 })))
+  lines_data {a = a} {C = C} again good act k x v y g verb args h = fine_with_lines K E a (Also (Also (IsAct act) (IsValue y)) (AreValues args)) act x verb args (perform.data_answer K tree again act y verb args) (λ s u. ((tt, tt), tt)) (record { at = λ s b. ((k.at s b, g.at s b), h.at s b) }) k (got_callee K E a C x verb args v) h
+      (given_of x verb (fine_data_answer again good act (record { at = λ s b. b.0.0.0 }) y (record { at = λ s b. b.0.0.1 }) verb args (record { at = λ s b. b.0.1 })))
 
   -- from what the new activation did since the call began
-  run_ends : (a b : ℕ) (s t : Vat N) (x : Value N) (d : Done N (Value N)) → Grows K E s t → opens t ≡ record { caller = a; receiver = x; begun = Some b } ∷ opens s → Ends K E b IsValue t d → CallEnds K E a s x (Some b) d
-  run_ends a b s t x (Gives v u) g e h = ((grows_trans K E s t u g h.0.0, h.0.1 ∙ e), h.1, h.2)
-  run_ends a b s t x (Throws p u) g e h = ((grows_trans K E s t u g h.0.0, h.0.1 ∙ e), h.1)
-  run_ends a b s t x (Ejects n v u) g e h = ((grows_trans K E s t u g h.0.0, h.0.1 ∙ e), h.1, h.2)
-  run_ends a b s t x (Stops c u) g e h = h
+  run_ends : (a b : ℕ) (s t : Vat N) (x : Value N) (verb : Words) (d : Done N (Value N)) → Grows K E s t → opens t ≡ record { caller = a; receiver = x; verb = verb; begun = Some b } ∷ opens s → Ends K E b IsValue t d → CallEnds K E a s x verb (Some b) d
+  run_ends a b s t x verb (Gives v u) g e h = ((grows_trans K E s t u g h.0.0, h.0.1 ∙ e), h.1, h.2)
+  run_ends a b s t x verb (Throws p u) g e h = ((grows_trans K E s t u g h.0.0, h.0.1 ∙ e), h.1)
+  run_ends a b s t x verb (Ejects n v u) g e h = ((grows_trans K E s t u g h.0.0, h.0.1 ∙ e), h.1, h.2)
+  run_ends a b s t x verb (Stops c u) g e h = h
 
   each_told : (t : Vat N) (b : ℕ) (vs : List (Value N)) → ((v : Value N) → IsAmong v vs → Knew K E t b v) → AllOf (Knew K E t b) vs
   each_told t b [] f = tt
@@ -419,53 +425,53 @@ module _ {N W : Type 0} (K : Naming N W) (E : Ground N W) (spots : (i : ℕ) →
   unfolding tells
   args_told s act b x verb args = each_told (with_line s (Called act x verb args (Some b))) b args (λ v m. told (Called act x verb args (Some b)) (among_last s.happened (Called act x verb args (Some b))) (by_values b args v m))
 
-  object_now : (a : ℕ) {C : Fact N} (rec : Evaluator N) → GoodEvaluator K E rec → (x : Value N) → Gets K E a C (IsValue x) → (i node : ℕ) (caught : List (Binding N)) (stamps : List (Value N)) → Gets K E a C (MayThing i (Some (Made node caught stamps))) → (ms : List ℕ) (verb : Words) (args : List (Value N)) → Gets K E a C (AreValues args) → Gets K E a C (IsAt x i)
+  object_now : (a : ℕ) {C : Fact N} (rec : Evaluator N) → GoodEvaluator K E rec → (x : Value N) (i node : ℕ) (caught : List (Binding N)) (stamps : List (Value N)) → Gets K E a C (MayThing i (Some (Made node caught stamps))) → (ms : List ℕ) (verb : Words) (args : List (Value N)) → Gets K E a C (IsCallee x verb args) → Gets K E a C (AreValues args) → Gets K E a C (IsAt x i)
       → Fine K E a C (new_activation >>= (λ b. tell (Called a x verb args (Some b)) >> scopes.ended a (calls.run_object K tree rec ms verb args (record { act = b; nouns = caught })))) IsValue
   unfolding new_activation ◌>>=◌ tell ◌>>◌ and_then scopes.ended ending served unless_begun open_after
-  object_now a {C = C} rec good x v i node caught stamps g ms verb args h p = record {
+  object_now a {C = C} rec good x i node caught stamps g ms verb args v h p = record {
     after = λ s q c. let b = s.activations in let r : Vat N = record s { activations = suc b } in let e : Happened N = Called a x verb args (Some b) in let t : Vat N = with_line r e in
         let z : Grows K E s r = grows_by K E s r refl (grows_same K E s).grown in
         let w : Grows K E s t = grows_trans K E s r t z (grows_line K E r e) in
-        let o : opens t ≡ record { caller = a; receiver = x; begun = Some b } ∷ opens s = opens_last r e in
+        let o : opens t ≡ record { caller = a; receiver = x; verb = verb; begun = Some b } ∷ opens s = opens_last r e in
         let here : Scope N = record { act = b; nouns = caught } in
         let good_r : Good K E r = good_by K E s r refl (refl, refl, refl, refl, refl) (grows_same K E s).grown (makes_none K E s r refl refl) refl q in
-        let good_t : Good K E t = good_line K E r e refl refl refl tt good_r (called_well K E a r x verb args (Some b) (has_up K E s r z a (AValue x) (v.at s c)) (holds_up K E a s r z (AreValues args) tt (h.at s c))) tt in
+        let good_t : Good K E t = good_line K E r e refl refl refl tt good_r (called_well K E a r x verb args (Some b) (has_up K E s r z a (callee x verb args) (v.at s c)) (holds_up K E a s r z (AreValues args) tt (h.at s c))) tt in
         let runs : Runs K (held K E t) t.happened b i = called a x verb args (among_last r.happened e) (thing_up K E s t w x i (p.at s c)) in
         let nouns : AllOf (NounKnown K E b t) caught = nouns_from K E b t caught (λ k m. endowed i node caught stamps runs (g.at s c) m) in
         let body : Act N (Value N) = calls.run_object K tree rec ms verb args here in
         let f : Fine K E b (Also (IsScope here) (AreValues args)) body IsValue = fine_run_object rec good ms verb args (record { at = λ s h. h.1 }) here (record { at = λ s h. h.0 }) in
-        ended_ends K E a s x (Some b) (body t) (run_ends a b s t x (body t) w o (f.after t good_t ((refl, nouns, ap served o), args_told r a b x verb args)));
+        ended_ends K E a s x verb (Some b) (body t) (run_ends a b s t x verb (body t) w o (f.after t good_t ((refl, nouns, ap served o), args_told r a b x verb args)));
   }
 
-  object_called : {a : ℕ} {C : Fact N} (rec : Evaluator N) → GoodEvaluator K E rec → (act : ℕ) → Gets K E a C (IsAct act) → (x : Value N) → Gets K E a C (IsValue x) → (i node : ℕ) (caught : List (Binding N)) (stamps : List (Value N)) → Gets K E a C (MayThing i (Some (Made node caught stamps))) → (ms : List ℕ) (verb : Words) (args : List (Value N)) → Gets K E a C (AreValues args) → Gets K E a C (IsAt x i)
+  object_called : {a : ℕ} {C : Fact N} (rec : Evaluator N) → GoodEvaluator K E rec → (act : ℕ) → Gets K E a C (IsAct act) → (x : Value N) (i node : ℕ) (caught : List (Binding N)) (stamps : List (Value N)) → Gets K E a C (MayThing i (Some (Made node caught stamps))) → (ms : List ℕ) (verb : Words) (args : List (Value N)) → Gets K E a C (IsCallee x verb args) → Gets K E a C (AreValues args) → Gets K E a C (IsAt x i)
       → Fine K E a C (new_activation >>= (λ b. tell (Called act x verb args (Some b)) >> scopes.ended act (calls.run_object K tree rec ms verb args (record { act = b; nouns = caught })))) IsValue
-  object_called {a = a} rec good act k x v i node caught stamps g ms verb args h p = act_is K E a act (λ c. new_activation >>= (λ b. tell (Called c x verb args (Some b)) >> scopes.ended c (calls.run_object K tree rec ms verb args (record { act = b; nouns = caught })))) k (object_now a rec good x v i node caught stamps g ms verb args h p)
+  object_called {a = a} rec good act k x i node caught stamps g ms verb args v h p = act_is K E a act (λ c. new_activation >>= (λ b. tell (Called c x verb args (Some b)) >> scopes.ended c (calls.run_object K tree rec ms verb args (record { act = b; nouns = caught })))) k (object_now a rec good x i node caught stamps g ms verb args v h p)
 
-  fine_call_thing : {a : ℕ} {C : Fact N} (rec : Evaluator N) → GoodEvaluator K E rec → (again : Caller N) → GoodCaller K E a again → (act : ℕ) → Gets K E a C (IsAct act) → (x : Value N) → Gets K E a C (IsValue x) → (i : ℕ) (o : Option (Thing N)) → Gets K E a C (MayThing i o) → (verb : Words) (args : List (Value N)) → Gets K E a C (AreValues args) → Gets K E a C (IsAt x i)
+  fine_call_thing : {a : ℕ} {C : Fact N} (rec : Evaluator N) → GoodEvaluator K E rec → (again : Caller N) → GoodCaller K E a again → (act : ℕ) → Gets K E a C (IsAct act) → (x : Value N) (i : ℕ) (o : Option (Thing N)) → Gets K E a C (MayThing i o) → (verb : Words) (args : List (Value N)) → Gets K E a C (IsCallee x verb args) → Gets K E a C (AreValues args) → Gets K E a C (IsAt x i)
       → Fine K E a C (calls.call_thing K tree rec again act x i o verb args) IsValue
   unfolding calls.call_thing
-  fine_call_thing {a = a} rec good again fair act k x v i None g verb args h p = fine_stop K E a _
-  fine_call_thing {a = a} rec good again fair act k x v i (Some (Made node caught stamps)) g verb args h p = object_called rec good act k x v i node caught stamps g _ verb args h p
-  fine_call_thing {a = a} rec good again fair act k x v i (Some (Ejector live)) g verb args h p = lines_thing again fair act k x v i (Ejector live) g verb args h p
-  fine_call_thing {a = a} rec good again fair act k x v i (Some (Audition live view)) g verb args h p = lines_thing again fair act k x v i (Audition live view) g verb args h p
-  fine_call_thing {a = a} rec good again fair act k x v i (Some (Resolver q)) g verb args h p = lines_thing again fair act k x v i (Resolver q) g verb args h p
+  fine_call_thing {a = a} rec good again fair act k x i None g verb args v h p = fine_stop K E a _
+  fine_call_thing {a = a} rec good again fair act k x i (Some (Made node caught stamps)) g verb args v h p = object_called rec good act k x i node caught stamps g _ verb args v h p
+  fine_call_thing {a = a} rec good again fair act k x i (Some (Ejector live)) g verb args v h p = lines_thing again fair act k x i (Ejector live) g verb args v h p
+  fine_call_thing {a = a} rec good again fair act k x i (Some (Audition live view)) g verb args v h p = lines_thing again fair act k x i (Audition live view) g verb args v h p
+  fine_call_thing {a = a} rec good again fair act k x i (Some (Resolver q)) g verb args v h p = lines_thing again fair act k x i (Resolver q) g verb args v h p
 
-  fine_call_spot : {a : ℕ} {C : Fact N} (rec : Evaluator N) → GoodEvaluator K E rec → (again : Caller N) → GoodCaller K E a again → (act : ℕ) → Gets K E a C (IsAct act) → (x : Value N) → Gets K E a C (IsValue x) → (n : N) → Gets K E a C (Leads x (Ref n)) → (spot : Spot) → K.spot n ≡ spot → (verb : Words) (args : List (Value N)) → Gets K E a C (AreValues args)
+  fine_call_spot : {a : ℕ} {C : Fact N} (rec : Evaluator N) → GoodEvaluator K E rec → (again : Caller N) → GoodCaller K E a again → (act : ℕ) → Gets K E a C (IsAct act) → (x : Value N) (n : N) → Gets K E a C (Leads x (Ref n)) → (spot : Spot) → K.spot n ≡ spot → (verb : Words) (args : List (Value N)) → Gets K E a C (IsCallee x verb args) → Gets K E a C (AreValues args)
       → Fine K E a C (calls.call_spot K tree rec again act x spot verb args) IsValue
   unfolding calls.call_spot
-  fine_call_spot {a = a} {C = C} rec good again fair act k x v n l (Own i) e verb args h = fine_bind K E a (MayThing i) (look_thing K E a i)
-      (λ o. let D : Fact N = Also C (MayThing i o) in fine_call_thing {C = D} rec good again (λ F b j y f w ys u. fair F b j y f w ys u) act (got_left K E a C (MayThing i o) (IsAct act) k) x (got_left K E a C (MayThing i o) (IsValue x) v) i o (got K E a C (MayThing i o)) verb args (got_left K E a C (MayThing i o) (AreValues args) h) (record { at = λ s b. at_spot s (l.at s b.0) }))
+  fine_call_spot {a = a} {C = C} rec good again fair act k x n l (Own i) e verb args v h = fine_bind K E a (MayThing i) (look_thing K E a i)
+      (λ o. let D : Fact N = Also C (MayThing i o) in fine_call_thing {C = D} rec good again (λ F b j y f w ys u. fair F b j y f w ys u) act (got_left K E a C (MayThing i o) (IsAct act) k) x i o (got K E a C (MayThing i o)) verb args (got_left K E a C (MayThing i o) (IsCallee x verb args) v) (got_left K E a C (MayThing i o) (AreValues args) h) (record { at = λ s b. at_spot s (l.at s b.0) }))
     where
       at_spot : (s : Vat N) → Holds K E a s (Leads x (Ref n)) → Holds K E a s (IsAt x i)
       at_spot s (inl r) = (n, r, e)
       at_spot s (inr p) = let e = p.2 in cc
-  fine_call_spot {a = a} rec good again fair act k x v n l (Foreign w) e verb args h = fine_throw K E a _
-  fine_call_spot {a = a} rec good again fair act k x v n l NoObject e verb args h = fine_throw K E a _
+  fine_call_spot {a = a} rec good again fair act k x n l (Foreign w) e verb args v h = fine_throw K E a _
+  fine_call_spot {a = a} rec good again fair act k x n l NoObject e verb args v h = fine_throw K E a _
 
   fine_call_value : {a : ℕ} {C : Fact N} (rec : Evaluator N) → GoodEvaluator K E rec → (again : Caller N) → GoodCaller K E a again → (act : ℕ) → Gets K E a C (IsAct act) → (x : Value N) → Gets K E a C (IsValue x) → (y : Value N) → Gets K E a C (IsValue y) → Gets K E a C (Leads x y) → (verb : Words) (args : List (Value N)) → Gets K E a C (AreValues args)
       → Fine K E a C (calls.call_value K tree rec again act x y verb args) IsValue
   unfolding calls.call_value
-  fine_call_value {a = a} rec good again fair act k x v (Ref n) w l verb args h = fine_call_spot rec good again fair act k x v n l (K.spot n) refl verb args h
+  fine_call_value {a = a} {C = C} rec good again fair act k x v (Ref n) w l verb args h = fine_call_spot rec good again fair act k x n l (K.spot n) refl verb args (got_callee K E a C x verb args v) h
   fine_call_value {a = a} rec good again fair act k x v (Broken p) w l verb args h = fine_throw K E a p
   fine_call_value {a = a} {C = C} rec good again fair act k x v (Prim n) w l verb args h = fine_perform again fair act k _ (got_asked K E a C _ verb args h)
   fine_call_value {a = a} rec good again fair act k x v Null w l verb args h = lines_data again fair act k x v Null w verb args h
@@ -489,3 +495,35 @@ module _ {N W : Type 0} (K : Naming N W) (E : Ground N W) (spots : (i : ℕ) →
   pub fine_call : {a : ℕ} {C : Fact N} (rec : Evaluator N) → GoodEvaluator K E rec → (act : ℕ) → Gets K E a C (IsAct act) → (x : Value N) → Gets K E a C (IsValue x) → (verb : Words) (args : List (Value N)) → Gets K E a C (AreValues args) → Fine K E a C (calls.call K tree rec act x verb args) IsValue
   unfolding calls.call
   fine_call {a = a} {C = C} rec good act k x v verb args h = fine_less K E a nothing (fine_look K E a _) (λ n. fine_call_at n rec good act k x v verb args h)
+
+  -- ---- calls to coerce, on what is known as a guard
+
+  -- no data coerces, whatever is known of it
+  coerce_data : {a : ℕ} {C : Fact N} (again : Caller N) → GoodCaller K E a again → (act : ℕ) → Gets K E a C (IsAct act) → (g : Value N) → Gets K E a C (IsGuard g) → (y x : Value N) → Gets K E a C (IsValue x) → (j : Value N) → Gets K E a C (IsValue j)
+      → Fine K E a C (scopes.with_lines act g (codes "coerce") (x ∷ j ∷ []) (perform.data_answer K tree again act y (codes "coerce") (x ∷ j ∷ []))) IsValue
+  unfolding perform.data_answer
+  coerce_data {a = a} {C = C} again good act k g v y x h j i = fine_with_lines K E a (IsAct act) act g (codes "coerce") (x ∷ j ∷ []) _ (λ s u. tt) k k (got_coercer K E a C g x j v) (record { at = λ s b. (h.at s b, (i.at s b, tt)) })
+      (given_of g (codes "coerce") (fine_bind K E a IsReply (look_coerce K E a y x j) (λ r. fine_reply again good act (record { at = λ s b. b.0.0 }) r (record { at = λ s b. b.1 }))))
+
+  coerce_value : {a : ℕ} {C : Fact N} (rec : Evaluator N) → GoodEvaluator K E rec → (again : Caller N) → GoodCaller K E a again → (act : ℕ) → Gets K E a C (IsAct act) → (g : Value N) → Gets K E a C (IsGuard g) → (y : Value N) → Gets K E a C (Leads g y) → (x : Value N) → Gets K E a C (IsValue x) → (j : Value N) → Gets K E a C (IsValue j)
+      → Fine K E a C (calls.call_value K tree rec again act g y (codes "coerce") (x ∷ j ∷ [])) IsValue
+  unfolding calls.call_value
+  coerce_value {a = a} {C = C} rec good again fair act k g v (Ref n) l x h j i = fine_call_spot rec good again fair act k g n l (K.spot n) refl (codes "coerce") (x ∷ j ∷ []) (got_coercer K E a C g x j v) (record { at = λ s b. (h.at s b, (i.at s b, tt)) })
+  coerce_value {a = a} rec good again fair act k g v (Broken p) l x h j i = fine_throw K E a p
+  coerce_value {a = a} {C = C} rec good again fair act k g v (Prim n) l x h j i = fine_perform again fair act k _ (got_asked K E a C _ (codes "coerce") (x ∷ j ∷ []) (record { at = λ s b. (h.at s b, (i.at s b, tt)) }))
+  coerce_value {a = a} rec good again fair act k g v Null l x h j i = coerce_data again fair act k g v Null x h j i
+  coerce_value {a = a} rec good again fair act k g v (Flag b) l x h j i = coerce_data again fair act k g v (Flag b) x h j i
+  coerce_value {a = a} rec good again fair act k g v (Number z) l x h j i = coerce_data again fair act k g v (Number z) x h j i
+  coerce_value {a = a} rec good again fair act k g v (Letter c) l x h j i = coerce_data again fair act k g v (Letter c) x h j i
+  coerce_value {a = a} rec good again fair act k g v (Text t) l x h j i = coerce_data again fair act k g v (Text t) x h j i
+  coerce_value {a = a} rec good again fair act k g v (Items n) l x h j i = coerce_data again fair act k g v (Items n) x h j i
+
+  coerce_at : {a : ℕ} {C : Fact N} (d : ℕ) (rec : Evaluator N) → GoodEvaluator K E rec → (act : ℕ) → Gets K E a C (IsAct act) → (g : Value N) → Gets K E a C (IsGuard g) → (x : Value N) → Gets K E a C (IsValue x) → (j : Value N) → Gets K E a C (IsValue j) → Fine K E a C (calls.call_at K tree d rec act g (codes "coerce") (x ∷ j ∷ [])) IsValue
+  unfolding calls.call_at calls.call_one
+  coerce_at {a = a} zero rec good act k g v x h j i = fine_stop K E a _
+  coerce_at {a = a} {C = C} (suc d) rec good act k g v x h j i = fine_bind K E a (Leads g) (look_lead K E a g)
+      (λ y. coerce_value {C = Also C (Leads g y)} rec good (λ b z w xs. calls.call_at K tree d rec b z w xs) (λ D b l z p w xs u. fine_call_at {C = D} d rec good b l z p w xs u) act (got_left K E a C (Leads g y) (IsAct act) k) g (got_left K E a C (Leads g y) (IsGuard g) v) y (got K E a C (Leads g y)) x (got_left K E a C (Leads g y) (IsValue x) h) j (got_left K E a C (Leads g y) (IsValue j) i))
+
+  pub fine_call_guard : {a : ℕ} {C : Fact N} (rec : Evaluator N) → GoodEvaluator K E rec → (act : ℕ) → Gets K E a C (IsAct act) → (g : Value N) → Gets K E a C (IsGuard g) → (x : Value N) → Gets K E a C (IsValue x) → (j : Value N) → Gets K E a C (IsValue j) → Fine K E a C (calls.call K tree rec act g (codes "coerce") (x ∷ j ∷ [])) IsValue
+  unfolding calls.call
+  fine_call_guard {a = a} rec good act k g v x h j i = fine_less K E a nothing (fine_look K E a _) (λ n. coerce_at n rec good act k g v x h j i)

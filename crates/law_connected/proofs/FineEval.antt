@@ -10,18 +10,19 @@ use Rattle.def_machine.specs.Eval as eval
 use Rattle.def_machine.specs.Scopes.{any_guard, Answer, Answers, Evaluator, Caller}
 use Rattle.def_kernel.specs.declared.node.Node.{Node}
 use Rattle.def_kernel.specs.declared.node.Node.TheVariants.{Lit, Noun, Set, Def, Call, Sequence, If, Escape, Try, Finally, Hide, MatchBind, Object, Final, Var, Any, ListPattern, Via}
-use Rattle.law_connected.specs.Known.{Item, AValue, ASlot, IsAmong, AllOf, Knows, plain, tells, by, values, parts_of, parts_of_all}
+use Rattle.law_connected.specs.Known.{Item, AValue, AGuard, ASlot, IsAmong, AllOf, Knows, plain, serves, tells, by, values, parts_of, parts_of_all}
 use Rattle.law_connected.specs.Connected.{LineWell, served, open_after, uses, itself}
 use Rattle.law_connected.proofs.Traces.{among_last}
 use Rattle.law_connected.specs.Activations.{Rises}
 use Rattle.law_connected.specs.News.{own_number, thing_made, slot_made, list_made}
 use Rattle.law_connected.proofs.Rising.{rises_line, rises_new, length_end}
+use Rattle.law_connected.proofs.Adding.{adds_line}
 use Rattle.law_connected.proofs.Idle.{joined}
 use Rattle.law_connected.proofs.Ground.{Ground, all_map, opens, with_line, opens_last, held, Has, Knew, Grows, Good, ObjectTold, has_up, grows_line, good_block}
-use Rattle.law_connected.proofs.Fine.{MayBe, Fact, Also, IsAct, IsValue, AreValues, IsSlot, IsBound, IsScope, MayBound, MayCell, MadeEjector, WasHanded, answer, answers, BoundKnown, NounKnown, Gets, Passes, Ends, Fine, holds_up, widen, grows_thing, get_or_last, old_thing, uses_values, is_told, fine_bind, fine_give, fine_eject, fine_stop, fine_spend}
+use Rattle.law_connected.proofs.Fine.{MayBe, Fact, Also, IsAct, IsValue, IsGuard, AreValues, IsSlot, IsBound, IsScope, MayBound, MayCell, MadeEjector, WasHanded, answer, answers, BoundKnown, NounKnown, Gets, Passes, Ends, Fine, holds_up, widen, grows_thing, get_or_last, old_thing, uses_values, is_told, fine_bind, fine_give, fine_eject, fine_stop, fine_spend}
 use Rattle.law_connected.proofs.Looks.{look_cell, got, got_left, got_act, got_with, got_judging}
 use Rattle.law_connected.proofs.Rules.{fine, then_unit, if_same, then_got}
-use Rattle.law_connected.proofs.FineCalls.{GoodCaller, GoodEvaluator, fine_answered, fine_read_bound, fine_failed, fine_handed, fine_coerce, fine_leave, fine_ask_all, fine_bind_all, fine_call}
+use Rattle.law_connected.proofs.FineCalls.{GoodCaller, GoodEvaluator, fine_answered, fine_read_bound, fine_failed, fine_handed, fine_coerce, fine_leave, fine_ask_all, fine_bind_all, fine_call, fine_call_guard}
 
 module _ {N W : Type 0} (K : Naming N W) (E : Ground N W) (spots : (i : ℕ) → K.spot (K.object i) ≡ IsOwn i) (tree : List Node) where
   -- known, or the object that is made
@@ -29,7 +30,7 @@ module _ {N W : Type 0} (K : Naming N W) (E : Ground N W) (spots : (i : ℕ) →
   Own a s me i = Has K E s a i ⊎ IsAmong i (AValue (Ref me) ∷ [])
 
   abbrev BoundOwn : ℕ → Vat N → N → Bound N → Type 0
-  BoundOwn a s me (Fixed v g) = Own a s me (AValue v) × Own a s me (AValue g)
+  BoundOwn a s me (Fixed v g) = Own a s me (AValue v) × Own a s me (AGuard g)
   BoundOwn a s me (Slot k) = Own a s me (ASlot k)
 
   abbrev NounOwn : ℕ → Vat N → N → Binding N → Type 0
@@ -41,7 +42,7 @@ module _ {N W : Type 0} (K : Naming N W) (E : Ground N W) (spots : (i : ℕ) →
 
   named_own : (a : ℕ) (s : Vat N) (me : N) (p : Option Node) (here : Scope N) → AllOf (NounOwn a s me) here.nouns → AllOf (NounOwn a s me) (scopes.named p (Ref me) here).nouns
   unfolding scopes.named scopes.with_noun any_guard
-  named_own a s me (Some (Final y g)) here h = ((inr (inl refl), inl (plain tt)), h)
+  named_own a s me (Some (Final y g)) here h = ((inr (inl refl), inl (serves (plain tt))), h)
   named_own a s me _ here h = h
 
   named_act : (p : Option Node) (v : Value N) (here : Scope N) → (scopes.named p v here).act ≡ here.act
@@ -85,7 +86,7 @@ module _ {N W : Type 0} (K : Naming N W) (E : Ground N W) (spots : (i : ℕ) →
   uses_caught a s me (b ∷ bs) rest h k = subst (λ is. Uses a s me (by a is)) (sym (tail_of (parts_of b.bound) (parts_of_all (map (λ b. b.bound) bs)) rest)) (uses_bound a s me b.bound (parts_of_all (map (λ b. b.bound) bs) ++ rest) h.0 (uses_caught a s me bs rest h.1 k))
 
   now_known : (a : ℕ) (s t : Vat N) (me : N) → Grows K E s t → Knew K E t a (Ref me) → (b : Bound N) → BoundOwn a s me b → BoundKnown K E a t b
-  now_known a s t me g k (Fixed v w) h = (one (AValue v) h.0, one (AValue w) h.1)
+  now_known a s t me g k (Fixed v w) h = (one (AValue v) h.0, one (AGuard w) h.1)
     where
       one : (i : Item N) → Own a s me i → Has K E t a i
       one i (inl j) = has_up K E s t g a i j
@@ -145,7 +146,7 @@ module _ {N W : Type 0} (K : Naming N W) (E : Ground N W) (spots : (i : ℕ) →
       (λ i p q. inl (old_thing K E a s.things (Made node caught stamps) (Resolver p) i (no_resolver node caught stamps p) (get_or_last s.things (Made node caught stamps) (Resolver p) i q)))
       (λ i m cs ys q. object_told a node x caught stamps s i m cs ys (get_or_last s.things (Made node caught stamps) (Made m cs ys) i q)) (λ i c q. inl q)
       (λ q. subst (λ n. Rises (length E.things) (map (thing_made K) (s.happened ++ l ∷ [])) n) (sym (length_end s.things (Made node caught stamps))) (rises_new (thing_made K) (length E.things) (length s.things) s.happened l (ap own_number (spots (length s.things))) q))
-      (rises_line slot_made (length E.slots) (length s.slots) s.happened l refl) (rises_line list_made E.lists (length s.lists) s.happened l refl) g
+      (rises_line slot_made (length E.slots) (length s.slots) s.happened l refl) (adds_line list_made E.lists s.lists s.happened l refl) g
 
   object_ends : (a : ℕ) (node : ℕ) (p : Option Node) (xs : List Words) (stamps : List (Value N)) (here : Scope N) (s : Vat N) → Good K E s → here.act ≡ a → AllOf (NounKnown K E a s) here.nouns → served (opens s) ≡ None → AllOf (Knew K E s a) stamps
       → Ends K E a answer s (calls.object_as K tree node p xs stamps (K.object (length s.things)) here s)
@@ -228,7 +229,7 @@ module _ {N W : Type 0} (K : Naming N W) (E : Ground N W) (spots : (i : ℕ) →
   pub fine_write_cell : {a : ℕ} {C : Fact N} → (rec : Evaluator N) → GoodEvaluator K E rec → (act : ℕ) → Gets K E a C (IsAct act) → (k : ℕ) → Gets K E a C (IsSlot k) → (v : Value N) → Gets K E a C (IsValue v) → (o : Option (Cell N)) → Gets K E a C (MayCell k o) → Fine K E a C (eval.write_cell K tree rec act k v o) IsValue
   unfolding eval.write_cell
   fine_write_cell {a = a} {C = C} rec good act i k g v h None m = search (fine) depth 30
-  fine_write_cell {a = a} {C = C} rec good act i k g v h (Some c) m = let d : Gets K E a C (IsValue c.guard) = record { at = λ s b. (m.at s b).0 } in search (fine, fine_coerce, fine_call) depth 30
+  fine_write_cell {a = a} {C = C} rec good act i k g v h (Some c) m = let d : Gets K E a C (IsGuard c.guard) = record { at = λ s b. (m.at s b).0 } in search (fine, fine_coerce, fine_call, fine_call_guard) depth 30
 
   pub fine_write_bound : {a : ℕ} {C : Fact N} → (rec : Evaluator N) → GoodEvaluator K E rec → (act : ℕ) → Gets K E a C (IsAct act) → (o : Option (Bound N)) → Gets K E a C (MayBound o) → (v : Value N) → Gets K E a C (IsValue v) → Fine K E a C (eval.write_bound K tree rec act o v) IsValue
   unfolding eval.write_bound
@@ -269,9 +270,9 @@ module _ {N W : Type 0} (K : Naming N W) (E : Ground N W) (spots : (i : ℕ) →
 
   pub fine_bind_step : {a : ℕ} {C : Fact N} → (rec : Evaluator N) → GoodEvaluator K E rec → (n : Node) → (v : Value N) → Gets K E a C (IsValue v) → (j : Value N) → Gets K E a C (IsValue j) → (here : Scope N) → Gets K E a C (IsScope here) → Fine K E a C (eval.bind_step K tree rec n v j here) IsScope
   unfolding eval.bind_step
-  fine_bind_step {a = a} {C = C} rec g_rec (Final x g) v g_v j g_j here g_here = search (fine, fine_guard_of, fine_coerce, fine_call) depth 30
-  fine_bind_step {a = a} {C = C} rec g_rec (Var x g) v g_v j g_j here g_here = search (fine, fine_guard_of, fine_coerce, fine_call) depth 30
-  fine_bind_step {a = a} {C = C} rec g_rec (Any g) v g_v j g_j here g_here = search (fine, fine_guard_of, fine_coerce, fine_call) depth 30
+  fine_bind_step {a = a} {C = C} rec g_rec (Final x g) v g_v j g_j here g_here = search (fine, fine_guard_of, fine_coerce, fine_call, fine_call_guard) depth 30
+  fine_bind_step {a = a} {C = C} rec g_rec (Var x g) v g_v j g_j here g_here = search (fine, fine_guard_of, fine_coerce, fine_call, fine_call_guard) depth 30
+  fine_bind_step {a = a} {C = C} rec g_rec (Any g) v g_v j g_j here g_here = search (fine, fine_guard_of, fine_coerce, fine_call, fine_call_guard) depth 30
   fine_bind_step {a = a} {C = C} rec g_rec (ListPattern ps) v g_v j g_j here g_here = search (fine, fine_bind_items) depth 30
   fine_bind_step {a = a} {C = C} rec g_rec (Via e p) v g_v j g_j here g_here = search (fine, fine_handed, fine_call, g_rec.expression, g_rec.pattern) depth 30
   fine_bind_step {a = a} {C = C} rec g_rec _ v g_v j g_j here g_here = search (fine) depth 30

@@ -21,7 +21,7 @@ use Rattle.law_connected.proofs.Traces.{IsTold, among_last}
 use Rattle.law_connected.proofs.Causes.{Causes, CausedAfter, EntryTold, WaitTold, MessageTold, GiftTold}
 use Rattle.law_connected.proofs.ArriveCauses.{arrives_well, notices_well}
 use Rattle.law_connected.specs.Activations.{Rises}
-use Rattle.law_connected.specs.News.{thing_made, slot_made, list_made, MadeNew, StepsMakeNew}
+use Rattle.law_connected.specs.News.{thing_made, slot_made, list_made, Adds, MadeNew, StepsMakeNew}
 use Rattle.law_connected.specs.UseLaws.{StepsConnect}
 use Rattle.law_connected.specs.Told.{ObjectsTold, SlotsTold, ReadsTold, ResolversTold, WaitsTold, StepsTell}
 use Rattle.law_connected.proofs.ArriveIdle.{idle_arrive, idle_notice}
@@ -201,7 +201,7 @@ module _ {N W : Type 0} (K : Naming N W) where
 
 module _ {N W : Type 0} (K : Naming N W) (spots : (i : ℕ) → K.spot (K.object i) ≡ Own i) where
   abbrev first_ground : List (ℕ × Item N) → Step N W → Vat N → Ground N W
-  first_ground given step s = record { things = s.things; slots = s.slots; lists = length s.lists; given = given; start = record { step = step; vat = s } }
+  first_ground given step s = record { things = s.things; slots = s.slots; lists = s.lists; given = given; start = record { step = step; vat = s } }
 
   -- at the beginning of a step
   good_first : (given : List (ℕ × Item N)) (step : Step N W) (s : Vat N) → s.happened ≡ [] → ((i : ℕ) → live_at s.things i ≡ false) → Good K (first_ground given step s) s
@@ -216,7 +216,7 @@ module _ {N W : Type 0} (K : Naming N W) (spots : (i : ℕ) → K.spot (K.object
     reads = subst (λ es. ReadsTold s.slots [] es) (sym e) tt;
     things_rise = subst (λ es. Rises (length s.things) (map (thing_made K) es) (length s.things)) (sym e) (no_less (length s.things));
     slots_rise = subst (λ es. Rises (length s.slots) (map slot_made es) (length s.slots)) (sym e) (no_less (length s.slots));
-    lists_rise = subst (λ es. Rises (length s.lists) (map list_made es) (length s.lists)) (sym e) (no_less (length s.lists));
+    lists_told = subst (λ es. Adds s.lists (map list_made es) s.lists) (sym e) refl;
   }
 
   abbrev ground : Step N W → Vat N → Ground N W
@@ -262,10 +262,10 @@ module _ {N W : Type 0} (K : Naming N W) (spots : (i : ℕ) → K.spot (K.object
   good_told step s (Stops c t) h = (h.made, h.cells, h.reads, h.resolvers, waits_told step s t h)
 
   good_new : (step : Step N W) (s : Vat N) (d : Done N (Unit {0})) → After (λ r t. Good K (ground step s) t) s d → After (MadeNew K) s d
-  good_new step s (Gives x t) h = (h.things_rise, h.slots_rise, h.lists_rise)
-  good_new step s (Throws p t) h = (h.things_rise, h.slots_rise, h.lists_rise)
-  good_new step s (Ejects n v t) h = (h.things_rise, h.slots_rise, h.lists_rise)
-  good_new step s (Stops c t) h = (h.things_rise, h.slots_rise, h.lists_rise)
+  good_new step s (Gives x t) h = (h.things_rise, h.slots_rise, h.lists_told)
+  good_new step s (Throws p t) h = (h.things_rise, h.slots_rise, h.lists_told)
+  good_new step s (Ejects n v t) h = (h.things_rise, h.slots_rise, h.lists_told)
+  good_new step s (Stops c t) h = (h.things_rise, h.slots_rise, h.lists_told)
 
   pub steps_make_new : StepsMakeNew K
   steps_make_new step s e still = good_new step s (does K step s) (steps_good step s e still)

@@ -3,7 +3,7 @@ use Rattle.std.proofs.Common.{◌≡◌, ℕ, true, List, [], ◌∷◌, ◌++�
 use Rattle.std.specs.Prelude.{slice_get}
 use Rattle.def_machine.specs.Values.{Words, Value, Ref, Naming}
 use Rattle.def_machine.specs.State.{Thing, Made, Resolver, Binding, Cell, Freedom, IsSafe, IsItself, IsFinal, IsVar, View, Audition, Happened, Took, Called, Back, Thrown, Left, Got, SlotMade, SlotRead, SlotWrote, ListMade, ListCame, EjectorMade, AuditionMade, PromiseMade, ObjectMade, Sends, Reacts, Finished, Threw, Settles, Waits, Views, Lost, Posted, Vat}
-use Rattle.law_connected.specs.Known.{Item, AValue, IsAmong, AllOf, Start, Holdings, Reaches, IsThing, Knows}
+use Rattle.law_connected.specs.Known.{Item, AValue, AGuard, IsAmong, AllOf, Start, Holdings, Reaches, IsThing, Knows}
 use Rattle.law_connected.specs.Connected.{Open, open_after, open_from, Judges, evaluates, asks, GivenBack, BackWell, ComesWell, LineWell, ConnectedAfter, Connected, uses, itself}
 use Rattle.law_connected.specs.ConnectedLaws as laws
 use Rattle.law_connected.proofs.Knowing.{among_more, reaches_more, thing_more, knows_more, knows_later}
@@ -11,8 +11,9 @@ use Rattle.law_connected.specs.Settlings.{IsResolver, IsCaused, Follows}
 use Rattle.law_connected.proofs.Causes.{Causes, CausedAfter, caused_rest, resolver_more, SameNames, causes_same, causes_block}
 use Rattle.law_connected.specs.Activations.{Rises}
 use Rattle.law_connected.specs.Told.{ReadTold, ReadsTold}
-use Rattle.law_connected.specs.News.{thing_made, slot_made, list_made}
+use Rattle.law_connected.specs.News.{thing_made, slot_made, list_made, Adds}
 use Rattle.law_connected.proofs.Rising.{rises_line}
+use Rattle.law_connected.proofs.Adding.{adds_line}
 use Rattle.law_connected.proofs.News.{rises_idle}
 use Rattle.law_connected.proofs.Idle.{joined, no_more, IsIdle, Idles}
 
@@ -20,8 +21,7 @@ use Rattle.law_connected.proofs.Idle.{joined, no_more, IsIdle, Idles}
 pub record Ground (N W : Type 0) : Type 0 where
   pub things : List (Thing N)
   pub slots : List (Cell N)
-  -- the count of its lists
-  pub lists : ℕ
+  pub lists : List (List (Value N))
   pub given : List (ℕ × Item N)
   -- the step, and the vat as it was
   pub start : Start N W
@@ -77,14 +77,14 @@ module _ {N W : Type 0} (K : Naming N W) (h later : Holdings N W) (grown : laws.
   judges_later so a i (evaluates n front rest e f g) = evaluates n front rest e f g
   judges_later so a i (asks b j x n front rest e f g t k) = asks b j x n front rest e f g (thing_later so x j t) (judges_later so a j k)
 
-  given_later : (so : List (Happened N)) (a : ℕ) (x : Value N) (o : Option ℕ) (v : Value N) → GivenBack K h so a x o v → GivenBack K later so a x o v
-  given_later so a x (Some b) v k = knows_later K h later grown so b (AValue v) k
-  given_later so a x None v (inl k) = inl (knows_later K h later grown so a (AValue v) k)
-  given_later so a x None v (inr k) = inr (k.0, k.1, thing_later so x k.1 k.2, judges_later so k.0 k.1 k.3, knows_later K h later grown so k.0 (AValue v) k.4)
+  given_later : (so : List (Happened N)) (a : ℕ) (x : Value N) (verb : Words) (o : Option ℕ) (v : Value N) → GivenBack K h so a x verb o v → GivenBack K later so a x verb o v
+  given_later so a x verb (Some b) v k = knows_later K h later grown so b (AValue v) k
+  given_later so a x verb None v (inl k) = inl (knows_later K h later grown so a (AValue v) k)
+  given_later so a x verb None v (inr k) = inr (k.0, k.1, k.2, thing_later so x k.2 k.3, judges_later so k.1 k.2 k.4, knows_later K h later grown so k.1 (AGuard v) k.5)
 
   back_later : (so : List (Happened N)) (a : ℕ) (v : Value N) (cs : List (Open N)) → BackWell K h so a v cs → BackWell K later so a v cs
   back_later so a v [] k = k
-  back_later so a v (c ∷ cs) k = (k.0, given_later so c.caller c.receiver c.begun v k.1)
+  back_later so a v (c ∷ cs) k = (k.0, given_later so c.caller c.receiver c.verb c.begun v k.1)
 
   comes_later : h.start ≡ later.start → (so : List (Happened N)) (e : Happened N) → ComesWell K h so e → ComesWell K later so e
   comes_later same so (Back a v) k = back_later so a v (open_from [] so) k
@@ -233,7 +233,7 @@ module _ {N W : Type 0} (K : Naming N W) (E : Ground N W) where
 
   -- the guard that an audition tells, where there is one
   abbrev pub FreedomKnown : Vat N → ℕ → Freedom N → Type 0
-  FreedomKnown s a (IsFinal g) = Knew s a g
+  FreedomKnown s a (IsFinal g) = Has s a (AGuard g)
   FreedomKnown s a IsSafe = Unit {0}
   FreedomKnown s a IsItself = Unit {0}
   FreedomKnown s a IsVar = Unit {0}
@@ -241,7 +241,7 @@ module _ {N W : Type 0} (K : Naming N W) (E : Ground N W) where
   abbrev pub ViewKnown : Vat N → ℕ → View N → Type 0
   ViewKnown s a view = AllOf (λ f. FreedomKnown s a f.freedom) view.free
 
-  -- some activation evaluates what is judged by that audition, and knows what the audition tells
+  -- some activation evaluates what is judged by that audition, and knows as guards those that the audition tells
   abbrev pub Judged : Vat N → ℕ → View N → Type 0
   Judged s i view = (b : ℕ) × Judges K (held s) s.happened b i × ViewKnown s b view
 
@@ -272,7 +272,7 @@ module _ {N W : Type 0} (K : Naming N W) (E : Ground N W) where
     pub reads : ReadsTold E.slots [] s.happened
     pub things_rise : Rises (length E.things) (map (thing_made K) s.happened) (length s.things)
     pub slots_rise : Rises (length E.slots) (map slot_made s.happened) (length s.slots)
-    pub lists_rise : Rises E.lists (map list_made s.happened) (length s.lists)
+    pub lists_told : Adds E.lists (map list_made s.happened) s.lists
 
   -- no audition is made live, no object is made, and nothing is put in a slot
   pub record MakesNone (s t : Vat N) : Type 0 where
@@ -313,7 +313,7 @@ module _ {N W : Type 0} (K : Naming N W) (E : Ground N W) where
     judges_up a i k = subst (λ so. Judges K (held t) so a i) (sym g.lines) (judges_more K (held t) s.happened g.more a i (judges_later K (held s) (held t) g.grown s.happened a i k))
 
     freedom_up : (a : ℕ) (f : Freedom N) → FreedomKnown s a f → FreedomKnown t a f
-    freedom_up a (IsFinal v) k = has_up a (AValue v) k
+    freedom_up a (IsFinal v) k = has_up a (AGuard v) k
     freedom_up a IsSafe k = tt
     freedom_up a IsItself k = tt
     freedom_up a IsVar k = tt
@@ -339,10 +339,10 @@ module _ {N W : Type 0} (K : Naming N W) (E : Ground N W) where
     pub cell_up : (k : ℕ) (c : Cell N) → CellTold s k c → CellTold t k c
     cell_up k c h = put_up k c.value h
 
-    pub given_up : (a : ℕ) (x : Value N) (o : Option ℕ) (v : Value N) → GivenBack K (held s) s.happened a x o v → GivenBack K (held t) t.happened a x o v
-    given_up a x (Some b) v k = has_up b (AValue v) k
-    given_up a x None v (inl k) = inl (has_up a (AValue v) k)
-    given_up a x None v (inr k) = inr (k.0, k.1, thing_up x k.1 k.2, judges_up k.0 k.1 k.3, has_up k.0 (AValue v) k.4)
+    pub given_up : (a : ℕ) (x : Value N) (verb : Words) (o : Option ℕ) (v : Value N) → GivenBack K (held s) s.happened a x verb o v → GivenBack K (held t) t.happened a x verb o v
+    given_up a x verb (Some b) v k = has_up b (AValue v) k
+    given_up a x verb None v (inl k) = inl (has_up a (AValue v) k)
+    given_up a x verb None v (inr k) = inr (k.0, k.1, k.2, thing_up x k.2 k.3, judges_up k.1 k.2 k.4, has_up k.1 (AGuard v) k.5)
 
   same_grown : (h : Holdings N W) → laws.Grown h h
   same_grown h = record { objects = λ i node caught stamps e. e; lists = λ k vs e. e; guards = λ k c e. (c, e, refl); before = refl; given = refl }
@@ -381,7 +381,7 @@ module _ {N W : Type 0} (K : Naming N W) (E : Ground N W) where
       → ((k : ℕ) (c : Cell N) → slice_get t.slots k ≡ Some c → (slice_get s.slots k ≡ Some c) ⊎ CellTold t k c)
       → (Rises (length E.things) (map (thing_made K) s.happened) (length s.things) → Rises (length E.things) (map (thing_made K) (s.happened ++ e ∷ [])) (length t.things))
       → (Rises (length E.slots) (map slot_made s.happened) (length s.slots) → Rises (length E.slots) (map slot_made (s.happened ++ e ∷ [])) (length t.slots))
-      → (Rises E.lists (map list_made s.happened) (length s.lists) → Rises E.lists (map list_made (s.happened ++ e ∷ [])) (length t.lists)) → Good s → Good t
+      → (Adds E.lists (map list_made s.happened) s.lists → Adds E.lists (map list_made (s.happened ++ e ∷ [])) t.lists) → Good s → Good t
   good_block s t e f n r g l rd au re ob ce tr sr lr h = let grows : Grows s t = record { more = e ∷ []; lines = f; grown = g } in record {
     causes = causes_block K E.start s t e f n r h.causes;
     lines = subst (λ es. Connected K (held t) es) (sym f) (connected_end K (held t) [] s.happened e (connected_later K (held s) (held t) g refl [] s.happened h.lines) l);
@@ -392,7 +392,7 @@ module _ {N W : Type 0} (K : Naming N W) (E : Ground N W) where
     reads = subst (λ es. ReadsTold E.slots [] es) (sym f) (reads_end E.slots [] s.happened e h.reads rd);
     things_rise = subst (λ es. Rises (length E.things) (map (thing_made K) es) (length t.things)) (sym f) (tr h.things_rise);
     slots_rise = subst (λ es. Rises (length E.slots) (map slot_made es) (length t.slots)) (sym f) (sr h.slots_rise);
-    lists_rise = subst (λ es. Rises E.lists (map list_made es) (length t.lists)) (sym f) (lr h.lists_rise);
+    lists_told = subst (λ es. Adds E.lists (map list_made es) t.lists) (sym f) (lr h.lists_told);
   }
     where
       by_audition : Grows s t → (i : ℕ) (view : View N) → (slice_get s.things i ≡ Some (Audition true view)) ⊎ Judged t i view → Judged t i view
@@ -414,10 +414,10 @@ module _ {N W : Type 0} (K : Naming N W) (E : Ground N W) where
   -- a line that is connected
   pub good_line : (s : Vat N) (e : Happened N) → thing_made K e ≡ None → slot_made e ≡ None → list_made e ≡ None → IsCaused K E.start s.happened e → Good s → LineWell K (held s) s.happened e → ReadTold E.slots s.happened e → Good (with_line s e)
   good_line s e nil none new r g l rd = good_block s (with_line s e) e refl (refl, refl, refl, refl, refl) r (same_grown (held s)) l rd (λ i view k. inl k) (λ i p k. inl k) (λ i node caught stamps k. inl k) (λ i c k. inl k)
-      (rises_line (thing_made K) (length E.things) (length s.things) s.happened e nil) (rises_line slot_made (length E.slots) (length s.slots) s.happened e none) (rises_line list_made E.lists (length s.lists) s.happened e new) g
+      (rises_line (thing_made K) (length E.things) (length s.things) s.happened e nil) (rises_line slot_made (length E.slots) (length s.slots) s.happened e none) (adds_line list_made E.lists s.lists s.happened e new) g
 
   -- a change that tells nothing, and makes none of these
-  pub good_by : (s t : Vat N) → t.happened ≡ s.happened → SameNames K E.start s t → laws.Grown (held s) (held t) → MakesNone s t → length t.lists ≡ length s.lists → Good s → Good t
+  pub good_by : (s t : Vat N) → t.happened ≡ s.happened → SameNames K E.start s t → laws.Grown (held s) (held t) → MakesNone s t → t.lists ≡ s.lists → Good s → Good t
   good_by s t e f g m q k = let grows : Grows s t = grows_by s t e g in record {
     causes = causes_same K E.start s t e f k.causes;
     lines = subst (λ es. Connected K (held t) es) (sym e) (connected_later K (held s) (held t) g refl [] s.happened k.lines);
@@ -428,7 +428,7 @@ module _ {N W : Type 0} (K : Naming N W) (E : Ground N W) where
     reads = subst (λ es. ReadsTold E.slots [] es) (sym e) k.reads;
     things_rise = subst (λ es. Rises (length E.things) (map (thing_made K) es) (length t.things)) (sym e) (subst (λ n. Rises (length E.things) (map (thing_made K) s.happened) n) (sym m.things) k.things_rise);
     slots_rise = subst (λ es. Rises (length E.slots) (map slot_made es) (length t.slots)) (sym e) (subst (λ n. Rises (length E.slots) (map slot_made s.happened) n) (sym m.slots) k.slots_rise);
-    lists_rise = subst (λ es. Rises E.lists (map list_made es) (length t.lists)) (sym e) (subst (λ n. Rises E.lists (map list_made s.happened) n) (sym q) k.lists_rise);
+    lists_told = subst (λ es. Adds E.lists (map list_made es) t.lists) (sym e) (subst (λ ls. Adds E.lists (map list_made s.happened) ls) (sym q) k.lists_told);
   }
 
   idle_thing : (e : Happened N) → IsIdle e → thing_made K e ≡ None
@@ -507,5 +507,5 @@ module _ {N W : Type 0} (K : Naming N W) (E : Ground N W) where
     reads = subst (λ es. ReadsTold E.slots [] es) (sym i.lines) (reads_join E.slots [] s.happened i.more g.reads (idles_read E.slots s.happened i.more i.idle));
     things_rise = subst (λ es. Rises (length E.things) (map (thing_made K) es) (length t.things)) (sym i.lines) (rises_idle (thing_made K) idle_thing (length E.things) (length t.things) s.happened i.more i.idle (subst (λ n. Rises (length E.things) (map (thing_made K) s.happened) n) (sym (ap length i.things)) g.things_rise));
     slots_rise = subst (λ es. Rises (length E.slots) (map slot_made es) (length t.slots)) (sym i.lines) (rises_idle slot_made idle_slot (length E.slots) (length t.slots) s.happened i.more i.idle (subst (λ n. Rises (length E.slots) (map slot_made s.happened) n) (sym (ap length i.slots)) g.slots_rise));
-    lists_rise = i.lists_rise E.lists g.lists_rise;
+    lists_told = i.lists_told E.lists g.lists_told;
   }

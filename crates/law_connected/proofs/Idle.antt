@@ -8,9 +8,8 @@ use Rattle.law_machine.proofs.Walks.{Property, Holds, IsClosed, IsOfRefs, InRefs
 use Rattle.law_machine.proofs.RefsWalk.{settles_by_lines}
 use Rattle.law_machine.proofs.StepLaws.{get_append}
 use Rattle.law_connected.specs.Known.{AllOf}
-use Rattle.law_connected.specs.Activations.{Rises}
-use Rattle.law_connected.specs.News.{list_made}
-use Rattle.law_connected.proofs.Rising.{rises_line, rises_new, length_end}
+use Rattle.law_connected.specs.News.{list_made, Adds}
+use Rattle.law_connected.proofs.Adding.{adds_line, adds_new}
 
 -- a line by which no activation does or knows anything
 abbrev pub IsIdle : {N : Type 0} → Happened N → Type 0
@@ -29,8 +28,8 @@ pub record Idles {N : Type 0} (s t : Vat N) : Type 0 where
   pub things : t.things ≡ s.things
   pub slots : t.slots ≡ s.slots
   pub lists : (k : ℕ) (vs : List (Value N)) → slice_get s.lists k ≡ Some vs → slice_get t.lists k ≡ Some vs
-  -- lists that come have the next numbers
-  pub lists_rise : (n : ℕ) → Rises n (map list_made s.happened) (length s.lists) → Rises n (map list_made t.happened) (length t.lists)
+  -- lists that come are told of, with the next numbers
+  pub lists_told : (ls : List (List (Value N))) → Adds ls (map list_made s.happened) s.lists → Adds ls (map list_made t.happened) t.lists
 
 -- how it ends; it is left by no ejector
 abbrev pub IdleEnds : {N A : Type 0} → Vat N → Done N A → Type 0
@@ -59,7 +58,7 @@ all_join P (x ∷ xs) ys h k = (h.0, all_join P xs ys h.1 k)
 
 module _ {N : Type 0} where
   pub idles_same : (s t : Vat N) → t.happened ≡ s.happened → t.things ≡ s.things → t.slots ≡ s.slots → t.lists ≡ s.lists → Idles s t
-  idles_same s t e f g h = record { more = []; lines = e ∙ no_more s.happened; idle = tt; things = f; slots = g; lists = λ k vs i. ap (λ ls. slice_get ls k) h ∙ i; lists_rise = λ n r. subst (λ es. Rises n (map list_made es) (length t.lists)) (sym e) (subst (λ k. Rises n (map list_made s.happened) k) (sym (ap length h)) r) }
+  idles_same s t e f g h = record { more = []; lines = e ∙ no_more s.happened; idle = tt; things = f; slots = g; lists = λ k vs i. ap (λ ls. slice_get ls k) h ∙ i; lists_told = λ ls r. subst (λ es. Adds ls (map list_made es) t.lists) (sym e) (subst (λ ms. Adds ls (map list_made s.happened) ms) (sym h) r) }
 
   pub idles_trans : (s t u : Vat N) → Idles s t → Idles t u → Idles s u
   idles_trans s t u h k = record {
@@ -69,11 +68,11 @@ module _ {N : Type 0} where
     things = k.things ∙ h.things;
     slots = k.slots ∙ h.slots;
     lists = λ n vs i. k.lists n vs (h.lists n vs i);
-    lists_rise = λ n r. k.lists_rise n (h.lists_rise n r);
+    lists_told = λ ls r. k.lists_told ls (h.lists_told ls r);
   }
 
   idles_line : (s : Vat N) (e : Happened N) → IsIdle e → list_made e ≡ None → Idles s (record s { happened = s.happened ++ e ∷ [] })
-  idles_line s e i q = record { more = e ∷ []; lines = refl; idle = (i, tt); things = refl; slots = refl; lists = λ k vs f. f; lists_rise = λ n r. rises_line list_made n (length s.lists) s.happened e q r }
+  idles_line s e i q = record { more = e ∷ []; lines = refl; idle = (i, tt); things = refl; slots = refl; lists = λ k vs f. f; lists_told = λ ls r. adds_line list_made ls s.lists s.happened e q r }
 
   widen : {A : Type 0} (s t : Vat N) → Idles s t → (d : Done N A) → IdleEnds t d → IdleEnds s d
   widen s t r (Gives a u) h = idles_trans s t u r h
@@ -149,7 +148,7 @@ module _ {N : Type 0} where
     things = refl;
     slots = refl;
     lists = λ k ws e. get_append s.lists (vs ∷ []) k ws e;
-    lists_rise = λ n r. subst (λ m. Rises n (map list_made (s.happened ++ ListCame (length s.lists) vs ∷ [])) m) (sym (length_end s.lists vs)) (rises_new list_made n (length s.lists) s.happened (ListCame (length s.lists) vs) refl r);
+    lists_told = λ ls r. adds_new list_made ls s.lists vs s.happened (ListCame (length s.lists) vs) refl r;
   }
 
   -- a list comes, and its line is told

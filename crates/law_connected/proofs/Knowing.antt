@@ -2,7 +2,7 @@
 use Rattle.std.proofs.Common.{ℕ, List, [], ◌∷◌, ◌++◌, sym, subst, inl, inr}
 use Rattle.def_machine.specs.Values.{Value, Ref, Naming}
 use Rattle.def_machine.specs.State.{Known, Happened}
-use Rattle.law_connected.specs.Known.{Item, AValue, IsAmong, Holdings, Leads, settled, viewed, settles, views, Reaches, itself, onward, IsThing, Runs, called, took, Knows, plain, initial, endowed, told, member, followed, guard}
+use Rattle.law_connected.specs.Known.{Item, AGuard, IsAmong, Holdings, Leads, settled, viewed, settles, views, Reaches, itself, onward, IsThing, Runs, called, took, Knows, plain, initial, endowed, told, member, followed, serves, guard}
 use Rattle.law_connected.specs.ConnectedLaws.{IsClosed, Grown}
 
 pub among_more : {A : Type 0} (x : A) (xs ys : List A) → IsAmong x xs → IsAmong x (xs ++ ys)
@@ -32,6 +32,7 @@ module _ {N W : Type 0} (K : Naming N W) (h : Holdings N W) where
   least so P c a i (told e m t) = c.told a e i m t
   least so P c a i (member {v = v} k vs g e m) = c.member a k v vs (least so P c a _ g) e m
   least so P c a i (followed {y = y} x g l) = c.followed a x y (least so P c a _ g) l
+  least so P c a i (serves {v = v} g) = c.serves a v (least so P c a _ g)
   least so P c a i (guard k cell g e) = c.guard a k cell (least so P c a _ g) e
 
   pub runs_more : (so more : List (Happened N)) (a k : ℕ) → Runs K h so a k → Runs K h (so ++ more) a k
@@ -45,6 +46,7 @@ module _ {N W : Type 0} (K : Naming N W) (h : Holdings N W) where
   knows_more so more a i (told e m t) = told e (among_more e so more m) t
   knows_more so more a i (member k vs g e m) = member k vs (knows_more so more a _ g) e m
   knows_more so more a i (followed x g l) = followed x (knows_more so more a _ g) (leads_more K h.before so more _ _ l)
+  knows_more so more a i (serves g) = serves (knows_more so more a _ g)
   knows_more so more a i (guard k c g e) = guard k c (knows_more so more a _ g) e
 
 module _ {N W : Type 0} (K : Naming N W) (h later : Holdings N W) (grown : Grown h later) where
@@ -65,4 +67,5 @@ module _ {N W : Type 0} (K : Naming N W) (h later : Holdings N W) (grown : Grown
   knows_later so a i (told e m t) = told e m t
   knows_later so a i (member k vs g e m) = member k vs (knows_later so a _ g) (grown.lists k vs e) m
   knows_later so a i (followed x g l) = followed x (knows_later so a _ g) (leads_later so x _ l)
-  knows_later so a i (guard k c g e) = let d = grown.guards k c e in subst (λ w. Knows K later so a (AValue w)) (sym d.2) (guard k d.0 (knows_later so a _ g) d.1)
+  knows_later so a i (serves g) = serves (knows_later so a _ g)
+  knows_later so a i (guard k c g e) = let d = grown.guards k c e in subst (λ w. Knows K later so a (AGuard w)) (sym d.2) (guard k d.0 (knows_later so a _ g) d.1)

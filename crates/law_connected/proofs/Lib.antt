@@ -11,6 +11,7 @@ pub mod RunDies
 pub mod Counts
 pub mod StepCounts
 pub mod Rising
+pub mod Adding
 pub mod Idle
 pub mod RefsIdle
 pub mod ArriveIdle

@@ -17,7 +17,8 @@ use Rattle.def_machine.specs.Eval as eval
 use Rattle.def_kernel.specs.declared.node.Node.{Node}
 use Rattle.def_kernel.specs.declared.node.Literal.{Literal}
 use Rattle.def_kernel.specs.declared.node.Literal.TheVariants as literal
-use Rattle.law_connected.specs.Known.{ASlot, IsAmong, AllOf, Reaches, itself, onward, plain, member, followed, guard}
+use Rattle.law_connected.specs.Known.{AValue, AGuard, ASlot, IsAmong, AllOf, Reaches, itself, onward, plain, member, followed, serves, guard}
+use Rattle.law_connected.specs.Connected.{callee}
 use Rattle.law_natives.specs.Natives.{IsPlain, ReplyHas}
 use Rattle.law_natives.proofs.Natives.{either_has, entry_has, compared_has, range_has, null_reply_has, asked_has}
 use Rattle.law_connected.proofs.Natives.{answers_known}
@@ -25,7 +26,7 @@ use Rattle.law_connected.specs.Settlings.{IsHanded}
 use Rattle.law_connected.proofs.StepTraces.{told_follows}
 use Rattle.law_connected.proofs.RefsCauses.{follows_now, placed}
 use Rattle.law_connected.proofs.Ground.{Ground, held, Has, Knew, FreedomKnown, Good, PutTold}
-use Rattle.law_connected.proofs.Fine.{MayBe, Fact, Nothing, Also, IsAct, IsValue, AreValues, AreLists, IsSlot, IsBound, IsScope, MayValue, MayBound, MayCell, Leads, IsReply, IsAsked, IsAuditionAsk, MayHand, WasCalled, IsAt, IsJudging, IsJudged, MayGive, MayThing, MayAsk, IsPlaced, AskHas, BoundKnown, NounKnown, AuditionAskKnown, Handed, ThingThere, Gets, Fine, fine_sees}
+use Rattle.law_connected.proofs.Fine.{MayBe, Fact, Nothing, Also, IsAct, IsValue, IsGuard, IsCallee, AreValues, AreLists, IsSlot, IsBound, IsScope, MayValue, MayBound, MayCell, Leads, IsReply, IsAsked, IsAuditionAsk, MayHand, WasCalled, IsAt, IsJudging, IsJudged, MayGive, MayThing, MayAsk, IsPlaced, AskHas, BoundKnown, NounKnown, AuditionAskKnown, Handed, ThingThere, Gets, Fine, fine_sees}
 
 module _ {N W : Type 0} (K : Naming N W) (E : Ground N W) (a : ℕ) where
   knew_plain : (s : Vat N) (v : Value N) → IsPlain v → Knew K E s a v
@@ -50,6 +51,24 @@ module _ {N W : Type 0} (K : Naming N W) (E : Ground N W) (a : ℕ) where
 
   pub got_nothing : (C : Fact N) → Gets K E a C Nothing
   got_nothing C = record { at = λ s h. tt }
+
+  pub got_guard : (C : Fact N) (v : Value N) → Gets K E a C (IsValue v) → Gets K E a C (IsGuard v)
+  got_guard C v g = record { at = λ s h. serves (g.at s h) }
+
+  known_callee : (s : Vat N) (x : Value N) (verb : Words) (args : List (Value N)) → Knew K E s a x → Has K E s a (callee x verb args)
+  unfolding callee
+  known_callee s x verb [] h = h
+  known_callee s x verb (v ∷ []) h = h
+  known_callee s x verb (v ∷ j ∷ []) h = either_has (Has K E s a) (same_words (codes "coerce") verb) (AGuard x) (AValue x) (serves h) h
+  known_callee s x verb (v ∷ j ∷ k ∷ ks) h = h
+
+  pub got_callee : (C : Fact N) (x : Value N) (verb : Words) (args : List (Value N)) → Gets K E a C (IsValue x) → Gets K E a C (IsCallee x verb args)
+  got_callee C x verb args g = record { at = λ s h. known_callee s x verb args (g.at s h) }
+
+  -- a guard may be called to coerce
+  pub got_coercer : (C : Fact N) (g v j : Value N) → Gets K E a C (IsGuard g) → Gets K E a C (IsCallee g (codes "coerce") (v ∷ j ∷ []))
+  unfolding callee same_words
+  got_coercer C g v j k = record { at = λ s h. k.at s h }
 
   pub got_null : (C : Fact N) → Gets K E a C (IsValue Null)
   got_null C = record { at = λ s h. plain tt }
@@ -86,7 +105,7 @@ module _ {N W : Type 0} (K : Naming N W) (E : Ground N W) (a : ℕ) where
   got_with C x b here g k = record { at = λ s h. let i = k.at s h in (i.0, (g.at s h, i.1), i.2) }
 
   pub got_fixed : (C : Fact N) (v g : Value N) → Gets K E a C (IsValue v) → Gets K E a C (IsValue g) → Gets K E a C (IsBound (Fixed v g))
-  got_fixed C v g i j = record { at = λ s h. (i.at s h, j.at s h) }
+  got_fixed C v g i j = record { at = λ s h. (i.at s h, serves (j.at s h)) }
 
   pub got_slot : (C : Fact N) (k : ℕ) → Gets K E a C (IsSlot k) → Gets K E a C (IsBound (Slot k))
   got_slot C k g = record { at = λ s h. g.at s h }
@@ -130,13 +149,23 @@ module _ {N W : Type 0} (K : Naming N W) (E : Ground N W) (a : ℕ) where
   pub got_asked : (C : Fact N) (p : Primitive) (verb : Words) (args : List (Value N)) → Gets K E a C (AreValues args) → Gets K E a C (IsAsked (native.asked p verb args))
   got_asked C p verb args g = record { at = λ s h. asked_has (Knew K E s a) (knew_plain s) p verb args (g.at s h) }
 
-  audition_known : (s : Vat N) (verb : Words) (args : List (Value N)) → AllOf (Knew K E s a) args → AuditionAskKnown K E a s (scopes.audition_ask verb args)
+  -- what a table has at a word, of which it has that entry
+  entry_at : {A : Type 0} (P : A → Type 0) (es : List (Words × A)) (a : A) (x : Words) → AllOf (λ (e : Words × A). same_words e.0 x ≡ true → P e.1) es → P a → P (entry es a x)
+  unfolding entry
+  entry_at P [] a x h i = i
+  entry_at P (e ∷ es) a x h i = either (same_words e.0 x) refl (entry_at P es a x h.1 i)
+    where
+      either : (b : Bool) → same_words e.0 x ≡ b → P (entry es a x) → P (elim b [ true ↦ e.1 | false ↦ entry es a x ])
+      either true q r = h.0 q
+      either false q r = r
+
+  audition_known : (s : Vat N) (verb : Words) (args : List (Value N)) → AllOf (Knew K E s a) args → AuditionAskKnown K E a s verb (scopes.audition_ask verb args)
   unfolding scopes.audition_ask
-  audition_known s verb [] h = entry_has (AuditionAskKnown K E a s) _ _ verb (tt, tt) tt
-  audition_known s verb (x ∷ []) h = entry_has (AuditionAskKnown K E a s) _ _ verb (tt, (h.0, tt)) tt
+  audition_known s verb [] h = entry_has (AuditionAskKnown K E a s verb) _ _ verb (tt, tt) tt
+  audition_known s verb (x ∷ []) h = entry_at (AuditionAskKnown K E a s verb) _ _ verb (λ q. q, (λ q. h.0, tt)) tt
   audition_known s verb (x ∷ y ∷ ys) h = tt
 
-  pub got_audition_ask : (C : Fact N) (verb : Words) (args : List (Value N)) → Gets K E a C (AreValues args) → Gets K E a C (IsAuditionAsk (scopes.audition_ask verb args))
+  pub got_audition_ask : (C : Fact N) (verb : Words) (args : List (Value N)) → Gets K E a C (AreValues args) → Gets K E a C (IsAuditionAsk verb (scopes.audition_ask verb args))
   got_audition_ask C verb args g = record { at = λ s h. audition_known s verb args (g.at s h) }
 
   handed_known : (s : Vat N) (i : ℕ) (x : Value N) (verb : Words) (args : List (Value N)) → ((v : Value N) → IsAmong v (Null ∷ args) → Handed K E a s i v) → MayBe (Handed K E a s i) (scopes.ejector_ask verb args)
@@ -149,15 +178,6 @@ module _ {N W : Type 0} (K : Naming N W) (E : Ground N W) (a : ℕ) where
   got_hand C i x verb args g k = record { at = λ s h. let c = g.at s h in let t = k.at s h in handed_known s i x verb args (λ v m. (c.0, x, verb, args, c.1, t, m)) }
 
   -- what a resolver may be asked, of one argument
-  entry_at : {A : Type 0} (P : A → Type 0) (es : List (Words × A)) (a : A) (x : Words) → AllOf (λ (e : Words × A). same_words e.0 x ≡ true → P e.1) es → P a → P (entry es a x)
-  unfolding entry
-  entry_at P [] a x h i = i
-  entry_at P (e ∷ es) a x h i = either (same_words e.0 x) refl (entry_at P es a x h.1 i)
-    where
-      either : (b : Bool) → same_words e.0 x ≡ b → P (entry es a x) → P (elim b [ true ↦ e.1 | false ↦ entry es a x ])
-      either true q r = h.0 q
-      either false q r = r
-
   pub resolver_asked : (s : Vat N) (i : ℕ) (verb : Words) (args : List (Value N)) → ((name : Words) (v : Value N) → args ≡ v ∷ [] → same_words name verb ≡ true → IsHanded K E.start s.happened i name v) → AskHas K E a s i (scopes.resolver_ask verb args)
   unfolding scopes.resolver_ask
   resolver_asked s i verb [] f = tt
@@ -167,8 +187,8 @@ module _ {N W : Type 0} (K : Naming N W) (E : Ground N W) (a : ℕ) where
   pub got_may_ask : (C : Fact N) (i : ℕ) (x : Value N) (verb : Words) (args : List (Value N)) → Gets K E a C (WasCalled x verb args) → Gets K E a C (IsAt x i) → Gets K E a C (MayAsk i (scopes.resolver_ask verb args))
   got_may_ask C i x verb args g k = record { at = λ s h. let c = g.at s h in let t = k.at s h in resolver_asked s i verb args (λ name v e q. inl (c.0, x, verb, subst (λ xs. IsAmong (Called c.0 x verb xs None) s.happened) e c.1, q, t)) }
 
-  pub got_may_give : (C : Fact N) (x v : Value N) → Gets K E a C (IsValue v) → Gets K E a C (MayGive x v)
-  got_may_give C x v g = record { at = λ s h. inl (g.at s h) }
+  pub got_may_give : (C : Fact N) (x : Value N) (verb : Words) (v : Value N) → Gets K E a C (IsValue v) → Gets K E a C (MayGive x verb v)
+  got_may_give C x verb v g = record { at = λ s h. inl (g.at s h) }
 
   -- ---- following
 
@@ -216,7 +236,7 @@ module _ {N W : Type 0} (K : Naming N W) (E : Ground N W) (a : ℕ) where
   pub look_list : {C : Fact N} (k : ℕ) → Gets K E a C (IsValue (Items k)) → Fine K E a C (look (λ s. list_at s.lists k)) AreValues
   look_list k g = fine_sees K E a (λ s. list_at s.lists k) AreValues (λ s h c. members_known s k (g.at s c))
 
-  cell_known : (s : Vat N) → Good K E s → (k : ℕ) (o : Option (Cell N)) → slice_get s.slots k ≡ o → Has K E s a (ASlot k) → MayBe (λ c. Knew K E s a c.guard × PutTold K E s k c.value) o
+  cell_known : (s : Vat N) → Good K E s → (k : ℕ) (o : Option (Cell N)) → slice_get s.slots k ≡ o → Has K E s a (ASlot k) → MayBe (λ c. Has K E s a (AGuard c.guard) × PutTold K E s k c.value) o
   cell_known s g k (Some c) e h = (guard k c h e, g.cells k c e)
   cell_known s g k None e h = tt
 
@@ -237,6 +257,22 @@ module _ {N W : Type 0} (K : Naming N W) (E : Ground N W) (a : ℕ) where
   pub look_data : {C : Fact N} (y : Value N) (verb : Words) (args : List (Value N)) → Gets K E a C (IsValue y) → Gets K E a C (AreValues args) → Fine K E a C (look (λ s. native.data_reply s.lists y verb args (map (follow K s) args))) IsReply
   look_data y verb args g k = fine_sees K E a (λ s. native.data_reply s.lists y verb args (map (follow K s) args)) IsReply
       (λ s h c. answers_known K (held K E s) s.happened a y verb args (map (follow K s) args) (g.at s c) (k.at s c) (all_follow s h args (k.at s c)))
+
+  -- no data coerces
+  none_coerces : (s : Vat N) (y v j w k : Value N) → ReplyHas (Knew K E s a) (native.data_reply s.lists y (codes "coerce") (v ∷ j ∷ []) (w ∷ k ∷ []))
+  unfolding native.data_reply native.int_reply native.flag_reply native.letter_reply native.text_reply native.list_reply native.no_method entry same_words
+  none_coerces s Null v j w k = tt
+  none_coerces s (Flag b) v j w k = tt
+  none_coerces s (Number z) v j w k = tt
+  none_coerces s (Letter c) v j w k = tt
+  none_coerces s (Text t) v j w k = tt
+  none_coerces s (Prim n) v j w k = tt
+  none_coerces s (Broken p) v j w k = tt
+  none_coerces s (Items n) v j w k = tt
+  none_coerces s (Ref n) v j w k = tt
+
+  pub look_coerce : {C : Fact N} (y v j : Value N) → Fine K E a C (look (λ s. native.data_reply s.lists y (codes "coerce") (v ∷ j ∷ []) (map (follow K s) (v ∷ j ∷ [])))) IsReply
+  look_coerce y v j = fine_sees K E a (λ s. native.data_reply s.lists y (codes "coerce") (v ∷ j ∷ []) (map (follow K s) (v ∷ j ∷ []))) IsReply (λ s h c. none_coerces s y v j (follow K s v) (follow K s j))
 
   pub look_range : {C : Fact N} (last : Bool) (x y : Value N) → Fine K E a C (look (λ s. native.range_reply last (follow K s x) (follow K s y))) IsReply
   look_range last x y = fine_sees K E a (λ s. native.range_reply last (follow K s x) (follow K s y)) IsReply (λ s h c. range_has (Knew K E s a) (knew_plain s) last (follow K s x) (follow K s y))
@@ -380,12 +416,12 @@ module _ {N W : Type 0} (K : Naming N W) (E : Ground N W) (a : ℕ) (tree : List
   pub got_judged : (C : Fact N) (view : View N) (x : Value N) (verb : Words) (args : List (Value N)) (i : ℕ) → Gets K E a C (WasCalled x verb args) → Gets K E a C (IsAt x i) → Gets K E a C (IsJudged i view) → Gets K E a C (IsJudging view)
   got_judged C view x verb args i g k j = record { at = λ s h. let c = g.at s h in let d = j.at s h in inr (x, i, d.0, c.2, k.at s h, d.1, d.2) }
 
-  told_known : (s : Vat N) (b : ℕ) (f : Freedom N) → FreedomKnown K E s b f → Knew K E s b (scopes.guard_told f)
+  told_known : (s : Vat N) (b : ℕ) (f : Freedom N) → FreedomKnown K E s b f → Has K E s b (AGuard (scopes.guard_told f))
   unfolding scopes.guard_told any_guard
-  told_known s b IsSafe h = plain tt
-  told_known s b IsItself h = plain tt
+  told_known s b IsSafe h = serves (plain tt)
+  told_known s b IsItself h = serves (plain tt)
   told_known s b (IsFinal g) h = h
-  told_known s b IsVar h = plain tt
+  told_known s b IsVar h = serves (plain tt)
 
   -- a guard that is told, or no reply
   abbrev pub GuardReply : (Value N → Type 0) → Reply N → Type 0
@@ -395,12 +431,12 @@ module _ {N W : Type 0} (K : Naming N W) (E : Ground N W) (a : ℕ) (tree : List
   GuardReply P (Iterates o vs) = ⊥
   GuardReply P (Fails p) = Unit {0}
 
-  guard_at_known : (s : Vat N) (b : ℕ) (fs : List (FreeName N)) (x : Words) → AllOf (λ (f : FreeName N). FreedomKnown K E s b f.freedom) fs → GuardReply (Knew K E s b) (scopes.guard_at fs x)
+  guard_at_known : (s : Vat N) (b : ℕ) (fs : List (FreeName N)) (x : Words) → AllOf (λ (f : FreeName N). FreedomKnown K E s b f.freedom) fs → GuardReply (λ v. Has K E s b (AGuard v)) (scopes.guard_at fs x)
   unfolding scopes.guard_at
   guard_at_known s b [] x h = tt
-  guard_at_known s b (f ∷ fs) x h = either_has (GuardReply (Knew K E s b)) (same_words f.noun x) (Says (scopes.guard_told f.freedom)) (scopes.guard_at fs x) (told_known s b f.freedom h.0) (guard_at_known s b fs x h.1)
+  guard_at_known s b (f ∷ fs) x h = either_has (GuardReply (λ v. Has K E s b (AGuard v))) (same_words f.noun x) (Says (scopes.guard_told f.freedom)) (scopes.guard_at fs x) (told_known s b f.freedom h.0) (guard_at_known s b fs x h.1)
 
-  pub guard_asked_known : (s : Vat N) (b : ℕ) (fs : List (FreeName N)) (x : Value N) → AllOf (λ (f : FreeName N). FreedomKnown K E s b f.freedom) fs → GuardReply (Knew K E s b) (scopes.guard_asked fs x)
+  pub guard_asked_known : (s : Vat N) (b : ℕ) (fs : List (FreeName N)) (x : Value N) → AllOf (λ (f : FreeName N). FreedomKnown K E s b f.freedom) fs → GuardReply (λ v. Has K E s b (AGuard v)) (scopes.guard_asked fs x)
   unfolding scopes.guard_asked
   guard_asked_known s b fs (Text t) h = guard_at_known s b fs t h
   guard_asked_known s b fs Null h = tt

@@ -6,16 +6,17 @@ use Rattle.def_machine.specs.State.{Message, Standing, Unsettled, WaitsOn, Viewe
 use Rattle.def_machine.specs.Arrive.{Incoming, Old, New}
 use Rattle.law_machine.proofs.Walks.{Property, Holds}
 use Rattle.law_machine.specs.Steps.{Step, Opens, Takes, Receives, Notices}
-use Rattle.def_run.specs.World.{World}
 use Rattle.law_connected.specs.Known.{IsAmong, AllOf}
-use Rattle.law_connected.specs.Stems.{LeadsTo, PassesAs, PassAll, HasLine, Stems}
+use Rattle.law_connected.specs.Stems.{LeadsTo, PassesAs, PassAll}
 use Rattle.law_connected.specs.MessageLaws.{IsToldStanding}
 use Rattle.law_connected.proofs.Passing.{Kept, kept_all, leads_map, all_map, pass_all_map, passes_map}
 
--- a step of a vat from a world
-pub record Past : Type 0 where
-  pub world : World
-  pub vat : ℕ
+-- A step of a vat, and what is shown of what was there before it: the lines of the vat, and each message that it has.
+pub record Past : Type 1 where
+  pub line : Happened Name → Type 0
+  -- of a message that is no reaction, and of one that is
+  pub was : Message Name → Type 0
+  pub reacted : Message Name → Type 0
   pub step : Step Name Name
 
 -- ---- a note that is read
@@ -126,9 +127,13 @@ Came s (Takes tree depth n) m = ⊥
 Came s (Receives from n) m = CameBy s n m
 Came s (Notices w) m = ⊥
 
--- a message that a line of this step sent, as a send or as a reaction
+-- a message that a line of this step sent
 abbrev pub SentIn : Vat Name → Message Name → Type 0
-SentIn s m = ((a : ℕ) × IsAmong (Sends a m) s.happened) ⊎ ((a : ℕ) × (x : Value Name) × (o : Value Name) × (m.args ≡ x ∷ []) × IsAmong (Reacts a x o m) s.happened)
+SentIn s m = (a : ℕ) × IsAmong (Sends a m) s.happened
+
+-- a reaction that a line of this step tells
+abbrev pub ReactsIn : Vat Name → Message Name → Type 0
+ReactsIn s m = (a : ℕ) × (x : Value Name) × (o : Value Name) × (n : Name) × (m.args ≡ x ∷ []) × (m.answer ≡ Some n) × IsAmong (Reacts a x o m) s.happened
 
 -- the state t has all that s has to show
 abbrev pub Later : Vat Name → Vat Name → Type 0
@@ -154,19 +159,29 @@ came_later s t l (Takes tree depth n) m h = h
 came_later s t l (Notices w) m h = h
 
 sent_later : (s t : Vat Name) → Later s t → (m : Message Name) → SentIn s m → SentIn t m
-sent_later s t l m (inl h) = inl (h.0, l.0 _ h.1)
-sent_later s t l m (inr h) = inr (h.0, h.1, h.2, h.3, l.0 _ h.4)
+sent_later s t l m h = (h.0, l.0 _ h.1)
+
+reacts_later : (s t : Vat Name) → Later s t → (m : Message Name) → ReactsIn s m → ReactsIn t m
+reacts_later s t l m h = (h.0, h.1, h.2, h.3, h.4, h.5, l.0 _ h.6)
 
 module _ (p : Past) where
   abbrev pub Line : Vat Name → Happened Name → Type 0
-  Line s e = HasLine p.world p.vat e ⊎ IsAmong e s.happened
+  Line s e = p.line e ⊎ IsAmong e s.happened
 
   -- a message that stems from what was sent, before this step or in it
   abbrev pub Source : Vat Name → Message Name → Type 0
-  Source s m = SentIn s m ⊎ (Came s p.step m ⊎ Stems p.world p.vat m)
+  Source s m = SentIn s m ⊎ (Came s p.step m ⊎ p.was m)
 
   abbrev pub Fine : Vat Name → Message Name → Type 0
   Fine s m = (x : Value Name) × LeadsTo (Line s) x m.target × Source s (record m { target = x })
+
+  -- a reaction, before this step or in it
+  abbrev pub ReactionFine : Vat Name → Message Name → Type 0
+  ReactionFine s m = ReactsIn s m ⊎ p.reacted m
+
+  -- what a vat takes
+  abbrev pub QueuedFine : Vat Name → Message Name → Type 0
+  QueuedFine s m = Fine s m ⊎ ReactionFine s m
 
   abbrev pub Passing : Vat Name → Value Name → Passed Name → Type 0
   Passing s x y = PassesAs (Line s) (Members s) (Offers s) x y
@@ -183,11 +198,11 @@ module _ (p : Past) where
   NoteFine s (Shorten n c i) = Unit {0}
 
   abbrev pub KnownFine : Vat Name → Known Name → Type 0
-  KnownFine s k = AllOf (Fine s) k.held × AllOf (Fine s) k.reactions × StandTold (Line s) k.name k.standing
+  KnownFine s k = AllOf (Fine s) k.held × AllOf (ReactionFine s) k.reactions × StandTold (Line s) k.name k.standing
 
   -- what t has is fine by what s has to show
   abbrev pub FineIn : Vat Name → Vat Name → Type 0
-  FineIn s t = AllOf (Fine s) t.queue × AllOf (KnownFine s) t.known × AllOf (λ (q : Put Name). NoteFine s q.note) t.outbox × AllOf (TookFine p.step) t.happened
+  FineIn s t = AllOf (QueuedFine s) t.queue × AllOf (KnownFine s) t.known × AllOf (λ (q : Put Name). NoteFine s q.note) t.outbox × AllOf (TookFine p.step) t.happened
 
   abbrev pub Good : Vat Name → Type 0
   Good s = FineIn s s
@@ -207,6 +222,14 @@ module _ (p : Past) where
   pub fine_later : (s t : Vat Name) → Later s t → (m : Message Name) → Fine s m → Fine t m
   fine_later s t l m h = (h.0, lead_later s t l h.0 m.target h.1, source_later s t l (record m { target = h.0 }) h.2)
 
+  pub reaction_later : (s t : Vat Name) → Later s t → (m : Message Name) → ReactionFine s m → ReactionFine t m
+  reaction_later s t l m (inl h) = inl (reacts_later s t l m h)
+  reaction_later s t l m (inr h) = inr h
+
+  queued_later : (s t : Vat Name) → Later s t → (m : Message Name) → QueuedFine s m → QueuedFine t m
+  queued_later s t l m (inl h) = inl (fine_later s t l m h)
+  queued_later s t l m (inr h) = inr (reaction_later s t l m h)
+
   pub passing_later : (s t : Vat Name) → Later s t → (x : Value Name) (y : Passed Name) → Passing s x y → Passing t x y
   passing_later s t l x y h = passes_map (Line s) (Line t) (kept_all (Line s) (Line t) (line_later s t l)) (Members s) (Members t) l.1 (Offers s) (Offers t) (λ w i n k. l.2 _ k) x y h
 
@@ -222,11 +245,11 @@ module _ (p : Past) where
   note_later s t l (Shorten n c i) h = tt
 
   pub known_later : (s t : Vat Name) → Later s t → (k : Known Name) → KnownFine s k → KnownFine t k
-  known_later s t l k h = (all_map (Fine s) (Fine t) (fine_later s t l) k.held h.0, all_map (Fine s) (Fine t) (fine_later s t l) k.reactions h.1, stand_map (Line s) (Line t) (kept_all (Line s) (Line t) (line_later s t l)) k.name k.standing h.2)
+  known_later s t l k h = (all_map (Fine s) (Fine t) (fine_later s t l) k.held h.0, all_map (ReactionFine s) (ReactionFine t) (reaction_later s t l) k.reactions h.1, stand_map (Line s) (Line t) (kept_all (Line s) (Line t) (line_later s t l)) k.name k.standing h.2)
 
   pub good_later : (s t u : Vat Name) → Later s t → FineIn s u → FineIn t u
   good_later s t u l g = (
-    all_map (Fine s) (Fine t) (fine_later s t l) u.queue g.0,
+    all_map (QueuedFine s) (QueuedFine t) (queued_later s t l) u.queue g.0,
     all_map (KnownFine s) (KnownFine t) (known_later s t l) u.known g.1,
     all_map (λ (q : Put Name). NoteFine s q.note) (λ (q : Put Name). NoteFine t q.note) (λ q h. note_later s t l q.note h) u.outbox g.2,
     g.3,

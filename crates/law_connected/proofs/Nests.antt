@@ -160,7 +160,7 @@ module _ {N : Type 0} where
 
   opened : (s : Vat N) (a : ℕ) (x : Value N) (verb : Words) (args : List (Value N)) (b : Option ℕ) → Nesting s → Nesting (with_line s (Called a x verb args b))
   unfolding nested_on nested_after
-  opened s a x verb args b n = (record { caller = a; receiver = x; begun = b } ∷ n.0, last_line s (Called a x verb args b) ∙ ap (λ o. nested_on o (Called a x verb args b)) n.1)
+  opened s a x verb args b n = (record { caller = a; receiver = x; verb = verb; begun = b } ∷ n.0, last_line s (Called a x verb args b) ∙ ap (λ o. nested_on o (Called a x verb args b)) n.1)
 
   call_ends : (s : Vat N) (a : ℕ) (x : Value N) (verb : Words) (args : List (Value N)) (b : Option ℕ) (d : Done N (Value N)) → Ends (with_line s (Called a x verb args b)) d
       → Ends s (end_by (λ v. tell (Back a v) >> give v) (λ p. tell (Thrown a p) >> throw p) (λ n v. tell (Left a) >> eject n v) d)

@@ -10,7 +10,7 @@ use Rattle.law_name.proofs.SameNames.{reference_is}
 use Rattle.law_connected.specs.Known.{IsAmong, AllOf}
 use Rattle.law_connected.specs.Stems.{LeadsTo, itself, settled, viewed}
 use Rattle.law_connected.proofs.Passing.{kept_all, passes_on, leads_on, leads_map, all_map}
-use Rattle.law_connected.proofs.Moments.{Past, Line, Members, StandTold, Fine, fine_later, Passing, PassingAll, line_later, passing_later, passing_all_later, KnownFine, Good, Ends, Any, Brings, Does, Lasting, does_bind, does_then, does_also, does_any, does_from, does_to, does_keep, does_give, does_look, brings_does, brings_bind, brings_then, brings_look, brings_give, brings_each, does_for_some, brings_some}
+use Rattle.law_connected.proofs.Moments.{Past, Line, Members, StandTold, Fine, fine_later, ReactionFine, reaction_later, Passing, PassingAll, line_later, passing_later, passing_all_later, KnownFine, Good, Ends, Any, Brings, Does, Lasting, does_bind, does_then, does_also, does_any, does_from, does_to, does_keep, does_give, does_look, brings_does, brings_bind, brings_then, brings_look, brings_give, brings_each, does_for_some, brings_some}
 use Rattle.law_connected.proofs.Singles.{brings, brings_spend, brings_draw, brings_come, brings_message, brings_open, does_tell, does_enqueue, does_out, does_open, does_alter, alters_tell, tells_posted, tells_lost, brings_lone_message}
 
 abbrev pub GoodSettler : Past → (Name → Value Name → Act Name (Unit {0})) → Type 0
@@ -273,6 +273,9 @@ module _ (word : ℕ → ℕ) (v : ℕ) (past : Past) where
   fine_lasts : (m : Message Name) → Lasting past (λ s. Fine past s m)
   fine_lasts m s t l h = fine_later past s t l m h
 
+  reaction_lasts : (m : Message Name) → Lasting past (λ s. ReactionFine past s m)
+  reaction_lasts m s t l h = reaction_later past s t l m h
+
   abbrev GoesTo : Message Name → Name → Vat Name → Type 0
   GoesTo m n s = Fine past s m × LeadsTo (Line past s) m.target (Ref n)
 
@@ -329,7 +332,7 @@ module _ (word : ℕ → ℕ) (v : ℕ) (past : Past) where
 
   does_send_to : (settle : Name → Value Name → Act Name (Unit {0})) → GoodSettler past settle → (m : Message Name) (y : Value Name) (o : Place Name) → Does past (λ s. Fine past s m × ToPlace m.target y o s) (Any past) (refs.send_to (naming word v) settle m y o)
   unfolding refs.send_to
-  does_send_to settle h m y Near = does_from past (λ s i. fine_on past s m y i.0 i.1) (does_enqueue past (record m { target = y }))
+  does_send_to settle h m y Near = does_from past (λ s i. inl (fine_on past s m y i.0 i.1)) (does_enqueue past (record m { target = y }))
   does_send_to settle h m y (Mine n) = does_from past (λ s i. fine_on past s m y i.0 i.1) (does_alter word v past (Hold (record m { target = y })) n)
   does_send_to settle h m y (Away w n o) = does_from past (λ s i. (i.0, subst (λ z. LeadsTo (Line past s) m.target z) i.1.1 i.1.0)) (does_pass_on m w n)
   does_send_to settle h m y (Gone t) = does_from past (λ s i. tt) (does_any past (brings_then past (tells_lost past m.id) (brings_some past m.answer (λ a. h a (Broken t)) (brings_give past tt))))
@@ -449,10 +452,10 @@ module _ (word : ℕ → ℕ) (v : ℕ) (past : Past) where
   -- ---- settling
 
   abbrev HasFine : Known Name → Vat Name → Type 0
-  HasFine k s = AllOf (Fine past s) k.held × AllOf (Fine past s) k.reactions
+  HasFine k s = AllOf (Fine past s) k.held × AllOf (ReactionFine past s) k.reactions
 
   has_lasts : (k : Known Name) → Lasting past (HasFine k)
-  has_lasts k s t l h = (all_map (Fine past s) (Fine past t) (fine_later past s t l) k.held h.0, all_map (Fine past s) (Fine past t) (fine_later past s t l) k.reactions h.1)
+  has_lasts k s t l h = (all_map (Fine past s) (Fine past t) (fine_later past s t l) k.held h.0, all_map (ReactionFine past s) (ReactionFine past t) (reaction_later past s t l) k.reactions h.1)
 
   does_settle_known : (settle : Name → Value Name → Act Name (Unit {0})) → GoodSettler past settle → (p : Name) (y : Value Name) (k : Known Name) → Does past (HasFine k) (Any past) (refs.settle_known (naming word v) settle p y k)
   unfolding refs.settle_known
@@ -460,7 +463,7 @@ module _ (word : ℕ → ℕ) (v : ℕ) (past : Past) where
       (λ a. does_then past (does_from past (λ s i. (i.0, inr i.1)) (does_also past (HasFine k) (has_lasts k) (does_alter word v past (Settle y) p)))
       (λ b. does_then past (does_from past (λ s i. (i.0, i.0.0)) (does_also past (HasFine k) (has_lasts k) (does_each past (λ m s. Fine past s m) fine_lasts (does_send_on settle h) k.held)))
       (λ c. does_then past (does_from past (λ s i. i.0) (does_keep past (HasFine k) (has_lasts k) (brings_each past k.waiting (λ q. h q y))))
-      (λ d. does_then past (does_from past (λ s i. i.1) (does_each past (λ m s. Fine past s m) fine_lasts (does_enqueue past) k.reactions))
+      (λ d. does_then past (does_from past (λ s i. i.1) (does_each past (λ m s. ReactionFine past s m) reaction_lasts (λ m. does_from past (λ s j. inr j) (does_enqueue past m)) k.reactions))
       (λ e. does_any past (brings_each past k.told (brings_inform p)))))))
 
   does_settle_standing : (settle : Name → Value Name → Act Name (Unit {0})) → GoodSettler past settle → (p : Name) (y : Value Name) (k : Known Name) (x : Standing Name) → Does past (HasFine k) (Any past) (refs.settle_standing (naming word v) settle p y k x)
@@ -531,7 +534,7 @@ module _ (word : ℕ → ℕ) (v : ℕ) (past : Past) where
   does_sends : (act : ℕ) (x y : Value Name) (o : Place Name) (verb : Words) (args : List (Value Name)) (id : Name) (n : Option Name) (z : Value Name) → Does past (ToPlace x y o) (Any past)
       (tell (Sends act (record { id = id; target = x; verb = verb; args = args; answer = n })) >> (refs.send_first (naming word v) (record { id = id; target = y; verb = verb; args = args; answer = n }) y o >> give z))
   does_sends act x y o verb args id n z = does_then past (does_from past (λ s i. (i, tt)) (does_also past (ToPlace x y o) (place_lasts x y o) (does_tell past (Sends act (record { id = id; target = x; verb = verb; args = args; answer = n })) tt)))
-      (λ a. does_then past (does_from past (λ s i. ((x, itself, inl (inl (act, i.1))), i.0)) (does_send_first (record { id = id; target = x; verb = verb; args = args; answer = n }) x y o)) (λ b. does_any past (brings_give past z)))
+      (λ a. does_then past (does_from past (λ s i. ((x, itself, inl (act, i.1)), i.0)) (does_send_first (record { id = id; target = x; verb = verb; args = args; answer = n }) x y o)) (λ b. does_any past (brings_give past z)))
 
   does_numbered : (act : ℕ) (x y : Value Name) (o : Place Name) (verb : Words) (args : List (Value Name)) (u : ℕ) → Does past (ToPlace x y o) (Any past)
       (new_message (naming word v) u >>= λ new. tell (Sends act (record { id = new.0; target = x; verb = verb; args = args; answer = Some new.1 })) >> (refs.send_first (naming word v) (record { id = new.0; target = y; verb = verb; args = args; answer = Some new.1 }) y o >> give (Ref new.1)))
@@ -555,19 +558,19 @@ module _ (word : ℕ → ℕ) (v : ℕ) (past : Past) where
         (does_lone act x _ _ verb args).after t (at_place t x _ _ refl j) k)).after s (follows s g x) g)).after s tt g;
   }
 
-  does_react_at : (m : Message Name) (o : Place Name) → Does past (λ s. Fine past s m) (Any past) (refs.react_at (naming word v) m o)
+  does_react_at : (m : Message Name) (o : Place Name) → Does past (λ s. ReactionFine past s m) (Any past) (refs.react_at (naming word v) m o)
   unfolding refs.react_at
   does_react_at m (Mine n) = does_alter word v past (React m) n
   does_react_at m (Away h n false) = does_alter word v past (React m) n
-  does_react_at m (Away h n true) = does_enqueue past m
-  does_react_at m Near = does_enqueue past m
-  does_react_at m (Gone t) = does_enqueue past m
+  does_react_at m (Away h n true) = does_from past (λ s i. inr i) (does_enqueue past m)
+  does_react_at m Near = does_from past (λ s i. inr i) (does_enqueue past m)
+  does_react_at m (Gone t) = does_from past (λ s i. inr i) (does_enqueue past m)
 
-  reaction_fine : (s : Vat Name) (act : ℕ) (x o near : Value Name) (id n : Name) → IsAmong (Reacts act x o (refs.reaction (naming word v) id near x n)) s.happened → Fine past s (refs.reaction (naming word v) id near x n)
+  reaction_fine : (s : Vat Name) (act : ℕ) (x o near : Value Name) (id n : Name) → IsAmong (Reacts act x o (refs.reaction (naming word v) id near x n)) s.happened → ReactionFine past s (refs.reaction (naming word v) id near x n)
   unfolding refs.reaction
-  reaction_fine s act x o near id n i = (near, itself, inl (inr (act, x, o, refl, i)))
+  reaction_fine s act x o near id n i = inl (act, x, o, n, refl, refl, i)
 
-  does_reacts : (m : Message Name) (o : Place Name) (n : Name) → Does past (λ s. Fine past s m) (Any past) (refs.react_at (naming word v) m o >> give (Ref n))
+  does_reacts : (m : Message Name) (o : Place Name) (n : Name) → Does past (λ s. ReactionFine past s m) (Any past) (refs.react_at (naming word v) m o >> give (Ref n))
   does_reacts m o n = does_then past (does_react_at m o) (λ b. does_any past (brings_give past (Ref n)))
 
   pub brings_react : (act : ℕ) (x o near : Value Name) → Brings past (refs.react (naming word v) act x o near)

@@ -2,23 +2,24 @@
 use Rattle.std.proofs.Common.{◌≡◌, ℕ, zero, suc, List, [], ◌∷◌, Option, Some, None, refl, sym, subst, ◌∙◌, inl, inr, map, ap, ◌⊎◌}
 use Rattle.std.specs.Prelude.{slice_get, codes, take, drop}
 use Rattle.def_machine.specs.Values.{Words, Value, Ref, Name, Root, Object, Answer, naming, Prim, Text, Null, Broken}
-use Rattle.def_machine.specs.State.{Binding, Cell, Thing, Made, Happened, Took, Called, Finished, PromiseMade, Fixed, ObjectMade, AuditionMade, Back}
+use Rattle.def_machine.specs.State.{Binding, Cell, Known, Thing, Made, Happened, Took, Called, Finished, PromiseMade, Fixed, ObjectMade, AuditionMade, Back}
 use Rattle.law_natives.specs.Natives.{IsPlain}
-use Rattle.law_connected.specs.Known.{Item, Start, Reaches, onward, AValue, ASlot, IsAmong, parts_of_all, tells, Leads, settled, viewed, settles, views, called, itself, Knows, plain, endowed, told, opened_known}
+use Rattle.law_connected.specs.Known.{Item, Start, Holdings, Reaches, onward, AValue, AGuard, ASlot, IsAmong, parts_of, parts_of_all, tells, Leads, settled, viewed, settles, views, called, itself, Knows, plain, endowed, told, serves, opened_known}
 use Rattle.def_machine.specs.Eval.{opened_eval}
 use Rattle.law_machine.specs.Steps.{Opens, Takes, does}
 use Rattle.law_connected.specs.Connected.{evaluates, asks, Connected, StepConnected, given_to, held_from, opened_connected}
-use Rattle.law_connected.specs.Rows.{one_object, secret, helper, sent, message, handed, answering, stray, program, escaping, auditing, fresh, opened_rows}
+use Rattle.law_connected.specs.Rows.{one_object, secret, helper, sent, message, handed, guarded, coercing, answering, stray, program, escaping, auditing, fresh, opened_rows}
 use Rattle.law_connected.specs.Settlings.{IsResolver, IsGiven, gave, threw, resolved, smashed, waited, said, lost, SettlesWell}
 use Rattle.law_connected.specs.ConnectedLaws.{IsClosed}
 use Rattle.law_connected.proofs.Knowing.{least}
 
--- data without names
+-- data without names, and any guard
 abbrev PlainItem : Item Name → Type 0
 PlainItem (AValue v) = IsPlain v
+PlainItem (AGuard v) = Unit {0}
 PlainItem (ASlot k) = ⊥
 
--- activation 1 has no other
+-- activation 1 has nothing else
 abbrev Poor : ℕ → Item Name → Type 0
 Poor a i = a ≡ 1 → PlainItem i
 
@@ -62,35 +63,76 @@ module _ (word : ℕ → ℕ) where
   poor_told a e i (inr (inl x)) t f = absurd (subst (λ e. IsAmong (a, i) (tells e)) x t)
   poor_told a e i (inr (inr x)) t f = absurd x
 
-  poor_follows : (a : ℕ) (x y : Value Name) → Poor a (AValue x) → Leads (naming word 0) one_object.before seen x y → Poor a (AValue y)
-  poor_follows a x y p (settled e) f = absurd (p f)
-  poor_follows a x y p (viewed e) f = absurd (p f)
-  poor_follows a x y p (settles q i o) f = absurd (p f)
-  poor_follows a x y p (views q i o) f = absurd (p f)
+  poor_follows : (before : List (Known Name)) (a : ℕ) (x y : Value Name) → Poor a (AValue x) → Leads (naming word 0) before seen x y → Poor a (AValue y)
+  poor_follows before a x y p (settled e) f = absurd (p f)
+  poor_follows before a x y p (viewed e) f = absurd (p f)
+  poor_follows before a x y p (settles q i o) f = absurd (p f)
+  poor_follows before a x y p (views q i o) f = absurd (p f)
 
-  poor : IsClosed (naming word 0) one_object seen Poor
-  unfolding one_object parts_of_all
-  poor = record {
+  -- where nothing is given, and what objects captured is none
+  poor : (h : Holdings Name Name) → [] ≡ h.given → ((k node : ℕ) (caught : List (Binding Name)) (stamps : List (Value Name)) (i : Item Name) → slice_get h.things k ≡ Some (Made node caught stamps) → IsAmong i (parts_of_all (map (λ b. b.bound) caught)) → PlainItem i)
+      → IsClosed (naming word 0) h seen Poor
+  poor h none caught_plain = record {
     plain = λ a v e f. e;
-    initial = λ a i e f. absurd e;
-    endowed = λ a k node caught stamps i r e m f. absurd (subst (λ bs. IsAmong i (parts_of_all (map (λ b. b.bound) bs))) (sym (no_capture k node caught stamps e)) m);
+    initial = λ a i e f. absurd (subst (λ gs. IsAmong (a, i) gs) (sym none) e);
+    endowed = λ a k node caught stamps i r e m f. caught_plain k node caught stamps i e m;
     told = poor_told;
     member = λ a k v vs p e m f. absurd (p f);
-    followed = poor_follows;
-    guard = λ a k c p e f. absurd (p f);
+    followed = poor_follows h.before;
+    serves = λ a v p f. tt;
+    guard = λ a k c p e f. tt;
   }
 
-  only_plain : Knows (naming word 0) one_object seen 1 (AValue secret) → ⊥
+  only_plain : (h : Holdings Name Name) → IsClosed (naming word 0) h seen Poor → Knows (naming word 0) h seen 1 (AValue secret) → ⊥
   unfolding secret
-  only_plain k = least (naming word 0) one_object seen Poor poor 1 (AValue secret) k refl
+  only_plain h c k = least (naming word 0) h seen Poor c 1 (AValue secret) k refl
+
+  not_sent : (h : Holdings Name Name) → IsClosed (naming word 0) h seen Poor → Connected (naming word 0) h (handed []) → ⊥
+  unfolding opened_connected handed message
+  not_sent h p c = no c.1.1.0.0.0
+    where
+      no : Knows (naming word 0) h seen 1 (AValue secret) ⊎ ⊥ → ⊥
+      no (inl k) = only_plain h p k
+      no (inr x) = absurd x
 
   pub kept_is_not : Connected (naming word 0) one_object (handed []) → ⊥
-  unfolding opened_connected handed message
-  kept_is_not c = no c.1.1.0.0.0
+  unfolding one_object parts_of_all
+  kept_is_not c = not_sent one_object (poor one_object refl (λ k node caught stamps i e m. absurd (subst (λ bs. IsAmong i (parts_of_all (map (λ b. b.bound) bs))) (sym (no_capture k node caught stamps e)) m))) c
+
+  -- ---- captured under a guard
+
+  null_caught : (k node : ℕ) (caught : List (Binding Name)) (stamps : List (Value Name)) (i : Item Name) → slice_get guarded.things k ≡ Some (Made node caught stamps) → IsAmong i (parts_of_all (map (λ b. b.bound) caught)) → PlainItem i
+  unfolding guarded one_object parts_of parts_of_all caught_of
+  null_caught zero node caught stamps i e m = one (subst (λ bs. IsAmong i (parts_of_all (map (λ b. b.bound) bs))) (sym (ap caught_of e)) m)
     where
-      no : Knows (naming word 0) one_object seen 1 (AValue secret) ⊎ ⊥ → ⊥
-      no (inl k) = only_plain k
-      no (inr x) = absurd x
+      one : IsAmong i (AValue Null ∷ AGuard secret ∷ []) → PlainItem i
+      one (inl f) = subst PlainItem (sym f) tt
+      one (inr (inl f)) = subst PlainItem (sym f) tt
+      one (inr (inr x)) = absurd x
+  null_caught (suc k) node caught stamps i e m = absurd (subst (λ bs. IsAmong i (parts_of_all (map (λ b. b.bound) bs))) (sym (ap caught_of e)) m)
+
+  pub leak_is_not : Connected (naming word 0) guarded (handed []) → ⊥
+  unfolding guarded one_object
+  leak_is_not c = not_sent guarded (poor guarded refl null_caught) c
+
+  pub coercing_is : Connected (naming word 0) guarded coercing
+  unfolding opened_eval opened_connected opened_rows
+  coercing_is = (
+    (tt, tt),
+    (
+      ((inl (told _ (inl refl) (inl refl)), tt), tt),
+      (
+        (
+          (
+            inl (endowed 0 0 _ [] (called 0 helper (codes "run") [] (inr (inl refl)) (Object 0 0, itself, refl)) refl (inr (inl refl))),
+            (inl (plain tt), (inl (plain tt), tt)),
+          ),
+          tt,
+        ),
+        tt,
+      ),
+    ),
+  )
 
   -- ---- settled to what nobody gave
 
@@ -181,7 +223,7 @@ module _ (word : ℕ → ℕ) where
   program_is = (
     (tt, tt),
     (
-      ((inl (told _ (inl refl) (inl refl)), (inl (plain tt), tt)), tt),
+      ((inl (told _ (inl refl) (inl refl)), (inl (serves (plain tt)), tt)), tt),
       (
         ((inl (told _ (inr (inl refl)) (inl refl)), (inl (told _ (inl refl) (inl refl)), tt)), tt),
         (
@@ -262,11 +304,11 @@ module _ (word : ℕ → ℕ) where
   audit_is = (
     (tt, tt),
     (
-      ((inl (told _ (inl refl) (inl refl)), (inl (plain tt), tt)), tt),
+      ((inl (told _ (inl refl) (inl refl)), (inl (serves (plain tt)), tt)), tt),
       (
         (tt, tt),
         (
-          ((inl (told _ (inr (inr (inl refl))) (inl refl)), (inl (plain tt), (inl (plain tt), tt))), tt),
+          ((inl (serves (told _ (inr (inr (inl refl))) (inl refl))), (inl (plain tt), (inl (plain tt), tt))), tt),
           (
             (tt, (refl, plain tt)),
             (
@@ -282,7 +324,7 @@ module _ (word : ℕ → ℕ) where
                       (
                         ((inl (told _ (inr (inr (inr (inr (inr (inr (inr (inr (inr (inl refl)))))))))) (inl refl)), (inl (plain tt), tt)), tt),
                         (
-                          (tt, (refl, inr (0, 4, (Object 0 4, itself, refl), asks 2 3 (Ref (Object 0 3)) (Object 0 4) (take 8 audited) (drop 9 (take 11 audited)) refl refl refl (Object 0 3, itself, refl) (evaluates (Object 0 3) (take 5 audited) (drop 6 (take 11 audited)) refl refl refl), told _ (inr (inr (inl refl))) (inl refl)))),
+                          (tt, (refl, inr (refl, 0, 4, (Object 0 4, itself, refl), asks 2 3 (Ref (Object 0 3)) (Object 0 4) (take 8 audited) (drop 9 (take 11 audited)) refl refl refl (Object 0 3, itself, refl) (evaluates (Object 0 3) (take 5 audited) (drop 6 (take 11 audited)) refl refl refl), serves (told _ (inr (inr (inl refl))) (inl refl))))),
                           (
                             (tt, (refl, told _ (inr (inr (inr (inr (inr (inr (inr (inr (inr (inr (inr (inl refl)))))))))))) (inl refl))),
                             (
@@ -290,7 +332,7 @@ module _ (word : ℕ → ℕ) where
                               (
                                 (tt, (refl, plain tt)),
                                 (
-                                  ((inl (plain tt), (inl (told _ (inr (inr (inl refl))) (inl refl)), tt)), tt),
+                                  ((inl (plain tt), (inl (serves (told _ (inr (inr (inl refl))) (inl refl))), tt)), tt),
                                   (
                                     ((inl (told _ (inr (inr (inr (inr (inr (inr (inr (inr (inr (inr (inr (inr (inr (inr (inr (inl refl)))))))))))))))) (inl refl)), tt), tt),
                                     (

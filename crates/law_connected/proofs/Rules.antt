@@ -11,8 +11,8 @@ use Rattle.def_machine.specs.Scopes.{Answer, Answers}
 use Rattle.def_machine.specs.Calls as calls
 use Rattle.def_kernel.specs.declared.node.Node.{Node}
 use Rattle.law_connected.specs.Known as known
-use Rattle.law_connected.specs.Known.{Item, AValue, ASlot, IsAmong, AllOf, tells, by, parts_of, parts_of_all}
-use Rattle.law_connected.specs.Connected.{Open, without_first, served, unless_begun, open_after, LineWell, GivenBack, uses, itself}
+use Rattle.law_connected.specs.Known.{Item, AValue, AGuard, ASlot, IsAmong, AllOf, tells, by, parts_of, parts_of_all}
+use Rattle.law_connected.specs.Connected.{Open, without_first, served, unless_begun, open_after, LineWell, GivenBack, callee, uses, itself}
 use Rattle.law_connected.proofs.Traces.{among_last}
 use Rattle.law_connected.specs.Settlings.{sent}
 use Rattle.law_connected.proofs.Causes.{steady_promise, steady_message, steady_lone_message}
@@ -21,8 +21,8 @@ use Rattle.law_connected.specs.News.{own_number}
 use Rattle.law_connected.proofs.Idle.{idle_promise, idle_message, idle_lone_message}
 use Rattle.law_connected.proofs.RefsIdle.{idle_settle, idle_resolve, idle_send_first, idle_react_at}
 use Rattle.law_connected.proofs.Ground.{Ground, opens, with_line, opens_last, held, Has, Knew, Grows, Good, grows_line, grows_trans, good_line}
-use Rattle.law_connected.proofs.Fine.{MayBe, Fact, Nothing, Also, IsAct, IsValue, AreValues, IsBound, IsScope, MayValue, MadeEjector, WasHanded, WasCalled, MayGive, IsReply, answer, answers, nothing, BoundKnown, NounKnown, Handed, Holds, Gets, Keeps, Passes, Ends, Fine, holds_up, still_holds, handed_up, passes_same, passes_trans, widen, fine_bind, fine_less, fine_then, fine_ending, fine_some, fine_some_name, fine_if, fine_give, fine_throw, fine_eject, fine_stop, fine_look, act_is, then_line, thing_block, uses_values, is_told, fine_left, fine_spend, fine_kill, bind_slot, bind_list, then_read, then_wrote, fine_idle, fine_steady, Leads, IsPlaced, IsLine, GivenTo, MaySettle}
-use Rattle.law_connected.proofs.Looks.{got, got_left, got_right, got_itself, got_both, got_nothing, got_null, got_flag, got_number, got_text, got_prim, got_none, got_more, got_no_lists, got_lists, got_act, got_with, got_fixed, got_slot, got_any, got_no_match, got_literal, got_safe, got_bound_in, got_asked, got_audition_ask, got_may_give, got_item, got_stamp, look_follow, look_leads, look_place, look_list, look_cell, look_data, look_range, look_compared, look_null_or, look_taken, look_same, look_broken, look_thrown, look_test}
+use Rattle.law_connected.proofs.Fine.{MayBe, Fact, Nothing, Also, IsAct, IsValue, IsCallee, AreValues, IsBound, IsScope, MayValue, MadeEjector, WasHanded, WasCalled, MayGive, IsReply, answer, answers, nothing, BoundKnown, NounKnown, Handed, Holds, Gets, Keeps, Passes, Ends, Fine, holds_up, still_holds, handed_up, passes_same, passes_trans, widen, fine_bind, fine_less, fine_then, fine_ending, fine_some, fine_some_name, fine_if, fine_give, fine_throw, fine_eject, fine_stop, fine_look, act_is, then_line, thing_block, uses_values, is_told, fine_left, fine_spend, fine_kill, bind_slot, bind_list, then_read, then_wrote, fine_idle, fine_steady, Leads, IsPlaced, IsLine, GivenTo, MaySettle}
+use Rattle.law_connected.proofs.Looks.{got, got_left, got_right, got_itself, got_both, got_nothing, got_guard, got_null, got_flag, got_number, got_text, got_prim, got_none, got_more, got_no_lists, got_lists, got_act, got_with, got_fixed, got_slot, got_any, got_no_match, got_literal, got_safe, got_bound_in, got_asked, got_audition_ask, got_may_give, got_item, got_stamp, look_follow, look_leads, look_place, look_list, look_cell, look_data, look_range, look_compared, look_null_or, look_taken, look_same, look_broken, look_thrown, look_test}
 
 module _ {N W : Type 0} (K : Naming N W) (E : Ground N W) (a : ℕ) where
   -- ---- by what is given
@@ -184,66 +184,66 @@ module _ {N W : Type 0} (K : Naming N W) (E : Ground N W) (a : ℕ) where
   -- ---- a call, with its lines
 
   -- the state in which a call has begun
-  pub called_well : (s : Vat N) (x : Value N) (verb : Words) (args : List (Value N)) (o : Option ℕ) → Knew K E s a x → AllOf (Knew K E s a) args → LineWell K (held K E s) s.happened (Called a x verb args o)
+  pub called_well : (s : Vat N) (x : Value N) (verb : Words) (args : List (Value N)) (o : Option ℕ) → Has K E s a (callee x verb args) → AllOf (Knew K E s a) args → LineWell K (held K E s) s.happened (Called a x verb args o)
   unfolding uses by itself
-  called_well s x verb args o g h = (uses_values K E a s [] (x ∷ args) (g, h), tt)
+  called_well s x verb args o g h = ((inl g, uses_values K E a s [] args h), tt)
 
   -- it ends the call that it began
-  abbrev Begun : Vat N → Vat N → Value N → Option ℕ → Type 0
-  Begun s t x o = Grows K E s t × (opens t ≡ record { caller = a; receiver = x; begun = o } ∷ opens s)
+  abbrev Begun : Vat N → Vat N → Value N → Words → Option ℕ → Type 0
+  Begun s t x verb o = Grows K E s t × (opens t ≡ record { caller = a; receiver = x; verb = verb; begun = o } ∷ opens s)
 
-  after_call : (s t : Vat N) (x : Value N) (o : Option ℕ) (e : Happened N) → Begun s t x o → open_after (opens t) e ≡ without_first (opens t) → Passes K E a s (with_line t e)
+  after_call : (s t : Vat N) (x : Value N) (verb : Words) (o : Option ℕ) (e : Happened N) → Begun s t x verb o → open_after (opens t) e ≡ without_first (opens t) → Passes K E a s (with_line t e)
   unfolding without_first
-  after_call s t x o e b c = (grows_trans K E s t (with_line t e) b.0 (grows_line K E t e), opens_last t e ∙ c ∙ ap without_first b.1)
+  after_call s t x verb o e b c = (grows_trans K E s t (with_line t e) b.0 (grows_line K E t e), opens_last t e ∙ c ∙ ap without_first b.1)
 
-  back_well : (t : Vat N) (x v : Value N) (o : Option ℕ) (cs : List (Open N)) → opens t ≡ record { caller = a; receiver = x; begun = o } ∷ cs → GivenBack K (held K E t) t.happened a x o v → LineWell K (held K E t) t.happened (Back a v)
+  back_well : (t : Vat N) (x : Value N) (verb : Words) (v : Value N) (o : Option ℕ) (cs : List (Open N)) → opens t ≡ record { caller = a; receiver = x; verb = verb; begun = o } ∷ cs → GivenBack K (held K E t) t.happened a x verb o v → LineWell K (held K E t) t.happened (Back a v)
   unfolding uses
-  back_well t x v o cs e g = (tt, rw e (refl, g))
+  back_well t x verb v o cs e g = (tt, rw e (refl, g))
 
   -- how what was called ends, and what may be given back
-  abbrev pub CallEnds : Vat N → Value N → Option ℕ → Done N (Value N) → Type 0
-  CallEnds s x o (Gives v t) = Begun s t x o × Good K E t × GivenBack K (held K E t) t.happened a x o v
-  CallEnds s x o (Throws p t) = Begun s t x o × Good K E t
-  CallEnds s x o (Ejects n v t) = Begun s t x o × Good K E t × Handed K E a t n v
-  CallEnds s x o (Stops c t) = Good K E t
+  abbrev pub CallEnds : Vat N → Value N → Words → Option ℕ → Done N (Value N) → Type 0
+  CallEnds s x verb o (Gives v t) = Begun s t x verb o × Good K E t × GivenBack K (held K E t) t.happened a x verb o v
+  CallEnds s x verb o (Throws p t) = Begun s t x verb o × Good K E t
+  CallEnds s x verb o (Ejects n v t) = Begun s t x verb o × Good K E t × Handed K E a t n v
+  CallEnds s x verb o (Stops c t) = Good K E t
 
-  pub ended_ends : (s : Vat N) (x : Value N) (o : Option ℕ) (d : Done N (Value N)) → CallEnds s x o d → Ends K E a IsValue s (end_by (λ v. tell (Back a v) >> give v) (λ p. tell (Thrown a p) >> throw p) (λ n v. tell (Left a) >> eject n v) d)
+  pub ended_ends : (s : Vat N) (x : Value N) (verb : Words) (o : Option ℕ) (d : Done N (Value N)) → CallEnds s x verb o d → Ends K E a IsValue s (end_by (λ v. tell (Back a v) >> give v) (λ p. tell (Thrown a p) >> throw p) (λ n v. tell (Left a) >> eject n v) d)
   unfolding end_by tell ◌>>◌ and_then give throw eject open_after tells by uses
-  ended_ends s x o (Gives v t) h = (after_call s t x o (Back a v) h.0 refl, good_line K E t (Back a v) refl refl refl tt h.1 (back_well t x v o (opens s) h.0.1 h.2) tt, is_told K E a t (Back a v) (AValue v) (inl refl))
-  ended_ends s x o (Throws p t) h = (after_call s t x o (Thrown a p) h.0 refl, good_line K E t (Thrown a p) refl refl refl tt h.1 (tt, tt) tt)
-  ended_ends s x o (Ejects n v t) h = (after_call s t x o (Left a) h.0 refl, good_line K E t (Left a) refl refl refl tt h.1 (tt, tt) tt, handed_up K E a t (with_line t (Left a)) (grows_line K E t (Left a)) n v h.2)
-  ended_ends s x o (Stops c t) h = h
+  ended_ends s x verb o (Gives v t) h = (after_call s t x verb o (Back a v) h.0 refl, good_line K E t (Back a v) refl refl refl tt h.1 (back_well t x verb v o (opens s) h.0.1 h.2) tt, is_told K E a t (Back a v) (AValue v) (inl refl))
+  ended_ends s x verb o (Throws p t) h = (after_call s t x verb o (Thrown a p) h.0 refl, good_line K E t (Thrown a p) refl refl refl tt h.1 (tt, tt) tt)
+  ended_ends s x verb o (Ejects n v t) h = (after_call s t x verb o (Left a) h.0 refl, good_line K E t (Left a) refl refl refl tt h.1 (tt, tt) tt, handed_up K E a t (with_line t (Left a)) (grows_line K E t (Left a)) n v h.2)
+  ended_ends s x verb o (Stops c t) h = h
 
-  pub begins : (s : Vat N) (x : Value N) (verb : Words) (args : List (Value N)) (o : Option ℕ) → Begun s (with_line s (Called a x verb args o)) x o
+  pub begins : (s : Vat N) (x : Value N) (verb : Words) (args : List (Value N)) (o : Option ℕ) → Begun s (with_line s (Called a x verb args o)) x verb o
   unfolding open_after
   begins s x verb args o = (grows_line K E s (Called a x verb args o), opens_last s (Called a x verb args o))
 
   -- from what was done since the call began
-  given_ends : (s t : Vat N) (x : Value N) (d : Done N (Value N)) → Begun s t x None → Ends K E a (MayGive x) t d → CallEnds s x None d
-  given_ends s t x (Gives v u) b h = ((grows_trans K E s t u b.0 h.0.0, h.0.1 ∙ b.1), h.1, h.2)
-  given_ends s t x (Throws p u) b h = ((grows_trans K E s t u b.0 h.0.0, h.0.1 ∙ b.1), h.1)
-  given_ends s t x (Ejects n v u) b h = ((grows_trans K E s t u b.0 h.0.0, h.0.1 ∙ b.1), h.1, h.2)
-  given_ends s t x (Stops c u) b h = h
+  given_ends : (s t : Vat N) (x : Value N) (verb : Words) (d : Done N (Value N)) → Begun s t x verb None → Ends K E a (MayGive x verb) t d → CallEnds s x verb None d
+  given_ends s t x verb (Gives v u) b h = ((grows_trans K E s t u b.0 h.0.0, h.0.1 ∙ b.1), h.1, h.2)
+  given_ends s t x verb (Throws p u) b h = ((grows_trans K E s t u b.0 h.0.0, h.0.1 ∙ b.1), h.1)
+  given_ends s t x verb (Ejects n v u) b h = ((grows_trans K E s t u b.0 h.0.0, h.0.1 ∙ b.1), h.1, h.2)
+  given_ends s t x verb (Stops c u) b h = h
 
-  lines_now : {C : Fact N} (D : Fact N) (x : Value N) (verb : Words) (args : List (Value N)) (m : Act N (Value N)) → ((s t : Vat N) → Keeps K E a s t D) → Gets K E a C D → Gets K E a C (IsValue x) → Gets K E a C (AreValues args)
-      → Fine K E a (Also D (WasCalled x verb args)) m (MayGive x) → Fine K E a C (scopes.with_lines a x verb args m) IsValue
+  lines_now : {C : Fact N} (D : Fact N) (x : Value N) (verb : Words) (args : List (Value N)) (m : Act N (Value N)) → ((s t : Vat N) → Keeps K E a s t D) → Gets K E a C D → Gets K E a C (IsCallee x verb args) → Gets K E a C (AreValues args)
+      → Fine K E a (Also D (WasCalled x verb args)) m (MayGive x verb) → Fine K E a C (scopes.with_lines a x verb args m) IsValue
   unfolding scopes.with_lines scopes.ended ending tell ◌>>◌ and_then served unless_begun
   lines_now D x verb args m k d g h f = record {
-    after = λ s i c. let t : Vat N = with_line s (Called a x verb args None) in let b : Begun s t x None = begins s x verb args None in
-        ended_ends s x None (m t) (given_ends s t x (m t) b (f.after t (good_line K E s (Called a x verb args None) refl refl refl tt i (called_well s x verb args None (g.at s c) (h.at s c)) tt)
+    after = λ s i c. let t : Vat N = with_line s (Called a x verb args None) in let b : Begun s t x verb None = begins s x verb args None in
+        ended_ends s x verb None (m t) (given_ends s t x verb (m t) b (f.after t (good_line K E s (Called a x verb args None) refl refl refl tt i (called_well s x verb args None (g.at s c) (h.at s c)) tt)
         (holds_up K E a s t b.0 D (k s t) (d.at s c), (a, among_last s.happened (Called a x verb args None), ap served b.1))));
   }
 
   -- a call that begins no activation, under facts that do not speak of open calls
-  pub fine_with_lines : {C : Fact N} (D : Fact N) (act : ℕ) (x : Value N) (verb : Words) (args : List (Value N)) (m : Act N (Value N)) → ((s t : Vat N) → Keeps K E a s t D) → Gets K E a C D → Gets K E a C (IsAct act) → Gets K E a C (IsValue x) → Gets K E a C (AreValues args)
-      → Fine K E a (Also D (WasCalled x verb args)) m (MayGive x) → Fine K E a C (scopes.with_lines act x verb args m) IsValue
+  pub fine_with_lines : {C : Fact N} (D : Fact N) (act : ℕ) (x : Value N) (verb : Words) (args : List (Value N)) (m : Act N (Value N)) → ((s t : Vat N) → Keeps K E a s t D) → Gets K E a C D → Gets K E a C (IsAct act) → Gets K E a C (IsCallee x verb args) → Gets K E a C (AreValues args)
+      → Fine K E a (Also D (WasCalled x verb args)) m (MayGive x verb) → Fine K E a C (scopes.with_lines act x verb args m) IsValue
   fine_with_lines D act x verb args m k d i g h f = act_is K E a act (λ b. scopes.with_lines b x verb args m) i (lines_now D x verb args m k d g h f)
 
   -- ---- captures
 
   bound_from : (s : Vat N) (c : Bound N) (rest : List (Item N)) → ((i : Item N) → IsAmong i (parts_of c ++ rest) → Has K E s a i) → BoundKnown K E a s c × ((i : Item N) → IsAmong i rest → Has K E s a i)
   unfolding parts_of
-  bound_from s (Fixed v g) rest f = ((f (AValue v) (inl refl), f (AValue g) (inr (inl refl))), λ i m. f i (inr (inr m)))
+  bound_from s (Fixed v g) rest f = ((f (AValue v) (inl refl), f (AGuard g) (inr (inl refl))), λ i m. f i (inr (inr m)))
   bound_from s (Slot k) rest f = (f (ASlot k) (inl refl), λ i m. f i (inr m))
 
   pub nouns_from : (s : Vat N) (bs : List (Binding N)) → ((i : Item N) → IsAmong i (parts_of_all (map (λ b. b.bound) bs)) → Has K E s a i) → AllOf (NounKnown K E a s) bs
@@ -251,7 +251,7 @@ module _ {N W : Type 0} (K : Naming N W) (E : Ground N W) (a : ℕ) where
   nouns_from s [] f = tt
   nouns_from s (b ∷ bs) f = let h = bound_from s b.bound (parts_of_all (map (λ b. b.bound) bs)) f in (h.0, nouns_from s bs h.1)
 
-pub ruleset gets = (got, got_left, got_right, got_itself, got_both, got_nothing, got_null, got_flag, got_number, got_text, got_prim, got_none, got_more, got_no_lists, got_lists, got_act, got_with, got_fixed, got_slot, got_any, got_no_match, got_literal, got_safe, got_bound_in, got_asked, got_audition_ask, got_may_give, got_item, got_stamp)
+pub ruleset gets = (got, got_left, got_right, got_itself, got_both, got_nothing, got_guard, got_null, got_flag, got_number, got_text, got_prim, got_none, got_more, got_no_lists, got_lists, got_act, got_with, got_fixed, got_slot, got_any, got_no_match, got_literal, got_safe, got_bound_in, got_asked, got_audition_ask, got_may_give, got_item, got_stamp)
 
 pub ruleset looks = (look_follow, look_list, look_cell, look_data, look_range, look_compared, look_null_or, look_taken, look_same, look_broken, look_thrown, look_test)
 

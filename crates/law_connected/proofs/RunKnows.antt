@@ -19,9 +19,9 @@ use Rattle.law_connected.proofs.FineRuns.{own_spots}
 use Rattle.law_fate.specs.FateRuns.{Reached}
 use Rattle.law_fate.proofs.RunCounts.{pick}
 use Rattle.law_connected.specs.Stems as stems
-use Rattle.law_connected.specs.Stems.{HasLine, Stems}
+use Rattle.law_connected.specs.Stems.{HasLine, Stems, IsReaction, StemsOrReacts}
 use Rattle.law_connected.specs.MessageLaws.{AllStem}
-use Rattle.law_connected.specs.Begotten.{AreRoots, IsTaken, IsReached, start, opened, entered, IsConnected, Knew, Begotten, sent, reacted, carried, LinesConnected, TakenBegotten}
+use Rattle.law_connected.specs.Begotten.{AreRoots, IsTaken, IsReached, start, opened, entered, IsConnected, Knew, Begotten, sent, carried, Reacted, LinesConnected, TakenBegotten}
 use Rattle.law_connected.proofs.Events.{among_either, events_here, IsNobodys, nobodys_join, lost_on_nobodys, vats_nobodys, links_nobodys}
 use Rattle.law_connected.proofs.RunStems.{put_each, one_line, messages_stem, ended_stem}
 
@@ -325,10 +325,14 @@ module _ (script : Script) where
       (c.0, subst (λ xs. AllOf (λ y. Knows (names script v) (held_from c.0.step c.0.before c.0.after) c.0.so a (AValue y)) xs) (sym e) (k.0, tt))
 
   begotten : (w : World) → LinesConnected script w → (v : ℕ) (m : Message Name) → Stems w v m → Begotten script w v m
-  unfolding held_from
   begotten w c v m (stems.sent a x h l) = sent a x h l (sender_knew w v a (record m { target = x }) (c v _ h))
-  begotten w c v m (stems.reacted a x o t e h l) = reacted a x o t h (let k = c v _ h in (k.0, k.1.1)) l (reactor_knew w v a x o (record m { target = t }) (c v _ h) e)
   begotten w c v m (stems.carried u n z ys b s i j k l p q) = carried u n z ys b (begotten w c u n s) i j k l p q
+
+  -- what is taken
+  taken_begotten : (w : World) → LinesConnected script w → (v : ℕ) (m : Message Name) → StemsOrReacts w v m → Begotten script w v m ⊎ Reacted script w v m
+  unfolding held_from
+  taken_begotten w c v m (inl h) = inl (begotten w c v m h)
+  taken_begotten w c v m (inr h) = let k = c v _ h.6 in inr (h.0, h.1, h.2, h.6, (k.0, k.1.1), reactor_knew w v h.0 h.1 h.2 m k h.4)
 
   pub opened_connected : (ps rest : List Program) (w : World) → script.vats ≡ ps ++ rest → world.open_from script zero ps (begins script) ≡ Goes w → LinesConnected script w
   opened_connected ps rest w s e = (opened_knows ps rest w s e).lines
@@ -337,10 +341,10 @@ module _ (script : Script) where
   run_connected w x es k e i = (run_knows w x es k e i).lines
 
   pub opened_begotten : (ps rest : List Program) (w : World) → script.vats ≡ ps ++ rest → world.open_from script zero ps (begins script) ≡ Goes w → TakenBegotten script w
-  opened_begotten ps rest w s e v a m i = begotten w (opened_connected ps rest w s e) v m ((goes_at AllStem _ w e ((messages_stem script).0 ps)).taken v a m i)
+  opened_begotten ps rest w s e v a m i = taken_begotten w (opened_connected ps rest w s e) v m ((goes_at AllStem _ w e ((messages_stem script).0 ps)).taken v a m i)
 
   pub ended_begotten : (w : World) → world.run script ≡ Goes w → TakenBegotten script w
-  ended_begotten w e v a m i = begotten w (ended_connected w e) v m ((ended_stem script w e).taken v a m i)
+  ended_begotten w e v a m i = taken_begotten w (ended_connected w e) v m ((ended_stem script w e).taken v a m i)
 
   pub run_begotten : (w x : World) (es : List Entry) (k : ℕ) → world.open_from script zero script.vats (begins script) ≡ Goes w → world.steps_from script es k w ≡ Goes x → TakenBegotten script x
-  run_begotten w x es k e i v a m j = begotten x (run_connected w x es k e i) v m ((goes_at AllStem _ x i ((messages_stem script).1 w es k e)).taken v a m j)
+  run_begotten w x es k e i v a m j = taken_begotten x (run_connected w x es k e i) v m ((goes_at AllStem _ x i ((messages_stem script).1 w es k e)).taken v a m j)

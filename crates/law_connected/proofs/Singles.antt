@@ -7,7 +7,7 @@ use Rattle.law_connected.specs.Known.{IsAmong, AllOf}
 use Rattle.law_connected.proofs.Knowing.{among_more}
 use Rattle.law_name.proofs.SameNames.{reference_is}
 use Rattle.law_connected.proofs.Passing.{all_end}
-use Rattle.law_connected.proofs.Moments.{Past, Line, Later, later_same, TookFine, Fine, NoteFine, KnownFine, Good, FineIn, good_later, known_later, Ends, Any, Brings, Does, brings_bind, brings_then, brings_ending, brings_some, brings_if, brings_give, brings_throw, brings_eject, brings_stop, brings_look, brings_each}
+use Rattle.law_connected.proofs.Moments.{Past, Line, Later, later_same, TookFine, Fine, ReactionFine, QueuedFine, NoteFine, KnownFine, Good, FineIn, good_later, known_later, Ends, Any, Brings, Does, brings_bind, brings_then, brings_ending, brings_some, brings_if, brings_give, brings_throw, brings_eject, brings_stop, brings_look, brings_each}
 
 pub among_last : {A : Type 0} (xs : List A) (x : A) → IsAmong x (xs ++ x ∷ [])
 among_last [] x = inl refl
@@ -146,9 +146,9 @@ module _ (past : Past) where
   unfolding new_list
   does_list vs = record { after = λ s i g. (later_list s vs, good_later past s (record s { lists = s.lists ++ vs ∷ [] }) s (later_list s vs) g, slice_last s.lists vs) }
 
-  pub does_enqueue : (m : Message Name) → Does past (λ s. Fine past s m) (Any past) (enqueue m)
+  pub does_enqueue : (m : Message Name) → Does past (λ s. QueuedFine past s m) (Any past) (enqueue m)
   unfolding enqueue
-  does_enqueue m = record { after = λ s i g. (later_same s, (all_end (Fine past s) s.queue m g.0 i, g.1, g.2, g.3), tt) }
+  does_enqueue m = record { after = λ s i g. (later_same s, (all_end (QueuedFine past s) s.queue m g.0 i, g.1, g.2, g.3), tt) }
 
   later_out : (s : Vat Name) (q : Put Name) → Later s (record s { outbox = s.outbox ++ q ∷ [] })
   later_out s q = (λ x i. i, λ k vs h. h, λ r h. among_more r s.outbox (q ∷ []) h)
@@ -199,7 +199,7 @@ module _ (past : Past) where
   -- what it asks of a change of that name
   abbrev pub ChangeFine : Vat Name → Name → Change Name → Type 0
   ChangeFine s n (Hold m) = Fine past s m
-  ChangeFine s n (React m) = Fine past s m
+  ChangeFine s n (React m) = ReactionFine past s m
   ChangeFine s n (Settle y) = Line past s (Settles n y)
   ChangeFine s n (See q) = Line past s (Views n q)
   ChangeFine s n (Wait q) = Unit {0}
@@ -209,7 +209,7 @@ module _ (past : Past) where
   changed_to_fine : (s : Vat Name) (k : Known Name) (c : Change Name) → ChangeFine s k.name c → KnownFine past s k → KnownFine past s (changed_to c k)
   unfolding changed_to
   changed_to_fine s k (Hold m) i h = (all_end (Fine past s) k.held m h.0 i, h.1, h.2)
-  changed_to_fine s k (React m) i h = (h.0, all_end (Fine past s) k.reactions m h.1 i, h.2)
+  changed_to_fine s k (React m) i h = (h.0, all_end (ReactionFine past s) k.reactions m h.1 i, h.2)
   changed_to_fine s k (Settle y) i h = (tt, tt, i)
   changed_to_fine s k (See q) i h = (h.0, h.1, i)
   changed_to_fine s k (Wait q) i h = h

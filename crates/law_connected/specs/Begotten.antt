@@ -1,5 +1,5 @@
 -- Only connectivity begets connectivity: what a message brings was known to the activation that sent it.
-use Rattle.std.specs.Prelude.{◌≡◌, ℕ, false, Some, slice_get, List, [], ◌∷◌, ◌++◌}
+use Rattle.std.specs.Prelude.{◌≡◌, ℕ, false, Some, slice_get, List, [], ◌∷◌, ◌++◌, ◌⊎◌}
 use Rattle.def_machine.specs.Values.{Value, Ref, Name, Root}
 use Rattle.def_machine.specs.State.{Fixed, Binding, Message, Note, Passeds, Happened, Took, Sends, Reacts, Vat, Gives}
 use Rattle.def_machine.specs.Scopes.{any_guard}
@@ -66,14 +66,17 @@ Knew script w v a e xs = (l : LineOf script w v e) × AllOf (λ x. Knows (names 
 abbrev pub Followed : Script → World → ℕ → Happened Name → Value Name → Value Name → Type 0
 Followed script w v e x y = (l : LineOf script w v e) × Follows (names script v) (record { step = l.step; vat = l.before }) l.so x y
 
--- A message at vat v: the activation that sent it there, or reacted there, knew each of its arguments, and a target that leads to that of the message; or a note brought it from vat u, where that is so,
+-- A message at vat v that is no reaction: the activation that sent it there knew each of its arguments, and a target that leads to that of the message; or a note brought it from vat u, where that is so,
 -- and each of its arguments stands for one that it had there.
 pub data Begotten (script : Script) (w : World) : ℕ → Message Name → Type 0 where
   sent : {v : ℕ} {m : Message Name} (a : ℕ) (x : Value Name) → HasLine w v (Sends a (record m { target = x })) → LeadsTo (HasLine w v) x m.target → Knew script w v a (Sends a (record m { target = x })) (x ∷ m.args) → Begotten script w v m
-  reacted : {v : ℕ} {m : Message Name} (a : ℕ) (x o t : Value Name) → HasLine w v (Reacts a x o (record m { target = t })) → Followed script w v (Reacts a x o (record m { target = t })) o t → LeadsTo (HasLine w v) t m.target → Knew script w v a (Reacts a x o (record m { target = t })) m.args → Begotten script w v m
   carried : {v : ℕ} {m : Message Name} (u : ℕ) (n : Message Name) (z : Name) (ys : Passeds Name) → HasCarried w u v m.id z m.verb ys → Begotten script w u n → n.id ≡ m.id → n.verb ≡ m.verb
       → LeadsTo (HasLine w u) n.target (Ref z) → LeadsTo (HasLine w v) (Ref z) m.target
       → ArgsPass w u n.args ys → ComeAll (HasList w v) ys m.args → Begotten script w v m
+
+-- A reaction at vat v: the activation that reacted there knew its argument, and its target is what the vat followed the value to that was asked to react.
+abbrev pub Reacted : Script → World → ℕ → Message Name → Type 0
+Reacted script w v m = (a : ℕ) × (x : Value Name) × (o : Value Name) × HasLine w v (Reacts a x o m) × Followed script w v (Reacts a x o m) o m.target × Knew script w v a (Reacts a x o m) m.args
 
 -- in a world each line is connected
 abbrev pub LinesConnected : Script → World → Type 0
@@ -81,7 +84,7 @@ LinesConnected script w = (v : ℕ) (e : Happened Name) → HasLine w v e → Is
 
 -- and each message that was taken is begotten by what its sender knew
 abbrev pub TakenBegotten : Script → World → Type 0
-TakenBegotten script w = (v a : ℕ) (m : Message Name) → HasLine w v (Took a m) → Begotten script w v m
+TakenBegotten script w = (v a : ℕ) (m : Message Name) → HasLine w v (Took a m) → Begotten script w v m ⊎ Reacted script w v m
 
 -- in the world after any of the opening turns, and after all of them and any entries
 abbrev pub InEachRun : (Script → World → Type 0) → Type 0

@@ -1,24 +1,30 @@
 -- When the history of a step is connected: an activation uses only what it knows, and gives back only what it knows.
-use Rattle.std.specs.Prelude.{◌≡◌, ℕ, List, [], ◌∷◌, ◌++◌, Option, Some, None, map, slice_get, ◌⊎◌}
+use Rattle.std.specs.Prelude.{◌≡◌, ℕ, true, false, List, [], ◌∷◌, ◌++◌, Option, Some, None, map, slice_get, ◌⊎◌, codes}
 use Rattle.def_machine.specs.Values.{Words, Value, Null, Ref, Naming, Own}
 use Rattle.def_machine.specs.State.{Cell, Vat, Happened, Called, Back, Thrown, Left, Got, SlotMade, SlotRead, SlotWrote, ListMade, EjectorMade, AuditionMade, ObjectMade, Sends, Reacts, Finished, Settles, Waits, Views}
+use Rattle.def_machine.specs.Free.{same_words}
 use Rattle.law_machine.specs.Steps.{Step, Opens, Takes, Receives, Notices, does, After}
 use Rattle.law_connected.specs.Settlings.{Follows, SettlesWell, WaitsWell, ViewsBy}
-use Rattle.law_connected.specs.Known.{Item, AValue, ASlot, IsAmong, AllOf, Holdings, parts_of_all, by, values, IsThing, Knows, opened_known}
+use Rattle.law_connected.specs.Known.{Item, AValue, AGuard, ASlot, IsAmong, AllOf, Holdings, parts_of_all, by, values, IsThing, Knows, opened_known}
 
 -- ---- what a line uses
+
+-- As what a call uses its receiver: to coerce, of a specimen and an ejector, as a guard, else as a value.
+unfoldable pub callee : {N : Type 0} → Value N → Words → List (Value N) → Item N
+callee x verb (v ∷ j ∷ []) = elim (same_words (codes "coerce") verb) [ true ↦ AGuard x | false ↦ AValue x ]
+callee x verb _ = AValue x
 
 -- What a line uses, and which activation does. That a message is taken is no use by the activation that takes it.
 unfoldable pub uses : {N : Type 0} → Happened N → List (ℕ × Item N)
 -- receiver and arguments
-uses (Called a x verb args b) = by a (values (x ∷ args))
+uses (Called a x verb args b) = by a (callee x verb args ∷ values args)
 -- the value that is written, and the slot
 uses (SlotMade a k v) = by a (AValue v ∷ [])
 uses (SlotRead a k v) = by a (ASlot k ∷ [])
 uses (SlotWrote a k v) = by a (ASlot k ∷ AValue v ∷ [])
 -- the members
 uses (ListMade a k vs) = by a (values vs)
--- captures and auditors
+-- captures, the guards of fixed ones as guards, and auditors
 uses (ObjectMade a me x caught stamps) = by a (parts_of_all caught ++ values stamps)
 -- target and arguments of a send; the value and what reacts on it
 uses (Sends a m) = by a (values (m.target ∷ m.args))
@@ -34,10 +40,11 @@ itself _ = []
 
 -- ---- calls that are open
 
--- a call that has not ended: who calls, on what, and the activation that it began
+-- a call that has not ended: who calls, on what, under which verb, and the activation that it began
 pub record Open (N : Type 0) : Type 0 where
   pub caller : ℕ
   pub receiver : Value N
+  pub verb : Words
   pub begun : Option ℕ
 
 unfoldable pub without_first : {A : Type 0} → List A → List A
@@ -46,7 +53,7 @@ without_first (x ∷ xs) = xs
 
 -- the calls that are open after a line, the innermost first
 unfoldable pub open_after : {N : Type 0} → List (Open N) → Happened N → List (Open N)
-open_after cs (Called a x verb args b) = record { caller = a; receiver = x; begun = b } ∷ cs
+open_after cs (Called a x verb args b) = record { caller = a; receiver = x; verb = verb; begun = b } ∷ cs
 open_after cs (Back a v) = without_first cs
 open_after cs (Thrown a p) = without_first cs
 open_after cs (Left a) = without_first cs
@@ -73,14 +80,14 @@ module _ {N W : Type 0} (K : Naming N W) (h : Holdings N W) where
         → served (open_from [] front) ≡ Some x → IsThing K h.before so x j → Judges so a j → Judges so a i
 
   -- Of what gives a value back: an activation gives what it knows. Data gives what its caller knows anyhow, such as its members or lists that the caller makes of them.
-  -- An audition gives that, or what is known to the activation that evaluates the object which is judged.
-  abbrev pub GivenBack : List (Happened N) → ℕ → Value N → Option ℕ → Value N → Type 0
-  GivenBack so a x (Some b) v = Knows K h so b (AValue v)
-  GivenBack so a x None v = Knows K h so a (AValue v) ⊎ ((b i : ℕ) × IsThing K h.before so x i × Judges so b i × Knows K h so b (AValue v))
+  -- An audition gives that, or, where it is asked for a guard, one that the activation knows as a guard which evaluates the object that is judged.
+  abbrev pub GivenBack : List (Happened N) → ℕ → Value N → Words → Option ℕ → Value N → Type 0
+  GivenBack so a x verb (Some b) v = Knows K h so b (AValue v)
+  GivenBack so a x verb None v = Knows K h so a (AValue v) ⊎ ((same_words (codes "getGuard") verb ≡ true) × (b i : ℕ) × IsThing K h.before so x i × Judges so b i × Knows K h so b (AGuard v))
 
   abbrev pub BackWell : List (Happened N) → ℕ → Value N → List (Open N) → Type 0
   BackWell so a v [] = ⊥
-  BackWell so a v (c ∷ cs) = (a ≡ c.caller) × GivenBack so c.caller c.receiver c.begun v
+  BackWell so a v (c ∷ cs) = (a ≡ c.caller) × GivenBack so c.caller c.receiver c.verb c.begun v
 
   -- an activation gets what was handed to an ejector that it made
   abbrev pub GotWell : List (Happened N) → ℕ → Value N → Type 0
@@ -91,7 +98,7 @@ module _ {N W : Type 0} (K : Naming N W) (h : Holdings N W) where
   abbrev pub ComesWell : List (Happened N) → Happened N → Type 0
   ComesWell so (Back a v) = BackWell so a v (open_from [] so)
   ComesWell so (Got a v) = GotWell so a v
-  -- the guard of a slot is known to who makes it
+  -- the guard of a slot is known, as a value, to who makes it
   ComesWell so (SlotMade a k v) = (c : Cell N) × (slice_get h.slots k ≡ Some c) × Knows K h so a (AValue c.guard)
   -- what reacts is what the vat follows the value to that is to react
   ComesWell so (Reacts a x o m) = Follows K h.start so o m.target
@@ -116,7 +123,7 @@ module _ {N W : Type 0} (K : Naming N W) (h : Holdings N W) where
 
 -- opens each definition of this file, and of those below
 unfoldable pub opened_connected : Unit {0}
-unfolding uses itself without_first open_after open_from unless_begun served opened_known
+unfolding callee uses itself without_first open_after open_from unless_begun served opened_known
 opened_connected = tt
 
 -- ---- steps

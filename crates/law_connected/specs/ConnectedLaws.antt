@@ -4,9 +4,9 @@ use Rattle.def_machine.specs.Values.{Value, Items, Name, Root, Naming, naming, n
 use Rattle.def_machine.specs.State.{Binding, Cell, Made, Happened}
 use Rattle.law_machine.specs.Steps.{Opens}
 use Rattle.law_natives.specs.Natives.{IsPlain}
-use Rattle.law_connected.specs.Known.{Item, AValue, ASlot, IsAmong, Holdings, parts_of_all, tells, Leads, Runs, Knows}
+use Rattle.law_connected.specs.Known.{Item, AValue, AGuard, ASlot, IsAmong, Holdings, parts_of_all, tells, Leads, Runs, Knows}
 use Rattle.law_connected.specs.Connected.{Connected, StepConnected}
-use Rattle.law_connected.specs.Rows.{one_object, secret, handed, answering, stray, program, escaping, auditing, fresh}
+use Rattle.law_connected.specs.Rows.{one_object, secret, handed, guarded, coercing, answering, stray, program, escaping, auditing, fresh}
 
 -- A property of what activations have that each way to come by a reference keeps.
 pub record IsClosed {N W : Type 0} (K : Naming N W) (h : Holdings N W) (so : List (Happened N)) (P : ℕ → Item N → Type 0) : Type 0 where
@@ -17,7 +17,8 @@ pub record IsClosed {N W : Type 0} (K : Naming N W) (h : Holdings N W) (so : Lis
   pub told : (a : ℕ) (e : Happened N) (i : Item N) → IsAmong e so → IsAmong (a, i) (tells e) → P a i
   pub member : (a k : ℕ) (v : Value N) (vs : List (Value N)) → P a (AValue (Items k)) → slice_get h.lists k ≡ Some vs → IsAmong v vs → P a (AValue v)
   pub followed : (a : ℕ) (x y : Value N) → P a (AValue x) → Leads K h.before so x y → P a (AValue y)
-  pub guard : (a k : ℕ) (c : Cell N) → P a (ASlot k) → slice_get h.slots k ≡ Some c → P a (AValue c.guard)
+  pub serves : (a : ℕ) (v : Value N) → P a (AValue v) → P a (AGuard v)
+  pub guard : (a k : ℕ) (c : Cell N) → P a (ASlot k) → slice_get h.slots k ≡ Some c → P a (AGuard c.guard)
 
 -- what an activation knows is the least that these ways give: whatever holds of all that they give holds of all that is known
 abbrev pub IsLeast : {N W : Type 0} → Naming N W → Type 0
@@ -49,6 +50,14 @@ HandedIsConnected = (word : ℕ → ℕ) → Connected (naming word 0) one_objec
 -- what its caller has and does not hand to it, it may not
 abbrev pub KeptIsNotConnected : Type 0
 KeptIsNotConnected = (word : ℕ → ℕ) → Connected (naming word 0) one_object (handed []) → ⊥
+
+-- the guard under which an object captured a value its activation may call to coerce
+abbrev pub CoercingIsConnected : Type 0
+CoercingIsConnected = (word : ℕ → ℕ) → Connected (naming word 0) guarded coercing
+
+-- and may not send on
+abbrev pub LeakIsNotConnected : Type 0
+LeakIsNotConnected = (word : ℕ → ℕ) → Connected (naming word 0) guarded (handed []) → ⊥
 
 -- an answer may not settle to what the turn did not give
 abbrev pub StrayIsNotConnected : Type 0

@@ -1,14 +1,15 @@
 -- What an activation knows at a moment of a step of its vat: the least that initial conditions, endowment, parenthood and introduction give it.
 use Rattle.std.specs.Prelude.{◌≡◌, ℕ, true, List, [], ◌∷◌, ◌++◌, Some, map, slice_get, ◌⊎◌, Option, None}
-use Rattle.def_machine.specs.Values.{Words, Value, Null, Flag, Number, Letter, Text, Prim, Broken, Items, Ref, Naming, Own}
+use Rattle.def_machine.specs.Values.{Words, Value, Prim, Items, Ref, Naming, Own}
 use Rattle.def_machine.specs.State.{Bound, Fixed, Slot, Binding, Cell, Thing, Made, Message, Viewed, Settled, Known, Happened, Took, Called, Back, Got, SlotMade, SlotRead, ListMade, EjectorMade, AuditionMade, PromiseMade, ObjectMade, Sends, Reacts, Settles, Views, Vat}
 use Rattle.def_machine.specs.Refs.{standing_of}
 use Rattle.law_machine.specs.Steps.{Step}
 use Rattle.law_natives.specs.Natives.{IsPlain}
 
--- what may be known: a value, or a var slot
+-- What may be known: a value, a value as the guard of something, or a var slot. What is known only as a guard may be called to coerce, and used in no other way.
 pub data Item (N : Type 0) : Type 0 where
   AValue : Value N → Item N
+  AGuard : Value N → Item N
   ASlot : ℕ → Item N
 
 abbrev pub IsAmong : {A : Type 0} → A → List A → Type 0
@@ -38,7 +39,7 @@ pub record Holdings (N W : Type 0) : Type 0 where
 
 -- what is in a capture: a fixed value and its guard, or a var slot
 unfoldable pub parts_of : {N : Type 0} → Bound N → List (Item N)
-parts_of (Fixed v g) = AValue v ∷ AValue g ∷ []
+parts_of (Fixed v g) = AValue v ∷ AGuard g ∷ []
 parts_of (Slot k) = ASlot k ∷ []
 
 unfoldable pub parts_of_all : {N : Type 0} → List (Bound N) → List (Item N)
@@ -125,8 +126,10 @@ module _ {N W : Type 0} (K : Naming N W) (h : Holdings N W) where
     member : {a : ℕ} {v : Value N} (k : ℕ) (vs : List (Value N)) → Knows so a (AValue (Items k)) → slice_get h.lists k ≡ Some vs → IsAmong v vs → Knows so a (AValue v)
     -- what its vat followed a known name to
     followed : {a : ℕ} {y : Value N} (x : Value N) → Knows so a (AValue x) → Leads K h.before so x y → Knows so a (AValue y)
+    -- a value that it knows, as a guard
+    serves : {a : ℕ} {v : Value N} → Knows so a (AValue v) → Knows so a (AGuard v)
     -- the guard of a slot that it knows
-    guard : {a : ℕ} (k : ℕ) (c : Cell N) → Knows so a (ASlot k) → slice_get h.slots k ≡ Some c → Knows so a (AValue c.guard)
+    guard : {a : ℕ} (k : ℕ) (c : Cell N) → Knows so a (ASlot k) → slice_get h.slots k ≡ Some c → Knows so a (AGuard c.guard)
 
 -- opens the definitions of this file
 unfoldable pub opened_known : Unit {0}

@@ -5,7 +5,7 @@ use Rattle.def_machine.specs.State.{Message, Known, Standing, Unsettled, WaitsOn
 use Rattle.def_run.specs.World.{Link, Here, World}
 use Rattle.law_connected.specs.Known.{IsAmong, AllOf}
 use Rattle.law_fate.specs.FateRuns.{InRuns}
-use Rattle.law_connected.specs.Stems.{LeadsTo, PassesAs, HasLine, HasList, HasOpened, ArgsPass, Stems}
+use Rattle.law_connected.specs.Stems.{LeadsTo, PassesAs, HasLine, HasList, HasOpened, ArgsPass, Stems, IsReaction, StemsOrReacts}
 
 -- A note from vat u: the message of a deliver note is one there, and its arguments stand for those. What it tells of a name is what the name leads to there.
 abbrev pub NoteStems : World → ℕ → Note Name → Type 0
@@ -24,14 +24,14 @@ IsToldStanding line n (WaitsOn q) = Unit {0}
 IsToldStanding line n (Viewed q) = line (Views n q)
 IsToldStanding line n (Settled y) = line (Settles n y)
 
--- In a world each message stems from what was sent: in each vat those of its queue, and those that wait or react at a name; those under way; and those that were taken.
+-- In a world each message stems from what was sent, or is a reaction of its vat: in each vat those of its queue, and those that were taken. Those that a name holds and those under way are no reactions, and what reacts on a name is one.
 pub record AllStem (w : World) : Type 0 where
-  pub queues : (v : ℕ) (s : Vat Name) → slice_get w.vats v ≡ Some s → AllOf (Stems w v) s.queue
-  pub names : (v : ℕ) (s : Vat Name) → slice_get w.vats v ≡ Some s → AllOf (λ (k : Known Name). AllOf (Stems w v) k.held × AllOf (Stems w v) k.reactions) s.known
+  pub queues : (v : ℕ) (s : Vat Name) → slice_get w.vats v ≡ Some s → AllOf (StemsOrReacts w v) s.queue
+  pub names : (v : ℕ) (s : Vat Name) → slice_get w.vats v ≡ Some s → AllOf (λ (k : Known Name). AllOf (Stems w v) k.held × AllOf (IsReaction w v) k.reactions) s.known
   -- to what a name settled and as what it is viewed, its vat told
   pub standings : (v : ℕ) (s : Vat Name) → slice_get w.vats v ≡ Some s → AllOf (λ (k : Known Name). IsToldStanding (HasLine w v) k.name k.standing) s.known
   pub links : AllOf (λ (l : Link). AllOf (NoteStems w l.from) l.notes) w.links
-  pub taken : (v a : ℕ) (m : Message Name) → IsAmong (Here v (Took a m)) w.history → Stems w v m
+  pub taken : (v a : ℕ) (m : Message Name) → IsAmong (Here v (Took a m)) w.history → StemsOrReacts w v m
 
 -- in every world of a run, also in one at which it stopped
 abbrev pub MessagesStemFromSends : Type 0

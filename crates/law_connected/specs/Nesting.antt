@@ -12,7 +12,7 @@ closed_by a (c ∷ cs) = elim (a == c.caller) [ true ↦ Some cs | false ↦ Non
 
 -- the calls that are open after a line, the innermost first, or none where it ends no such call
 unfoldable pub nested_after : {N : Type 0} → List (Open N) → Happened N → Option (List (Open N))
-nested_after cs (Called a x verb args b) = Some (record { caller = a; receiver = x; begun = b } ∷ cs)
+nested_after cs (Called a x verb args b) = Some (record { caller = a; receiver = x; verb = verb; begun = b } ∷ cs)
 nested_after cs (Back a v) = closed_by a cs
 nested_after cs (Thrown a p) = closed_by a cs
 nested_after cs (Left a) = closed_by a cs

@@ -1,7 +1,7 @@
 -- Histories that are connected, and one that is not.
 use Rattle.std.specs.Prelude.{ℕ, List, [], ◌∷◌, None, Some, codes}
 use Rattle.def_machine.specs.Values.{Value, Null, Ref, Name, Root, Object, Promise, Answer, Sent, Msg}
-use Rattle.def_machine.specs.State.{Made, Message, Vat, Happened, Took, Called, Sends, Finished, Settles, begun}
+use Rattle.def_machine.specs.State.{Fixed, Made, Message, Vat, Happened, Took, Called, Sends, Finished, Settles, begun}
 use Rattle.def_kernel.specs.declared.node.Literal.TheVariants as literal
 use Rattle.def_kernel.specs.declared.node.Node.{Node}
 use Rattle.def_kernel.specs.declared.node.Node.TheVariants as node
@@ -53,6 +53,20 @@ handed args =
     Took 0 (message 0 Null (helper ∷ secret ∷ []))
     ∷ Called 0 helper (codes "run") args (Some 1)
     ∷ Sends 1 (message 1 secret [])
+    ∷ []
+
+-- ---- captured under a guard
+
+-- the object has captured null, which was bound under the secret as its guard
+unfoldable pub guarded : Holdings Name Name
+guarded = record one_object { things = Made 0 (record { noun = codes "k"; bound = Fixed Null secret } ∷ []) [] ∷ [] }
+
+-- The activation that the helper begins calls that guard to coerce.
+unfoldable pub coercing : List (Happened Name)
+coercing =
+    Took 0 (message 0 Null (helper ∷ secret ∷ []))
+    ∷ Called 0 helper (codes "run") [] (Some 1)
+    ∷ Called 1 secret (codes "coerce") (Null ∷ Null ∷ []) None
     ∷ []
 
 -- ---- settled to what nobody gave
@@ -145,5 +159,5 @@ auditing =
     ∷ []
 
 unfoldable pub opened_rows : Unit {0}
-unfolding helper secret one_object sent message handed answering stray program escaping auditing fresh
+unfolding helper secret one_object sent message handed guarded coercing answering stray program escaping auditing fresh
 opened_rows = tt

@@ -81,9 +81,16 @@ module _ (w : World) where
   abbrev pub HasCarried : ℕ → ℕ → Name → Name → Words → Passeds Name → Type 0
   HasCarried u v id z verb ys = (k : ℕ) × (d : Delivery Name) × (bytes : List ℕ) × (d.message ≡ id) × IsAmong (Carried k u v (Deliver d z verb ys) bytes) w.history
 
-  -- A message at vat v: it was sent there, or reacted there, or a note brought it from vat u, where it stems from.
+  -- A message at vat v that is no reaction: it was sent there, or a note brought it from vat u, where it stems from.
   pub data Stems : ℕ → Message Name → Type 0 where
     sent : {v : ℕ} {m : Message Name} (a : ℕ) (x : Value Name) → HasLine v (Sends a (record m { target = x })) → LeadsTo (HasLine v) x m.target → Stems v m
-    reacted : {v : ℕ} {m : Message Name} (a : ℕ) (x o t : Value Name) → m.args ≡ x ∷ [] → HasLine v (Reacts a x o (record m { target = t })) → LeadsTo (HasLine v) t m.target → Stems v m
     carried : {v : ℕ} {m : Message Name} (u : ℕ) (n : Message Name) (z : Name) (ys : Passeds Name) → HasCarried u v m.id z m.verb ys → Stems u n → n.id ≡ m.id → n.verb ≡ m.verb → LeadsTo (HasLine u) n.target (Ref z) → LeadsTo (HasLine v) (Ref z) m.target
         → ArgsPass u n.args ys → ComeAll (HasList v) ys m.args → Stems v m
+
+  -- A reaction at vat v, which has an answer: a line there tells it.
+  abbrev pub IsReaction : ℕ → Message Name → Type 0
+  IsReaction v m = (a : ℕ) × (x : Value Name) × (o : Value Name) × (n : Name) × (m.args ≡ x ∷ []) × (m.answer ≡ Some n) × HasLine v (Reacts a x o m)
+
+  -- what a vat takes
+  abbrev pub StemsOrReacts : ℕ → Message Name → Type 0
+  StemsOrReacts v m = Stems v m ⊎ IsReaction v m

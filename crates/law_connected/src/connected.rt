@@ -6,7 +6,7 @@ ghost use Rattle.law_connected.specs.Liveness.{WhatIsMadeDies};
 ghost use Rattle.law_connected.specs.Runs.{NothingLiveInRuns};
 ghost use Rattle.law_connected.specs.Natives.{DataAddsNothing};
 ghost use Rattle.law_connected.specs.Nesting.{CallsNest};
-ghost use Rattle.law_connected.specs.ConnectedLaws.{AuditIsConnected, EscapeIsConnected, HandedIsConnected, KeptIsNotConnected, KnownIsLeast, KnownStays, ProgramIsConnected, StrayIsNotConnected};
+ghost use Rattle.law_connected.specs.ConnectedLaws.{AuditIsConnected, CoercingIsConnected, EscapeIsConnected, HandedIsConnected, KeptIsNotConnected, KnownIsLeast, KnownStays, LeakIsNotConnected, ProgramIsConnected, StrayIsNotConnected};
 
 /// What an activation knows is the least that initial conditions, endowment, parenthood and
 /// introduction give it: what holds of all that these give holds of all that it knows.
@@ -30,6 +30,16 @@ pub fn kept_is_not_connected()
     ensures { KeptIsNotConnected }
 {}
 
+/// An activation that calls to coerce the guard under which its object captured a value is connected.
+pub fn coercing_is_connected()
+    ensures { CoercingIsConnected }
+{}
+
+/// An activation that sends on that guard, which nobody gave to it as a value, is not.
+pub fn leak_is_not_connected()
+    ensures { LeakIsNotConnected }
+{}
+
 /// A history is not connected in which the answer of a turn settles to a name, where the turn gave
 /// null.
 pub fn stray_is_not_connected()
@@ -48,7 +58,7 @@ pub fn escape_is_connected()
 {}
 
 /// So is that of a program in which an auditor asks another, which is told the guard of a free name
-/// of the object that is judged.
+/// of the object that is judged. Who evaluates that object may know it as a guard alone.
 pub fn audit_is_connected()
     ensures { AuditIsConnected }
 {}

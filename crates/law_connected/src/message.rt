@@ -3,12 +3,13 @@
 ghost use Rattle.law_connected.specs.MessageLaws.{MessagesStemFromSends};
 ghost use Rattle.law_connected.specs.Begotten.{HistoriesAreConnected, OnlyConnectivity};
 
-/// In every world of every run, each message in a queue, held at a name or reacting on one, and each
-/// message that was taken, was sent: by a line of that vat with the same name, verb, arguments and
-/// answer, on a target that leads to that of the message by what names settled to and their views, or
-/// by one of another vat from where deliver notes brought it, each time by a note that was carried,
-/// with the same name and verb, and with arguments that stand for those that it had. The same is so of
-/// each deliver note under way.
+/// In every world of every run, each message that a name holds, and that of each deliver note under
+/// way, was sent: by a line of that vat with the same name, verb, arguments and answer, on a target
+/// that leads to that of the message by what names settled to and their views, or by one of another
+/// vat from where deliver notes brought it, each time by a note that was carried, with the same name
+/// and verb, and with arguments that stand for those that it had. The same is so of each message in a
+/// queue and of each that was taken, or it is a reaction, which a line of that vat tells, with its
+/// answer; and what reacts on a name is a reaction. So no reaction leaves its vat.
 ///
 /// To what a name settled and as what it is viewed, its vat told by a line. What a note under way
 /// tells of a name is what the name leads to at its sender: it passes as that, or leads to an object

@@ -9,8 +9,10 @@ ghost use Rattle.law_connected.specs.News.{WhatIsMadeIsNew};
 
 /// The lines of every step of a vat are connected, however it ends: an activation uses and gives
 /// back only what it knows by initial conditions, endowment, parenthood and introduction, and what a
-/// line tells of a name, that it settles, waits or comes to be viewed, has its cause before it. It asks
-/// that nothing has happened in the step before, and that no ejector and no audition is live.
+/// line tells of a name, that it settles, waits or comes to be viewed, has its cause before it. The
+/// guards of its captures and slots it knows as guards alone, and uses to coerce: as a value it has one
+/// only where it was given to it so, or where it asked an audition for it. It asks that nothing has
+/// happened in the step before, and that no ejector and no audition is live.
 pub fn steps_are_connected()
     ensures { StepsAreConnected }
 {}
@@ -44,9 +46,10 @@ pub fn runs_tell_what_is_held()
     ensures { RunsTellWhatIsHeld }
 {}
 
-/// What a line of a step says was made is new: objects, ejectors, auditions and resolvers, var slots,
-/// and lists have numbers that rise from the vat's count before the step to its count after it. It
-/// asks what `steps_are_connected` asks.
+/// What a line of a step says was made is new: objects, ejectors, auditions and resolvers, and var
+/// slots have numbers that rise from the vat's count before the step to its count after it; and the
+/// lists of the vat after the step are those before it and, in order, those that its lines tell of,
+/// each with the next number. It asks what `steps_are_connected` asks.
 pub fn what_is_made_is_new()
     ensures { WhatIsMadeIsNew }
 {}

@@ -33,7 +33,7 @@ use Rattle.ev_room.specs.Acts.{Out, Act, and_then, ◌>>=◌, ◌>>◌, give, fa
 use Rattle.law_acts.proofs.Leaving.{call_ejector_met, new_ejector_met, leave_met}
 use Rattle.law_acts.proofs.Closes.{called_line, closed_met}
 use Rattle.ev_eventual.specs.Eventual.{resolving, resolver_answer, call_resolver}
-use Rattle.law_eventual.proofs.Promises.{resolver_met}
+use Rattle.law_acts.proofs.Promises.{resolver_met}
 use Rattle.law_evaluation.proofs.Auditing.{audition_met}
 use Rattle.law_evaluation.proofs.Calls.{CallsMet}
 use Rattle.law_evaluation.proofs.IsMet.{IsMet}

@@ -40,8 +40,8 @@ use Rattle.ev_prims.specs.declared.problem.Problem.TheVariants.{NotBoolean, NoMe
 use Rattle.ev_prims.proofs.RangeAnswers.{range_means}
 use Rattle.law_evaluation.proofs.Alike.{unsettled_or, same_reply_is}
 use Rattle.ev_same.specs.Same.{is_open, is_same, same_unless, same_ever}
-use Rattle.law_eventual.proofs.Promises.{promise_met, broken_met, test_met}
-use Rattle.law_eventual.proofs.Sends.{send_met, when_met, bad_message_met}
+use Rattle.law_acts.proofs.Promises.{promise_met, broken_met, test_met}
+use Rattle.law_acts.proofs.EventualSends.{send_met, when_met, bad_message_met}
 use Rattle.law_evaluation.proofs.Asks.{asked_is}
 use Rattle.law_evaluation.proofs.Coercing.{guard_coerced_met}
 use Rattle.ev_room.specs.declared.exit.Exit.TheVariants as exit

@@ -23,7 +23,7 @@ use Rattle.ev_steps.specs.Steps.{Evaluator, again_by, run_object, turn_code, tur
 use Rattle.law_acts.proofs.Leaving.{answer_met, asked_is, asked_there}
 use Rattle.law_acts.proofs.Making.{things_at, thing_is, code_is}
 use Rattle.law_acts.proofs.Stands.{Met, vat, a_value, bond_of, stop_met, throw_met}
-use Rattle.law_eventual.proofs.Promises.{resolver_met}
+use Rattle.law_acts.proofs.Promises.{resolver_met}
 use Rattle.law_evaluation.proofs.Auditing.{audition_met}
 use Rattle.law_evaluation.proofs.Calls.{answered_met}
 use Rattle.law_evaluation.proofs.IsMet.{IsMet}

@@ -2,9 +2,12 @@ pub mod Fitting
 pub mod Rows
 pub mod Sorts
 pub mod Moves
-pub mod Spelled
+pub mod SpelledTrees
 pub mod Parts
 pub mod Literals
 pub mod Forms
 pub mod Arena
 pub mod Texts
+pub mod TokenWords
+pub mod TokenPieces
+pub mod Tokens

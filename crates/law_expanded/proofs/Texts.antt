@@ -11,7 +11,7 @@ use Rattle.ev_expand.specs.Expanded.{expanded}
 use Rattle.law_reading.proofs.Whole.{program_whole}
 use Rattle.law_expanded.specs.Expansions.{IsSpelled, AreSpelled, ExpandsToATree}
 use Rattle.law_expanded.specs.Laws.{AllGood}
-use Rattle.law_expanded.proofs.Spelled.{program_fair}
+use Rattle.law_expanded.proofs.SpelledTrees.{program_fair}
 use Rattle.law_expanded.proofs.Forms.{Good}
 use Rattle.law_expanded.proofs.Arena.{arena_tree}
 

@@ -12,8 +12,8 @@ use Rattle.law_run.proofs.RunLaws.{settlings_run}
 use Rattle.law_name.specs.Names.{AllOf, IsAmong, Everywhere, GiftOk, IsHad, IsKnownIn, names_in}
 use Rattle.law_name.proofs.Laws.{names_known}
 use Rattle.law_name.proofs.SameNames.{reference_self}
-use Rattle.law_severed.specs.Gifts.{StaysBroken}
-use Rattle.law_severed.proofs.Broken.{still_broken, broken_for_good}
+use Rattle.law_gift.specs.Gifts.{StaysBroken}
+use Rattle.law_gift.proofs.BrokenForGood.{still_broken, broken_for_good}
 use Rattle.law_reference.specs.ListRingless.{IsNamed}
 use Rattle.law_gift.specs.Unopened.{UnopenedRest, UnopenedGiftsBreak}
 use Rattle.law_gift.proofs.Runs.{all_named, rests_in_runs, stepped_well}

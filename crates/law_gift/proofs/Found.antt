@@ -7,7 +7,7 @@ use Rattle.def_machine.specs.Refs.{entry_of, standing_of, standing_in}
 use Rattle.law_machine.specs.Breaks.{IsBroken}
 use Rattle.law_name.specs.Names.{AllOf}
 use Rattle.law_name.proofs.Facts.{all_map}
-use Rattle.law_severed.specs.Gifts.{SameGifts}
+use Rattle.law_gift.specs.Gifts.{SameGifts}
 use Rattle.law_reference.specs.ListRingless.{IsNamed}
 use Rattle.law_reference.specs.Standing.{HasWord, WordsDiffer}
 use Rattle.law_reference.proofs.Kept.{is}
@@ -106,7 +106,7 @@ module _ (word : ℕ → ℕ) (v : ℕ) where
     calm_head true k o e h i = entry_so k (e refl) h.0
     calm_head false k o e h i = i
 
-    calms : (ks : List (Known Name)) → AllOf (Entry word v May) ks → Calms n (entry_of K ks n)
+    pub calms : (ks : List (Known Name)) → AllOf (Entry word v May) ks → Calms n (entry_of K ks n)
     unfolding entry_of standing_in
     calms [] h = inl refl
     calms (k ∷ ks) h = calm_head (K.same k.name n) k (entry_of K ks n) (is word v k.name n) h.0 (calms ks h.1)

@@ -9,8 +9,8 @@ use Rattle.def_machine.specs.Arrive as arrive
 use Rattle.def_machine.specs.Arrive.{Incoming, Old, New, gift_at}
 use Rattle.law_machine.proofs.RefsKeeps.{keeps_resolve}
 use Rattle.law_reference.proofs.Gentle.{AfterGives, gives_after}
-use Rattle.law_severed.specs.Gifts.{SameGifts}
-use Rattle.law_severed.proofs.Kept.{gifts_law, gifts_names}
+use Rattle.law_gift.specs.Gifts.{SameGifts}
+use Rattle.law_gift.proofs.Stays.{gifts_law, gifts_names}
 
 -- a gift of that provider and key stands there, opened
 abbrev pub IsOpenedBy : ℕ → ℕ → List (GiftEntry Name) → Type 0

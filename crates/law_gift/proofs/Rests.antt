@@ -14,7 +14,7 @@ use Rattle.law_reference.specs.ListRingless.{IsNamed, told_name}
 use Rattle.law_gift.proofs.Kept.{IsBreak, opened_named, found_named}
 use Rattle.law_gift.proofs.Kept as kept
 
-module _ (word : ℕ → ℕ) (v : ℕ) (May : Name → Type 0) (answers : (h : ℕ) (m : Msg) → May (Answer h m)) where
+module _ (word : ℕ → ℕ) (v : ℕ) (May : Name → Type 0) (answers : (m : Msg) → May (Answer v m)) where
   abbrev N : Naming Name Name
   N = kept.N word v May
 
@@ -166,12 +166,18 @@ module _ (word : ℕ → ℕ) (v : ℕ) (May : Name → Type 0) (answers : (h : 
   unfolding new_promise naming
   rest_promise = record { after = λ s i. ((i.0, all_end Entry s.known (begun (name_of v (IsOwn s.promises)) s.number) i.1 (begun_entry (name_of v (IsOwn s.promises)) s.number), i.2, i.3), tt) }
 
-  messages : (h : ℕ) → Yields (λ (x : Name × Name). May x.1) (new_message N h)
+  -- the answer of a new message may settle where it is the vat's own
+  messages : (h : ℕ) → Yields (λ (x : Name × Name). h ≡ v → May x.1) (new_message N h)
   unfolding new_message naming name_of answer_of mail_of
-  messages h = record { after = λ s i. let m : Msg = record { sender = v; number = s.messages } in ((i.0, all_end Entry s.known (begun (Answer h m) h) i.1 (begun_entry (Answer h m) h), i.2, i.3), answers h m) }
+  messages h = record { after = λ s i. let m : Msg = record { sender = v; number = s.messages } in ((i.0, all_end Entry s.known (begun (Answer h m) h) i.1 (begun_entry (Answer h m) h), i.2, i.3), λ e. subst (λ (u : ℕ). May (Answer u m)) (sym e) (answers m)) }
 
-  bind_message : {B : Type 0} (h : ℕ) {f : Name × Name → Act Name B} → ((x : Name × Name) → May x.1 → Holds Keeps (f x)) → Holds Keeps (new_message N h >>= f)
-  bind_message h k = bind_so (λ (x : Name × Name). May x.1) (messages h) k
+  bind_message : {B : Type 0} (h : ℕ) {f : Name × Name → Act Name B} → ((x : Name × Name) → (h ≡ v → May x.1) → Holds Keeps (f x)) → Holds Keeps (new_message N h >>= f)
+  bind_message h k = bind_so (λ (x : Name × Name). h ≡ v → May x.1) (messages h) k
+
+  -- the vat's number
+  numbers : Yields (λ (u : ℕ). u ≡ v) (look (λ (s : Vat Name). s.number))
+  unfolding look
+  numbers = record { after = λ s h. (h, h.0) }
 
   rest_lone : Holds Keeps (new_lone_message N)
   unfolding new_lone_message
@@ -311,9 +317,19 @@ module _ (word : ℕ → ℕ) (v : ℕ) (May : Name → Type 0) (answers : (h : 
   rest_send_first m y (Mine n) i = rest_send_to (refs.settle N) good m y (Mine n) i
   rest_send_first m y (Gone t) i = rest_send_to (refs.settle N) good m y (Gone t) i
 
+  -- where the message goes out, its answer is another vat's
+  sent_first : (u : ℕ) → u ≡ v → (m : Message Name) (a : Name) → m.answer ≡ Some a → (y : Value Name) (p : Place Name) → (refs.answer_host N u p ≡ v → May a) → Holds Keeps (refs.send_first N m y p)
+  unfolding refs.send_first refs.answer_host
+  sent_first u e m a i y (Away h n o) f = rest_deliver m h n
+  sent_first u e m a i y Near f = rest_send_to (refs.settle N) good m y Near (subst (WhereSome May) (sym i) (f e))
+  sent_first u e m a i y (Mine n) f = rest_send_to (refs.settle N) good m y (Mine n) (subst (WhereSome May) (sym i) (f e))
+  sent_first u e m a i y (Gone t) f = rest_send_to (refs.settle N) good m y (Gone t) (subst (WhereSome May) (sym i) (f e))
+
   pub rest_send : (act : ℕ) (x : Value Name) (verb : Words) (args : List (Value Name)) → Holds Keeps (refs.send N act x verb args)
   unfolding refs.send
-  rest_send act x verb args = search (rests, bind_message, rest_send_first) depth 14
+  rest_send act x verb args = walk_bind Keeps closed (rest_look (λ (s : Vat Name). refs.follow N s x)) (λ y. walk_bind Keeps closed (rest_look (λ (s : Vat Name). refs.place N s y)) (λ p.
+      bind_so (λ (u : ℕ). u ≡ v) numbers (λ u e. bind_message (refs.answer_host N u p) (λ new may.
+      let first = sent_first u e (record { id = new.0; target = y; verb = verb; args = args; answer = Some new.1 }) new.1 refl y p may in search rests depth 14))))
 
   pub rest_send_only : (act : ℕ) (x : Value Name) (verb : Words) (args : List (Value Name)) → Holds Keeps (refs.send_only N act x verb args)
   unfolding refs.send_only
@@ -329,7 +345,8 @@ module _ (word : ℕ → ℕ) (v : ℕ) (May : Name → Type 0) (answers : (h : 
 
   pub rest_reacts : (act : ℕ) (x o near : Value Name) → Holds Keeps (refs.react N act x o near)
   unfolding refs.react refs.reaction
-  rest_reacts act x o near = search (rests, bind_message, rest_react_at) depth 14
+  rest_reacts act x o near = bind_so (λ (u : ℕ). u ≡ v) numbers (λ u e. bind_message u (λ new may.
+      let at = λ (p : Place Name). rest_react_at (refs.reaction N new.0 near x new.1) p (may e) in search rests depth 14))
 
   -- ---- what a note tells
 
@@ -409,22 +426,22 @@ module _ (word : ℕ → ℕ) (v : ℕ) (May : Name → Type 0) (answers : (h : 
 
   -- ---- arrival
 
-  answer_may : (h : ℕ) (n : Name) → IsMessageName n → May (answer_of h n)
+  answer_may : (h : ℕ) (n : Name) → h ≡ v → IsMessageName n → May (answer_of h n)
   unfolding answer_of
-  answer_may h (Sent m) i = answers h m
-  answer_may h (Root w) i = absurd i
-  answer_may h (Object w j) i = absurd i
-  answer_may h (Promise w j) i = absurd i
-  answer_may h (Answer w m) i = absurd i
-  answer_may h (Gift w j) i = absurd i
+  answer_may h (Sent m) e i = subst (λ (u : ℕ). May (Answer u m)) (sym e) (answers m)
+  answer_may h (Root w) e i = absurd i
+  answer_may h (Object w j) e i = absurd i
+  answer_may h (Promise w j) e i = absurd i
+  answer_may h (Answer w m) e i = absurd i
+  answer_may h (Gift w j) e i = absurd i
 
-  comes_answer : (h : ℕ) (id : Name) → IsMessageName id → Yields May (come N (IsAnswer h id) h)
+  comes_answer : (h : ℕ) (id : Name) → h ≡ v → IsMessageName id → Yields May (come N (IsAnswer h id) h)
   unfolding come naming name_of
-  comes_answer h id i = record { after = λ s k. ((k.0, all_end Entry s.known (begun (answer_of h id) h) k.1 (begun_entry (answer_of h id) h), k.2, k.3), answer_may h id i) }
+  comes_answer h id e i = record { after = λ s k. ((k.0, all_end Entry s.known (begun (answer_of h id) h) k.1 (begun_entry (answer_of h id) h), k.2, k.3), answer_may h id e i) }
 
   rest_send_on_asked : (from : ℕ) (id n : Name) (verb : Words) (args : List (Value Name)) → IsMessageName id → Holds Keeps (arrive.send_on_asked N from id n verb args)
   unfolding arrive.send_on_asked
-  rest_send_on_asked from id n verb args i = walk_bind Keeps closed (rest_look (λ s. s.number)) (λ u. bind_so May (comes_answer u id i) (λ a may. let on = rest_send_on (refs.settle N) good (record { id = id; target = Ref n; verb = verb; args = args; answer = Some a }) may in search rests depth 14))
+  rest_send_on_asked from id n verb args i = bind_so (λ (u : ℕ). u ≡ v) numbers (λ u e. bind_so May (comes_answer u id e i) (λ a may. let on = rest_send_on (refs.settle N) good (record { id = id; target = Ref n; verb = verb; args = args; answer = Some a }) may in search rests depth 14))
 
   rest_arrive_deliver : (from : ℕ) (d : Delivery (Incoming Name Name)) (x : Incoming Name Name) (verb : Words) (ys : Passeds (Incoming Name Name)) → IsMessageName (told_name d.message) → Holds Keeps (arrive.arrive_deliver N from d x verb ys)
   unfolding arrive.arrive_deliver

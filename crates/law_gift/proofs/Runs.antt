@@ -15,8 +15,8 @@ use Rattle.law_frozen.specs.Frozen.{AllOf as EachOf, MessageThere, NotePasses, S
 use Rattle.law_frozen.specs.Laws.{StepWell}
 use Rattle.law_frozen.proofs.Fine.{MayBe as Maybe}
 use Rattle.law_frozen.proofs.RunSound.{WorldSound, LinkPasses, link_passes, note_read, given_well, begins_sound, opens_sound, steps_sound}
-use Rattle.law_severed.specs.Gifts.{SameGifts}
-use Rattle.law_severed.proofs.Kept.{gifts_stay}
+use Rattle.law_gift.specs.Gifts.{SameGifts}
+use Rattle.law_gift.proofs.Stays.{gifts_stay}
 use Rattle.law_reference.specs.Notes.{IsBetween}
 use Rattle.law_reference.specs.ListRingless.{IsNamed, told_name}
 use Rattle.law_reference.specs.Standing.{WordsDiffer}
@@ -34,11 +34,8 @@ use Rattle.law_gift.specs.Unopened.{UnopenedRest, UnopenedGiftsRest}
 use Rattle.law_gift.proofs.Kept.{Entry as Fits, MayAnswer, Kept}
 use Rattle.law_gift.proofs.Rests as rests
 use Rattle.law_gift.proofs.Opened.{IsOpenedBy, opens}
-use Rattle.law_gift.proofs.Steps as steps
+use Rattle.law_gift.proofs.Keeps.{after_given, alone_kept, arrive_kept}
 use Rattle.law_gift.proofs.Found.{MaySettle, may_later, kept_more, unopened_rests}
-
-after_given : (R : Vat Name → Vat Name → Type 0) (s : Vat Name) (d : Done Name (Unit {0})) (t : Vat Name) → After R s d → d ≡ Gives tt t → R s t
-after_given R s d t h e = rw e at h
 
 gives_given : (P : Vat Name → Type 0) (d : Done Name (Unit {0})) (t : Vat Name) → AfterGives P d → d ≡ Gives tt t → P t
 gives_given P d t h e = rw e at h
@@ -86,37 +83,13 @@ module _ (script : Script) where
     gifts_later : SameGifts (readied w q) t
     gifts_later = after_given SameGifts (readied w q) (does (names script v) what (readied w q)) t (gifts_stay (names script v) what (readied w q)) gives
 
-    module _ (May : Name → Type 0) (answers : (h : ℕ) (m : Msg) → May (Answer h m)) (promises : (i : ℕ) → May (Promise v i)) where
-      stepped : ((n : Name) → May n → MaySettle v t.gifts n) → steps.StepMay word v May answers promises what → Sound (N v) (readied w q) → StepWell (N v) (readied w q) what → Kept word v May (readied w q) → Well v t
-      unfolding names
-      stepped more may sound well h = kept_more word v May (MaySettle v t.gifts) more t (after_given (λ r u. Kept word v May u) (readied w q) (does (N v) what (readied w q)) t (steps.step_keeps word v May answers promises what (readied w q) may sound well h) gives)
-
-  -- where it opens nothing
-  alone_stepped : (v : ℕ) (w : World) (q t : Vat Name) (what : Step Name Name) → does (names script v) what (readied w q) ≡ Gives tt t → steps.StepMay word v (MaySettle v q.gifts) (λ h m. tt) (λ i. tt) what → Sound (N v) (readied w q) → StepWell (N v) (readied w q) what → Well v q → Well v t
+  ready_may : (v : ℕ) (w : World) (s q : Vat Name) → q.gifts ≡ s.gifts → (n : Name) → MaySettle v s.gifts n → MaySettle v (let r : Vat Name = readied w q in r.gifts) n
   unfolding readied
-  alone_stepped v w q t what gives may sound well h = stepped v w q t what gives (MaySettle v q.gifts) (λ h m. tt) (λ i. tt) (λ n m. may_later v (readied w q) t (gifts_later v w q t what gives) n m) may sound well h
-
-  sound_ready : (v : ℕ) (w : World) (s : Vat Name) (ms : List (Message Name)) → Sound (N v) s → EachOf (MessageThere s.lists) ms → Sound (N v) (readied w (record s { queue = ms }))
-  unfolding readied
-  sound_ready v w s ms k h = record { things = k.things; slots = k.slots; lists = k.lists; stacked = k.stacked; queue = h; known = k.known; outbox = tt }
-
-  sound_same : (v : ℕ) (w : World) (s : Vat Name) → Sound (N v) s → Sound (N v) (readied w s)
-  unfolding readied
-  sound_same v w s k = record { things = k.things; slots = k.slots; lists = k.lists; stacked = k.stacked; queue = k.queue; known = k.known; outbox = tt }
+  ready_may v w s q e n m = subst (λ gs. MaySettle v gs n) (sym e) m
 
   alone_well : (v : ℕ) (w : World) (s q t : Vat Name) (what : Step Name Name) → IsAlone what → Does script w v s q t what → Sound (N v) s → Well v s → Well v t
-  unfolding readied names
-  alone_well v w s q t (Starts tree depth root given) a d sound h = let b = d.begins in
-      let gives : does (names script v) (Starts tree depth root given) (readied w s) ≡ Gives tt t = subst (λ z. does (names script v) (Starts tree depth root given) (readied w z) ≡ Gives tt t) b.2 d.gives in
-      let well : StepWell (N v) (readied w s) (Starts tree depth root given) = subst (λ bs. StepWell (N v) (readied w s) (Starts tree depth root bs)) (sym b.4) (given_well script v (readied w s) b.0.knows) in
-      alone_stepped v w s t (Starts tree depth root given) gives (subst (MaySettle v s.gifts) (sym b.3) tt) (sound_same v w s sound) well h
-  alone_well v w s q t (Takes tree depth m) a d sound h = let b = d.begins in let r : Vat Name = record s { queue = b.0 } in
-      let gives : does (names script v) (Takes tree depth m) (readied w r) ≡ Gives tt t = subst (λ z. does (names script v) (Takes tree depth m) (readied w z) ≡ Gives tt t) b.2 d.gives in
-      let there : EachOf (MessageThere s.lists) (m ∷ b.0) = subst (λ ms. EachOf (MessageThere s.lists) ms) b.1 sound.queue in
-      let may : AllOf (λ n. MayAnswer word v (MaySettle v s.gifts) n) (m ∷ b.0) = subst (λ ms. AllOf (λ n. MayAnswer word v (MaySettle v s.gifts) n) ms) b.1 h.2 in
-      alone_stepped v w r t (Takes tree depth m) gives may.0 (sound_ready v w s b.0 sound there.1) there.0 (h.0, h.1, may.1, h.3)
-  alone_well v w s q t (Receives from n) a d sound h = absurd a
-  alone_well v w s q t (Notices to) a d sound h = alone_stepped v w s t (Notices to) (subst (λ z. does (names script v) (Notices to) (readied w z) ≡ Gives tt t) d.begins d.gives) tt (sound_same v w s sound) tt h
+  alone_well v w s q t what a d sound h = kept_more word v (MaySettle v s.gifts) (MaySettle v t.gifts) (λ n m. may_later v (readied w q) t (gifts_later v w q t what d.gives) n (ready_may v w s q d.gifts n m)) t
+      (alone_kept script v w (MaySettle v s.gifts) (λ m. tt) (λ i. tt) s q t what a d tt sound h)
 
   -- ---- a note that arrives
 
@@ -145,7 +118,7 @@ module _ (script : Script) where
     told_may : (x : Name) → IsBetween from v (Elsewhere x v) → (from ≡ v → ⊥) → May (told_name (world.read_name (names_of s) x))
     told_may x b apart = subst May (sym (told_is (names_of s) x)) (inl (far_may v s.gifts x (λ e. apart (sym b ∙ e))))
 
-    note_may : (k : Note Name) → k ≡ n → NoteOk MailBits k → IsBetween from v k → (from ≡ v → ⊥) → rests.NoteMay word v May (λ h m. inl tt) (read_note (names_of s) k)
+    note_may : (k : Note Name) → k ≡ n → NoteOk MailBits k → IsBetween from v k → (from ≡ v → ⊥) → rests.NoteMay word v May (λ m. inl tt) (read_note (names_of s) k)
     unfolding read_note
     note_may (Deliver d x verb ys) e ok b apart = ok.0
     note_may (Open i x) e ok b apart = inr (subst (λ z. OpensIt v z (Gift v i)) e refl)
@@ -155,9 +128,8 @@ module _ (script : Script) where
     note_may (Shorten x z i) e ok b apart = tt
 
     arrive_well : NoteOk MailBits n → IsBetween from v n → (from ≡ v → ⊥) → NotePasses n → Sound (N v) s → Well v s → Well v t
-    unfolding readied
-    arrive_well ok b apart passes sound h = stepped v w s t what gives May (λ g m. inl tt) (λ i. inl tt) may_after (note_may n refl ok b apart) (sound_same v w s sound) (note_read (names_of s) n passes)
-        (kept_more word v (MaySettle v s.gifts) May (λ m i. inl i) (readied w s) h)
+    arrive_well ok b apart passes sound h = kept_more word v May (MaySettle v t.gifts) may_after t
+        (arrive_kept script v w May (λ m. inl tt) (λ i. inl tt) from s t n gives (note_may n refl ok b apart) passes sound (kept_more word v (MaySettle v s.gifts) May (λ m i. inl i) s h))
 
   -- ---- the first note of a link
 

@@ -17,7 +17,7 @@ use Rattle.law_frozen.proofs.Reach.{global_spots}
 use Rattle.law_gift.proofs.Kept.{MayAnswer, Entry, Kept, Leaves}
 use Rattle.law_gift.proofs.Rests as rests
 
-module _ (word : ℕ → ℕ) (v : ℕ) (May : Name → Type 0) (answers : (h : ℕ) (m : Msg) → May (Answer h m)) (promises : (i : ℕ) → May (Promise v i)) where
+module _ (word : ℕ → ℕ) (v : ℕ) (May : Name → Type 0) (answers : (m : Msg) → May (Answer v m)) (promises : (i : ℕ) → May (Promise v i)) where
   abbrev K : Naming Name Name
   K = naming word v
 

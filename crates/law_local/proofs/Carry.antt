@@ -57,9 +57,9 @@ use Rattle.law_stops.proofs.Entries as across
 use Rattle.law_stops.proofs.Entries.{SoundIn, is, first_kind, note_table, note_starts}
 use Rattle.law_stops.proofs.Learnt.{IsOfKind}
 use Rattle.law_stops.proofs.Tables.{after_stops}
-use Rattle.law_told.specs.Told.{carried_by, IsBroughtBy}
-use Rattle.law_told.proofs.Laws.{messages_in_order, lines_named, gifts_named, notes_named, names_told, no_own_brought}
-use Rattle.law_told.proofs.Promises.{own_promises_ordered}
+use Rattle.law_local.specs.Told.{carried_by, IsBroughtBy}
+use Rattle.law_local.proofs.ToldLaws.{messages_in_order, lines_named, gifts_named, notes_named, names_told, no_own_brought}
+use Rattle.law_local.proofs.ToldPromises.{own_promises_ordered}
 use Rattle.def_local.specs.Vats.{Member, connection_for, heard_in, heard_on, asked_by}
 use Rattle.def_local.specs.Numbers as numbers
 use Rattle.def_local.specs.Numbers.{Frame, Way, Vats, Course, Runs, way_at, ready, brought, after_step}

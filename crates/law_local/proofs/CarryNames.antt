@@ -24,7 +24,7 @@ use Rattle.law_frame.proofs.Grow.{among_left, among_right}
 use Rattle.law_frame.proofs.Exported.{among_split}
 use Rattle.law_frame.proofs.OrderRuns.{among_get}
 use Rattle.law_frame.proofs.AlikeLaws.{heard_starts}
-use Rattle.law_told.specs.Told.{IsBroughtBy}
+use Rattle.law_local.specs.Told.{IsBroughtBy}
 use Rattle.def_local.specs.Names.{Told, of_promise}
 use Rattle.def_local.specs.Vats.{Member, connection_for, is_object, stage_of, heard_in}
 use Rattle.def_local.specs.Numbers.{Vats, ready, name_at_vat, name_exported, told_imports, told_learnt, told_answer, brought}

@@ -16,7 +16,7 @@ use Rattle.law_frame.specs.AlikeArrivals.{table_across}
 use Rattle.law_stops.proofs.Entries.{SoundIn, fits}
 use Rattle.law_stops.proofs.Parted.{notices}
 use Rattle.law_stops.proofs.Tables.{left_bounded, left_table}
-use Rattle.law_told.proofs.Laws.{messages_in_order, names_told}
+use Rattle.law_local.proofs.ToldLaws.{messages_in_order, names_told}
 use Rattle.def_local.specs.Vats.{Member}
 use Rattle.def_local.specs.Numbers as numbers
 use Rattle.def_local.specs.Numbers.{Vats, own_step}

@@ -29,8 +29,8 @@ use Rattle.law_hearing.proofs.CutRuns.{exports_logged}
 use Rattle.law_stops.proofs.Entries.{SoundIn, fits}
 use Rattle.law_stops.proofs.Parted.{opens}
 use Rattle.law_stops.proofs.Tables.{left_bounded, left_table}
-use Rattle.law_told.proofs.Laws.{messages_in_order, lines_named, gifts_named, notes_named, names_told}
-use Rattle.law_told.proofs.Promises.{own_promises_ordered}
+use Rattle.law_local.proofs.ToldLaws.{messages_in_order, lines_named, gifts_named, notes_named, names_told}
+use Rattle.law_local.proofs.ToldPromises.{own_promises_ordered}
 use Rattle.def_local.specs.Vats.{Member}
 use Rattle.def_local.specs.Numbers as numbers
 use Rattle.def_local.specs.Numbers.{Vats}

@@ -8,8 +8,8 @@ use Rattle.law_name.proofs.Among.{all_among}
 use Rattle.law_name.proofs.Facts.{all_map}
 use Rattle.def_local.specs.Names.{own_mails}
 use Rattle.law_frame.specs.Lines.{LineFits, AnswersIn}
-use Rattle.law_told.specs.Told as told
-use Rattle.law_told.specs.Told.{is_own_promise, own_promises, promises_from, carried_by, AsksKnown, IsBroughtBy, IsTold}
+use Rattle.law_local.specs.Told as told
+use Rattle.law_local.specs.Told.{is_own_promise, own_promises, promises_from, carried_by, AsksKnown, IsBroughtBy, IsTold}
 use Rattle.law_local.specs.Naming.{SomeOf, message_of, MessageTells, NoteTells, IsItsAnswer, AsksAs, IsOwnPromise, InOrder, Tells}
 
 -- ---- the vat's own promises, in order

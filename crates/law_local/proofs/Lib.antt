@@ -1,3 +1,9 @@
+pub mod ToldEntries
+pub mod ToldSteady
+pub mod ToldBrought
+pub mod ToldPromises
+pub mod ToldGiftsEnd
+pub mod ToldLaws
 pub mod Named
 pub mod Ways
 pub mod Texts

@@ -1,3 +1,4 @@
+pub mod Told
 pub mod Mirrors
 pub mod Statements
 pub mod Writing

@@ -4,4 +4,5 @@
 pub mod carrying;
 pub mod hearing;
 pub mod parts;
+pub mod told;
 pub mod whole;

@@ -2,7 +2,7 @@
 //! and so does the run.
 //!
 //! Of a script they ask that no vat is told twice that it knows a vat, or that it knows itself, and that each notice stands behind a cut of
-//! the same two vats; so it is of every script that is read (`law_script`).
+//! the same two vats; so it is of every script that is read (`law_read_scripts`).
 
 ghost use Rattle.law_local.specs.Whole.{WholeRunsMirror, WholeTextsMirror};
 ghost use Rattle.law_local.specs.Joined.{TurnsMirror, NoticesMirror, OpeningsMirror, OthersMirror, RunsMirrorWhereCarriesDo};

@@ -8,8 +8,8 @@ use Rattle.def_machine.specs.Scopes.{Evaluator, Caller}
 use Rattle.def_kernel.specs.declared.node.Node.{Node}
 use Rattle.law_name.proofs.Facts.{Fact, IsValue}
 use Rattle.law_name.proofs.Care.{Care}
-use Rattle.law_covered.proofs.Leads.{Nothing}
-use Rattle.law_calls.specs.Levels.{ListsEnd, LevelsSuffice, call_by}
+use Rattle.law_never_astray.proofs.Leads.{Nothing}
+use Rattle.law_never_astray.specs.Levels.{ListsEnd, LevelsSuffice, call_by}
 use Rattle.law_never_astray.proofs.Good.{Good, Goes, good_stop, good_spend, good_look, go_unit, on_number}
 use Rattle.law_never_astray.proofs.Natives.{GoodCaller, Works}
 use Rattle.law_never_astray.proofs.Eval.{GoodEvaluator, NamesThere, good_call_one}

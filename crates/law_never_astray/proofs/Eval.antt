@@ -10,19 +10,19 @@ use Rattle.def_machine.specs.Native as native
 use Rattle.def_machine.specs.Scopes.{Answer, Answers, Evaluator, Caller, Body, Case, members_of, method_of, matchers_of}
 use Rattle.def_kernel.specs.declared.node.Node.{Node}
 use Rattle.def_kernel_form.specs.declared.shape.Kind.TheVariants.{Expression, Pattern, Member}
-use Rattle.law_scoped.specs.Scoped.{Scopes, Scoped, AllScoped, no_more, one_more}
+use Rattle.law_never_astray.specs.Scoped.{Scopes, Scoped, AllScoped, no_more, one_more}
 use Rattle.law_name.specs.Names.{Named}
 use Rattle.law_name.proofs.Facts.{Fact, Also, IsName, IsValue, AreValues, AreNouns, IsThing, scope, answer, answers}
 use Rattle.law_name.proofs.Care.{Care, Gets, got, got_left, got_right, got_itself, got_both, got_null, got_text, got_none, got_more, got_ref, told_called}
 use Rattle.law_name.proofs.Looks.{look_follow}
 use Rattle.law_name.proofs.EvalFacts.{got_asked, got_audition_ask, got_resolver_ask, got_ejector_ask}
-use Rattle.law_covered.specs.Formed.{AllOf, Formed}
-use Rattle.law_covered.specs.Covered.{Covers, ThingCarries}
-use Rattle.law_covered.proofs.Statics.{IsOpen}
-use Rattle.law_covered.proofs.Members.{CaseStands, body_stands, cases_stand}
-use Rattle.law_covered.proofs.Leads.{Nothing, covers_up, slot_there}
-use Rattle.law_covered.proofs.Eval as stand
-use Rattle.law_covered.proofs.Eval.{opened, opened_all}
+use Rattle.law_never_astray.specs.Formed.{AllOf, Formed}
+use Rattle.law_never_astray.specs.Covered.{Covers, ThingCarries}
+use Rattle.law_never_astray.proofs.Statics.{IsOpen}
+use Rattle.law_never_astray.proofs.Members.{CaseStands, body_stands, cases_stand}
+use Rattle.law_never_astray.proofs.Leads.{Nothing, covers_up, slot_there}
+use Rattle.law_never_astray.proofs.CoveredEval as stand
+use Rattle.law_never_astray.proofs.CoveredEval.{opened, opened_all}
 use Rattle.law_never_astray.proofs.Good.{Good, good_bind, good_left, good_ending, good_if, good_give, good_gives, good_throw, good_eject, good_seen, good_told, good_activation, good_look_thing, go_unit, on_number, on_value}
 use Rattle.law_never_astray.proofs.Natives.{GoodCaller, Works, on_object, good_ended, good_with_lines, good_make_list, good_data_answer, good_perform, good_leave, good_ejector_answer, good_resolver_answer, good_audition_answer, good_new_ejector, good_hand_over}
 

@@ -21,11 +21,11 @@ use Rattle.law_reference.proofs.ViewsRuns.{views_wait_in_runs}
 use Rattle.law_reference.proofs.VatStep.{RingsBy, Rings}
 use Rattle.law_reference.proofs.Around.{Around, each_all}
 use Rattle.law_reference.proofs.StepRings.{word, NoDraws, step_rings, open_rings, weaken_all}
-use Rattle.law_things.proofs.Worlds.{things_are_there_in_runs}
-use Rattle.law_covered.specs.Runs.{IsAccepted}
-use Rattle.law_covered.proofs.Worlds.{all_carry_in_runs}
+use Rattle.law_never_astray.proofs.ThingsWorlds.{things_are_there_in_runs}
+use Rattle.law_never_astray.specs.CoveredRuns.{IsAccepted}
+use Rattle.law_never_astray.proofs.CoveredWorlds.{all_carry_in_runs}
 use Rattle.law_connected.proofs.RunDies.{opened_still, run_still}
-use Rattle.law_astray.proofs.Arrivals.{arrivals_are_not_astray}
+use Rattle.law_never_astray.proofs.Arrivals.{arrivals_are_not_astray}
 use Rattle.law_never_astray.specs.Runs.{NoticersAreThere, NeverAstray}
 use Rattle.law_reference.proofs.RingStart.{begins_by}
 use Rattle.law_never_astray.proofs.Stops.{turn_none, open_none}

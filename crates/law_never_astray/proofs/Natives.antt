@@ -17,10 +17,10 @@ use Rattle.law_name.proofs.Looks.{looks, look_place, look_place_of, follow_ok}
 use Rattle.law_name.proofs.EvalFacts.{knows, got_no_lists}
 use Rattle.law_name.proofs.Serves.{Serves, below_end}
 use Rattle.law_name.proofs.CareEval.{fine_build}
-use Rattle.law_covered.specs.Covered.{ThingCarries}
-use Rattle.law_covered.proofs.Leads.{Nothing}
-use Rattle.law_covered.proofs.Natives.{IsSeen}
-use Rattle.law_covered.proofs.Forms.{lead_form}
+use Rattle.law_never_astray.specs.Covered.{ThingCarries}
+use Rattle.law_never_astray.proofs.Leads.{Nothing}
+use Rattle.law_never_astray.proofs.CoveredNatives.{IsSeen}
+use Rattle.law_never_astray.proofs.Forms.{lead_form}
 use Rattle.law_never_astray.proofs.Good.{Good, Off, goods, good_leaf, good_left, good_next, good_ends, good_give, good_throw, good_eject, good_told, good_thing, go_unit, on_name, out_of_fuel}
 use Rattle.law_never_astray.proofs.Rests.{Quiet, quiets, quiet_bind, quiet_stop}
 use Rattle.law_never_astray.specs.Near.{IsNear}

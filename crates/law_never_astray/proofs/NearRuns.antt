@@ -3,7 +3,7 @@ use Rattle.std.proofs.Common.{◌≡◌, ℕ, zero, suc, List, [], ◌∷◌, �
 use Rattle.def_run.specs.World as world
 use Rattle.def_run.specs.World.{Script, Entry, World, Goes}
 use Rattle.law_name.specs.Runs.{KnowsOnce}
-use Rattle.law_covered.specs.Runs.{IsAccepted}
+use Rattle.law_never_astray.specs.CoveredRuns.{IsAccepted}
 use Rattle.law_never_astray.specs.Near.{TargetsAreNearInRuns}
 use Rattle.law_never_astray.proofs.Steps.{Lasts, entry_lasts}
 use Rattle.law_never_astray.proofs.Final.{begun, opens_held, facts, steps_append, end_length, then_held, goes_is}

@@ -15,22 +15,22 @@ use Rattle.def_kernel.specs.declared.node.Node.{Node}
 use Rattle.def_kernel.specs.declared.node.Node.TheVariants.{Object}
 use Rattle.def_kernel_form.specs.declared.shape.Kind.TheVariants.{Expression, Pattern, Member, Naming as AName}
 use Rattle.law_kernel_form.specs.Trees.{Has}
-use Rattle.law_scoped.specs.Scoped.{Scopes, Scoped, MayScoped, AllScoped, is_literal, is_noun, is_set, is_def, is_call, is_sequence, is_choice, is_escape, is_escape_catch, is_try, is_finally, is_hide, is_match, is_object, is_method, is_matcher, is_final, is_var, is_any, is_list, is_via, has_none, has_one}
+use Rattle.law_never_astray.specs.Scoped.{Scopes, Scoped, MayScoped, AllScoped, is_literal, is_noun, is_set, is_def, is_call, is_sequence, is_choice, is_escape, is_escape_catch, is_try, is_finally, is_hide, is_match, is_object, is_method, is_matcher, is_final, is_var, is_any, is_list, is_via, has_none, has_one}
 use Rattle.law_name.proofs.Facts.{Fact, Also, IsName, IsValue, AreValues, AreNouns, IsBound, MayBound, MayValue, scope, answer, answers, nothing, Holds}
 use Rattle.law_name.proofs.Care.{Care, Sound, Gets, got_null, got_flag, got_text, got_none, told_got, told_slot_made, told_slot_read, told_slot_wrote, told_object_made, rise, thing_comes}
 use Rattle.law_name.proofs.Looks.{look_follow, look_list}
 use Rattle.law_name.proofs.EvalFacts.{got_bound_in, got_noun, got_fixed, got_slot, got_named, got_captures, got_view, got_literal, got_safe, got_any, got_no_match}
 use Rattle.law_name.proofs.Serves.{below_end}
-use Rattle.law_covered.specs.Formed.{AllOf, Formed}
-use Rattle.law_covered.specs.Covered.{Stands, Covers}
-use Rattle.law_covered.proofs.Statics.{IsOpen}
-use Rattle.law_covered.proofs.Parts.{formed_parts}
-use Rattle.law_covered.proofs.Binds.{node_binds, members_stay}
-use Rattle.law_covered.proofs.Captures.{covers_named, Extends, covers_extended, extends_none, extends_more}
-use Rattle.law_covered.proofs.Leads.{Nothing, Kept, covers_up, stands_up, lead_thing}
-use Rattle.law_covered.proofs.Eval as stand
-use Rattle.law_covered.proofs.Eval.{opened, opened_all}
-use Rattle.law_covered.proofs.Nodes.{opened_may, named_covers, object_carries}
+use Rattle.law_never_astray.specs.Formed.{AllOf, Formed}
+use Rattle.law_never_astray.specs.Covered.{Stands, Covers}
+use Rattle.law_never_astray.proofs.Statics.{IsOpen}
+use Rattle.law_never_astray.proofs.Parts.{formed_parts}
+use Rattle.law_never_astray.proofs.Binds.{node_binds, members_stay}
+use Rattle.law_never_astray.proofs.Captures.{covers_named, Extends, covers_extended, extends_none, extends_more}
+use Rattle.law_never_astray.proofs.Leads.{Nothing, Kept, covers_up, stands_up, lead_thing}
+use Rattle.law_never_astray.proofs.CoveredEval as stand
+use Rattle.law_never_astray.proofs.CoveredEval.{opened, opened_all}
+use Rattle.law_never_astray.proofs.CoveredNodes.{opened_may, named_covers, object_carries}
 use Rattle.law_never_astray.proofs.Good.{Good, Goes, Off, good_bind, good_next, good_then, good_ending, good_ends, good_forget, good_more, further, good_give, good_gives, good_throw, good_eject, good_seen, good_told, good_slot, good_write, good_look_slot, go_unit, on_value, on_values}
 use Rattle.law_never_astray.proofs.Natives.{GoodCaller, Works, on_object, good_failed, good_handed, good_coerce, good_ask_all, good_leave, good_new_ejector}
 use Rattle.law_never_astray.proofs.Eval.{GoodEvaluator, lift, top, val, env, vals, envs, more, as_ref, good_answered, good_unless, good_all, good_last, good_bind_all, good_inside}

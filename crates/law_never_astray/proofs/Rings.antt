@@ -21,7 +21,7 @@ use Rattle.law_frozen.specs.Frozen.{IsAmong}
 use Rattle.law_reference.specs.Views.{IsOpen, ViewsWait}
 use Rattle.law_reference.specs.Lists.{Leads, LeadsIn, NoListLeadsBack, LeadingEndsIn}
 use Rattle.law_reference.proofs.ListLaws.{following_suffices, ringless_lists_end}
-use Rattle.law_calls.specs.Levels.{EndsIn, ListsEnd}
+use Rattle.law_never_astray.specs.Levels.{EndsIn, ListsEnd}
 
 -- ---- what a call keeps, however it ends
 

@@ -15,15 +15,15 @@ use Rattle.law_run.specs.Moves.{IsHonest, Stepped, Opened, Moved, Still, Severs,
 use Rattle.law_run.proofs.Told.{moves_told}
 use Rattle.law_name.specs.Names.{AllOf, NounOk}
 use Rattle.law_name.proofs.Run.{Stands}
-use Rattle.law_things.specs.Things.{There, ThingsAreThere}
-use Rattle.law_covered.specs.Covered.{Carries}
-use Rattle.law_covered.specs.Runs.{IsAccepted, AllCarry}
+use Rattle.law_never_astray.specs.Things.{There, ThingsAreThere}
+use Rattle.law_never_astray.specs.Covered.{Carries}
+use Rattle.law_never_astray.specs.CoveredRuns.{IsAccepted, AllCarry}
 use Rattle.law_reference.specs.Lists.{NoListLeadsBack}
 use Rattle.law_reference.specs.Views.{ViewsWait}
 use Rattle.law_connected.specs.Runs.{NothingLive}
-use Rattle.law_astray.specs.Astray.{NotAstray}
-use Rattle.law_astray.proofs.Ejections.{none_live}
-use Rattle.law_astray.proofs.Arrivals.{put_back_clear}
+use Rattle.law_never_astray.specs.Settlings.{NotAstray}
+use Rattle.law_never_astray.proofs.Ejections.{none_live}
+use Rattle.law_never_astray.proofs.Arrivals.{put_back_clear}
 use Rattle.law_never_astray.specs.Near.{ReactsNear, TargetsNear, AllNear}
 use Rattle.law_never_astray.proofs.Rests.{RestsAfter}
 use Rattle.law_never_astray.proofs.NearArrive.{keep_arrive, keep_notice}

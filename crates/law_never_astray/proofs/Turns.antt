@@ -9,20 +9,20 @@ use Rattle.def_kernel.specs.declared.node.Node.{Node}
 use Rattle.def_kernel_form.specs.declared.shape.Kind.TheVariants.{Expression}
 use Rattle.law_kernel_form.specs.Trees.{IsTree}
 use Rattle.ev_scope.specs.Scopes.{first_fault}
-use Rattle.law_scoped.proofs.Accepted.{accepted_scoped}
+use Rattle.law_never_astray.proofs.AcceptedTrees.{accepted_scoped}
 use Rattle.law_machine.proofs.Walks.{walk_bind, walk_give}
 use Rattle.law_name.proofs.Facts.{Fact, Also, IsName, IsValue, AreNouns, IsMessage, MayName, answer, nothing, Holds}
 use Rattle.law_name.proofs.Care.{Care, Under, Sound, Gets, rise, got_nothing, fine_activation, fine_tell, told_finished, told_threw}
-use Rattle.law_calls.specs.Levels.{ListsEnd, LevelsSuffice}
-use Rattle.law_covered.specs.Covered.{Carries}
-use Rattle.law_covered.specs.Laws.{AreGiven}
-use Rattle.law_covered.proofs.Parts.{tree_formed}
-use Rattle.law_covered.proofs.Leads.{Kept, Nothing}
-use Rattle.law_covered.proofs.Laws.{covers_given, covers_none}
-use Rattle.law_covered.proofs.Eval as stand
-use Rattle.law_astray.specs.Ejections.{NoneIsLive}
-use Rattle.law_astray.proofs.Awaits.{AwaitedBy, EndsAwaited, awaited_closed}
-use Rattle.law_astray.proofs.AwaitsEval as awaits
+use Rattle.law_never_astray.specs.Levels.{ListsEnd, LevelsSuffice}
+use Rattle.law_never_astray.specs.Covered.{Carries}
+use Rattle.law_never_astray.specs.CoveredLaws.{AreGiven}
+use Rattle.law_never_astray.proofs.Parts.{tree_formed}
+use Rattle.law_never_astray.proofs.Leads.{Kept, Nothing}
+use Rattle.law_never_astray.proofs.CoveredLaws.{covers_given, covers_none}
+use Rattle.law_never_astray.proofs.CoveredEval as stand
+use Rattle.law_never_astray.specs.Ejections.{NoneIsLive}
+use Rattle.law_never_astray.proofs.Awaits.{AwaitedBy, EndsAwaited, awaited_closed}
+use Rattle.law_never_astray.proofs.AwaitsEval as awaits
 use Rattle.law_never_astray.specs.Near.{IsNear}
 use Rattle.law_never_astray.proofs.Good.{Good, Goes, good_forget, good_next, good_give, good_told, good_some_name, go_unit}
 use Rattle.law_never_astray.proofs.Natives.{Works, work_break, work_resolve}

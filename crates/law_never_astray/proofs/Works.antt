@@ -9,14 +9,14 @@ use Rattle.law_name.proofs.Facts.{Fact, IsMail, IsVat, IsPlace, IsValue, new_nam
 use Rattle.law_name.proofs.Care.{Care, Under, Makes, Sound, Gets, Fine, got, got_left, fine_tell, fine_new_message, fine_lone_message}
 use Rattle.law_name.proofs.Looks.{look_follow, look_place, look_number, got_answer_host}
 use Rattle.law_name.proofs.Serves.{Serves, served_by}
-use Rattle.law_covered.proofs.Leads as covered
-use Rattle.law_covered.proofs.Leads.{Leads, Refers, Nothing}
-use Rattle.law_covered.proofs.Settled.{refers}
-use Rattle.law_covered.proofs.Laws.{Whatever}
-use Rattle.law_astray.specs.Astray.{NotAstray, AllAwaited}
-use Rattle.law_astray.proofs.Sure as sure
-use Rattle.law_astray.proofs.Clear as clear
-use Rattle.law_astray.proofs.Clear.{Firm, firm_bind, firm_then, firm_give, firm_look, firm_tell, firm_enqueue, firm_alter}
+use Rattle.law_never_astray.proofs.Leads as covered
+use Rattle.law_never_astray.proofs.Leads.{Leads, Refers, Nothing}
+use Rattle.law_never_astray.proofs.Settled.{refers}
+use Rattle.law_never_astray.proofs.CoveredLaws.{Whatever}
+use Rattle.law_never_astray.specs.Settlings.{NotAstray, AllAwaited}
+use Rattle.law_never_astray.proofs.Sure as sure
+use Rattle.law_never_astray.proofs.Clear as clear
+use Rattle.law_never_astray.proofs.Clear.{Firm, firm_bind, firm_then, firm_give, firm_look, firm_tell, firm_enqueue, firm_alter}
 use Rattle.law_never_astray.proofs.Good.{Good, Off}
 use Rattle.law_never_astray.proofs.Rests.{Quiet}
 use Rattle.law_never_astray.specs.Near.{IsNear}

@@ -15,15 +15,15 @@ use Rattle.law_name.proofs.Facts.{message_up, nouns_up}
 use Rattle.law_name.proofs.Care.{Care, Under, Makes, Sound, parts_up}
 use Rattle.law_name.proofs.Tracked.{tracked, tracked_under, tracked_makes}
 use Rattle.law_name.proofs.Run.{Had, Inside, Stands, inside, inside_root, low_at, had_ready, sound_ready, knows_low, given_ok}
-use Rattle.law_things.specs.Things.{There, ThingsAreThere}
-use Rattle.law_things.proofs.Counted.{named_counted, things, things_under, things_makes}
-use Rattle.law_calls.proofs.Chains.{calls_end}
-use Rattle.law_covered.specs.Covered.{Carries}
-use Rattle.law_covered.specs.Laws.{AreGiven}
+use Rattle.law_never_astray.specs.Things.{There, ThingsAreThere}
+use Rattle.law_never_astray.proofs.ThingsCounted.{named_counted, things, things_under, things_makes}
+use Rattle.law_never_astray.proofs.CallChains.{calls_end}
+use Rattle.law_never_astray.specs.Covered.{Carries}
+use Rattle.law_never_astray.specs.CoveredLaws.{AreGiven}
 use Rattle.law_reference.specs.Lists.{NoListLeadsBack}
-use Rattle.law_astray.specs.Astray.{AllAwaited}
-use Rattle.law_astray.specs.Ejections.{NoneIsLive}
-use Rattle.law_astray.proofs.Awaited.{is_mail, tracked_awaits}
+use Rattle.law_never_astray.specs.Settlings.{AllAwaited}
+use Rattle.law_never_astray.specs.Ejections.{NoneIsLive}
+use Rattle.law_never_astray.proofs.Awaited.{is_mail, tracked_awaits}
 use Rattle.law_never_astray.specs.Near.{TargetsNear}
 use Rattle.law_never_astray.proofs.Both.{both, both_under, both_makes, parts_both, message_both, nouns_both}
 use Rattle.law_never_astray.proofs.Eval.{NamesThere}

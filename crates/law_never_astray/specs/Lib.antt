@@ -1,2 +1,13 @@
+pub mod Scoped
+pub mod Formed
+pub mod Covered
+pub mod CoveredLaws
+pub mod CoveredRuns
+pub mod Things
+pub mod Objects
+pub mod Levels
+pub mod Settlings
+pub mod Arrivals
+pub mod Ejections
 pub mod Near
 pub mod Runs

@@ -5,7 +5,7 @@ use Rattle.def_machine.specs.State.{Message, Known, Vat}
 use Rattle.def_run.specs.World.{Script, Program, Entry, World, Goes, names, begins, open_from, steps_from}
 use Rattle.law_name.specs.Names.{AllOf}
 use Rattle.law_name.specs.Runs.{KnowsOnce}
-use Rattle.law_covered.specs.Runs.{IsAccepted}
+use Rattle.law_never_astray.specs.CoveredRuns.{IsAccepted}
 
 module _ {N W : Type 0} (K : Naming N W) where
   -- it is no name, or the name of an object of the vat

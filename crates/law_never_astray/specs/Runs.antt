@@ -4,7 +4,7 @@ use Rattle.def_machine.specs.State.{Stop, Astray}
 use Rattle.def_run.specs.World.{Script, Entry, Turn, Carry, CutLink, NoticeLink, World, Stopped, run}
 use Rattle.law_name.specs.Runs.{KnowsOnce}
 use Rattle.law_reference.specs.Cuts.{NoticesFollowCuts}
-use Rattle.law_covered.specs.Runs.{IsAccepted}
+use Rattle.law_never_astray.specs.CoveredRuns.{IsAccepted}
 
 -- each notice is one of a vat that is there
 abbrev pub NoticersAreThere : ℕ → List Entry → Type 0

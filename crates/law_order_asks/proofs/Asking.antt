@@ -15,6 +15,7 @@ use Rattle.law_order.proofs.Adds.{adds_note, change_adds, stays_quiet}
 use Rattle.law_order.proofs.Moves.{Keeps, keeps_bind, keeps_if, keeps_look, keeps_give, widen}
 use Rattle.law_order.proofs.News.{stays_self, stays_then}
 use Rattle.law_order.proofs.Sendings.{stays, stays_pass}
+use Rattle.law_order_carries.proofs.Informing.{informs}
 use Rattle.law_order_carries.proofs.Learning.{come_stays}
 use Rattle.law_order_asks.proofs.Gifts.{Given, gift_stays}
 
@@ -35,30 +36,14 @@ module _ (script : Script) (honest : ℕ → Bool) (w : World) (v : ℕ) where
   unfolding alter
   to_tell to n = record { after = λ s. stays_quiet script honest w v s (record s { known = state.with_change K (ToTell to) n s.known }) (change_adds K (ToTell to) n tt s, refl, refl, refl) }
 
-  tells : (p : Name) (to : ℕ) (y : Value Name) → Keeps R (refs.pass K to y >>= (λ z. send_out to (SettledTo p z)))
-  tells p to y = keeps_bind R (stays script honest w v) (stays_pass script honest w v to y) (λ z. puts to (SettledTo p z) tt)
-
-  informs_of : (p : Name) (to : ℕ) (y : Value Name) (q : Place Name) → Keeps R (refs.inform_of K p to y q)
-  unfolding refs.inform_of
-  informs_of p to y (Away h n true) = puts to (Elsewhere p h) tt
-  informs_of p to y (Away h n false) = tells p to y
-  informs_of p to y (Mine n) = tells p to y
-  informs_of p to y Near = tells p to y
-  informs_of p to y (Gone t) = tells p to y
-
-  informs : (p : Name) (to : ℕ) → Keeps R (refs.inform K p to)
-  unfolding refs.inform
-  informs p to = let base = stays script honest w v in
-      keeps_bind R base (keeps_look R base _) (λ y. keeps_bind R base (keeps_look R base _) (λ q. keeps_bind R base (keeps_look R base _) (λ gone. keeps_if R base gone (keeps_give R base tt) (informs_of p to y q))))
-
   tells_asker : (n : Name) (to : ℕ) (t : Standing Name) → Keeps R (arrive.tell_asker K n to t)
   unfolding arrive.tell_asker
-  tells_asker n to (Settled y) = informs n to
+  tells_asker n to (Settled y) = informs K R (stays script honest w v) (stays_pass script honest w v) puts n to
   tells_asker n to Unsettled = to_tell to n
   tells_asker n to (WaitsOn q) = to_tell to n
   tells_asker n to (Viewed q) = to_tell to n
 
-  tell_now : (n : Name) (to : ℕ) → Keeps R (look (λ s. refs.standing_of K s.known n) >>= (λ t. arrive.tell_asker K n to t))
+  pub tell_now : (n : Name) (to : ℕ) → Keeps R (look (λ s. refs.standing_of K s.known n) >>= (λ t. arrive.tell_asker K n to t))
   tell_now n to = let base = stays script honest w v in keeps_bind R base (keeps_look R base _) (λ t. tells_asker n to t)
 
   -- ---- the gift
@@ -85,7 +70,7 @@ module _ (script : Script) (honest : ℕ → Bool) (w : World) (v : ℕ) where
   Gave s (Ejects i y t) = ⊥
   Gave s (Stops c t) = ⊥
 
-  makes : (s : Vat Name) (p i : ℕ) → Gave s (arrive.gift_or_new K v p i None s)
+  pub makes : (s : Vat Name) (p i : ℕ) → Gave s (arrive.gift_or_new K v p i None s)
   unfolding arrive.gift_or_new ◌>>=◌ ◌>>◌ and_then come new_gift give names naming name_of host_of
   makes s p i =
       let n : Name = Gift v i in

@@ -1,5 +1,5 @@
 -- As a gift comes to be at its host no way changes: it was not opened.
-use Rattle.std.proofs.Common.{◌≡◌, ℕ, Bool, true, false, List, [], ◌∷◌, ◌++◌, Some, refl, sym, ap}
+use Rattle.std.proofs.Common.{◌≡◌, ℕ, Bool, true, false, List, [], ◌∷◌, ◌++◌, Some, refl, sym, ap, ◌⊎◌, inl}
 use Rattle.std.proofs.lemmas.List.{append-nil}
 use Rattle.std.specs.Prelude.{not, ◌==◌, ◌&&◌, ◌||◌}
 use Rattle.def_machine.specs.Values.{Value, Name, Root, Object, Promise, Answer, Gift, Sent, same_name}
@@ -8,12 +8,12 @@ use Rattle.def_machine.specs.Refs as refs
 use Rattle.def_machine.specs.Refs.{entry_of, standing_of}
 use Rattle.def_run.specs.World as world
 use Rattle.def_run.specs.World.{Script, Link, World, names}
-use Rattle.law_order.specs.Ways.{Lane, Queue, Held, Way, Free}
+use Rattle.law_order.specs.Ways.{Lane, Queue, Held, Way, Free, IsOneWay}
 use Rattle.law_order.specs.Messages.{More}
 use Rattle.law_order.specs.Places.{queued, held_in, opened_there, gift_place, by_follow, by_host, of_name, leads_in, leads, unsettled, released, released_at, ways_of, ways, amid}
 use Rattle.law_order.specs.Steps.{Grown, StaysReady}
 use Rattle.law_order.proofs.Standing.{queue_more, held_more, way_more}
-use Rattle.law_order_views.proofs.Alike.{leads_same, onward_same, grown_by}
+use Rattle.law_order_views.proofs.Alike.{WasFree, leads_same, onward_same_or, grown_by}
 
 module _ (script : Script) (honest : ℕ → Bool) (w : World) (v : ℕ) (s : Vat Name) (n : Name) (p i : ℕ) where
   abbrev New : GiftEntry Name
@@ -66,11 +66,11 @@ module _ (script : Script) (honest : ℕ → Bool) (w : World) (v : ℕ) (s : Va
 
   leading : (u : ℕ) (x : Value Name) → leads script honest (amid v Given w).vats (amid v Given w).links u x ≡ leads script honest (amid v s w).vats (amid v s w).links u x
   unfolding amid
-  leading u x = leads_same script honest v s Given leads_on w.vats Links (λ here q. mine (world.put_at v s w.vats) Links q) u x
+  leading u x = leads_same script honest v s Given leads_on w.vats Links u x
 
-  onward : (l : Lane) (m : Name) → (ways script honest (amid v Given w)).onward l m ≡ (ways script honest (amid v s w)).onward l m
+  onward : (l : Lane) (m : Name) → ((ways script honest (amid v Given w)).onward l m ≡ (ways script honest (amid v s w)).onward l m) ⊎ (IsOneWay l × ((ways script honest (amid v s w)).onward l m ≡ Free))
   unfolding ways ways_of amid
-  onward l m = onward_same script honest v s Given leads_on w.vats Links (λ here q. mine (world.put_at v s w.vats) Links q) l m
+  onward l m = onward_same_or script honest v s Given leads_on w.vats Links WasFree (λ here q. inl (mine (world.put_at v s w.vats) Links q)) l m
 
   grown : Grown script honest w v s Given
   grown = grown_by script honest w v s Given more leading onward

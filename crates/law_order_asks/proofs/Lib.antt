@@ -1,5 +1,6 @@
 pub mod Gifts
 pub mod Asking
+pub mod Orphans
 pub mod Steps
 pub mod Asked
 pub mod AskRuns
@@ -10,3 +11,4 @@ pub mod Shortens
 pub mod Wanting
 pub mod Wishes
 pub mod ShortenRuns
+pub mod StepsKeep

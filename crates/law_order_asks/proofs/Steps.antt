@@ -20,11 +20,12 @@ use Rattle.law_order.proofs.Adding.{refers_same}
 use Rattle.law_order.proofs.Adds.{alike_same}
 use Rattle.law_order.proofs.Amid.{leads_same, beginning_changes_no_way}
 use Rattle.law_order.proofs.Changes.{growing_keeps}
-use Rattle.law_order.proofs.Messages.{behind_then}
 use Rattle.law_order.proofs.OrderKeeping.{front_link, all_put_on, arriving_changes_nothing}
 use Rattle.law_order.proofs.Pushing.{all_same}
 use Rattle.law_order.proofs.Sends.{link_here, link_behind}
-use Rattle.law_order.proofs.Standing.{more_then, queue_more, held_more}
+use Rattle.law_order.proofs.Standing.{queue_more, held_more}
+use Rattle.law_order_carries.proofs.Breaking.{firm_grown}
+use Rattle.law_order_carries.proofs.Moved.{Leading, Firm, firm_then}
 use Rattle.law_order_asks.specs.Asks.{StepKeeps, Bears}
 
 goes_is : (x y : World) → Goes x ≡ Goes y → x ≡ y
@@ -111,20 +112,41 @@ module _ (script : Script) (honest : ℕ → Bool) (w : World) (a b : ℕ) (m : 
   pub leave_more : (bare : (ns : List (Note Name)) → delivered (m ∷ ns) ≡ delivered ns) (t : Vat Name) (l : Lane) → More (With t) (End t) l
   leave_more bare t l = ([], sym (subst (λ z. (ways script honest (amid b t z)).stands l ≡ (End t).stands l) same (stands_on script honest a b m bare Bare t l)) ∙ sym (append-nil ((With t).stands l)))
 
+  -- where each vat would send on each value: in the world, with the note and without it
+  abbrev pub Was : Leading
+  Was u x = leads script honest w.vats w.links u x
+
+  abbrev pub LeadsWith : Vat Name → Leading
+  LeadsWith s u x = leads script honest (amid b s w).vats (amid b s w).links u x
+
+  abbrev pub LeadsEnd : Vat Name → Leading
+  LeadsEnd t u x = leads script honest (amid b t Bare).vats (amid b t Bare).links u x
+
   -- the vat comes to t, and order is kept
-  pub record Comes (t : Vat Name) : Type 0 where
-    pub keeps : (c : Place) → StaysBehind (ways script honest w) (End t) c c
-    pub more : (l : Lane) → More (ways script honest w) (End t) l
-    pub leading : (u : ℕ) (x : Value Name) → leads script honest (amid b t Bare).vats (amid b t Bare).links u x ≡ leads script honest w.vats w.links u x
+  abbrev pub Comes : Vat Name → Type 0
+  Comes t = Firm (ways script honest w) (End t) Was (LeadsEnd t)
+
+  begin_firm : Firm (ways script honest w) (With Start) Was (LeadsWith Start)
+  begin_firm = record {
+    references = λ u x. subst (λ c. StaysBehind (ways script honest w) (With Start) (Was u x) c) (sym (leads_begin u x)) (growing_keeps (ways script honest w) (With Start) begins (Was u x));
+    places = λ l k n. growing_keeps (ways script honest w) (With Start) begins (Mid l k n);
+    more = begin_more;
+  }
+
+  -- what the vat does keeps order, and then the note leaves
+  pub firm_leaves : (s t : Vat Name) → Firm (With Start) (With s) (LeadsWith Start) (LeadsWith s) → ((c : Place) → StaysBehind (With s) (End t) c c) → ((l : Lane) → More (With s) (End t) l)
+      → ((u : ℕ) (x : Value Name) → LeadsEnd t u x ≡ LeadsWith s u x) → Comes t
+  firm_leaves s t f leaves more leading = firm_then (ways script honest w) (With Start) (End t) Was (LeadsWith Start) (LeadsEnd t) begin_firm
+      (firm_then (With Start) (With s) (End t) (LeadsWith Start) (LeadsWith s) (LeadsEnd t) f (record {
+        references = λ u x. subst (λ c. StaysBehind (With s) (End t) (LeadsWith s u x) c) (sym (leading u x)) (leaves (LeadsWith s u x));
+        places = λ l k n. leaves (Mid l k n);
+        more = more;
+      }))
 
   -- the ways grow, and then the note leaves
   pub grown_then : (s t : Vat Name) → Grown script honest w b Start s → ((c : Place) → StaysBehind (With s) (End t) c c) → ((l : Lane) → More (With s) (End t) l)
-      → ((u : ℕ) (x : Value Name) → leads script honest (amid b t Bare).vats (amid b t Bare).links u x ≡ leads script honest (amid b s w).vats (amid b s w).links u x) → Comes t
-  grown_then s t g leaves more leading = record {
-    keeps = λ c. behind_then (ways script honest w) (With Start) (End t) c c c (growing_keeps (ways script honest w) (With Start) begins c) (behind_then (With Start) (With s) (End t) c c c (growing_keeps (With Start) (With s) g.grows c) (leaves c));
-    more = λ l. more_then (ways script honest w) (With Start) (End t) l (begin_more l) (more_then (With Start) (With s) (End t) l (g.more l) (more l));
-    leading = λ u x. leading u x ∙ g.leading u x ∙ leads_begin u x;
-  }
+      → ((u : ℕ) (x : Value Name) → LeadsEnd t u x ≡ LeadsWith s u x) → Comes t
+  grown_then s t g leaves more leading = firm_leaves s t (firm_grown script honest w b Start s g) leaves more leading
 
   module _ (head : List Event) (t : Vat Name) where
     abbrev Then : World
@@ -139,11 +161,7 @@ module _ (script : Script) (honest : ℕ → Bool) (w : World) (a b : ℕ) (m : 
 
     after : Comes t → StepKeeps script honest w Then
     unfolding ways amid leads
-    after g = record {
-      references = λ u x. subst (λ c. StaysBehind (ways script honest w) (End t) (leads script honest w.vats w.links u x) c) (sym (g.leading u x)) (g.keeps (leads script honest w.vats w.links u x));
-      places = λ l k n. g.keeps (Mid l k n);
-      more = g.more;
-    }
+    after g = record { references = λ u x. g.references u x; places = λ l k n. g.places l k n; more = λ l. g.more l }
 
   ended : (y : World) (head : List Event) (k : ℕ) (d : Done Name (Unit {0})) → IfGives Comes d → world.put_back b Bare head k d ≡ Goes y → StepKeeps script honest w y
   unfolding world.put_back

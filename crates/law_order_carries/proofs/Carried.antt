@@ -20,8 +20,11 @@ use Rattle.law_order.proofs.Adds.{change_adds, stays_quiet}
 use Rattle.law_order.proofs.Coming.{new_entry, old_entry}
 use Rattle.law_order.proofs.Named.{same_is}
 use Rattle.law_order.proofs.News.{stays_then}
-use Rattle.law_order_carries.specs.Carries.{IsNotNext, AllNotNext, IsHonestWay}
-use Rattle.law_order_carries.proofs.Learning.{Yields, yields_bind, IsAt, Learns, learn_name, learn_all, learn_message, come_stays}
+use Rattle.law_order.proofs.Sends.{entry_changed}
+use Rattle.law_order_views.proofs.Severed.{IsAlone, came_alone, still_alone}
+use Rattle.law_order_carries.specs.Carries.{IsNotNext, AllNotNext}
+use Rattle.law_order_carries.proofs.Breaking.{IsFresh}
+use Rattle.law_order_carries.proofs.Learning.{alone_self, Yields, yields_bind, IsAt, Learns, learn_name, learn_all, learn_message, come_stays}
 use Rattle.law_order_carries.proofs.Moved.{Leading}
 use Rattle.law_order_carries.proofs.Sending as sending
 
@@ -98,7 +101,7 @@ module _ (script : Script) (honest : ℕ → Bool) (w : World) (a b : ℕ) (r : 
   -- ---- it is sent on, with an answer or without
 
   -- where that is so in the state in which the note arrives
-  module _ (silent : L s b (Ref n) ≡ Nowhere → d.asks ≡ false) (onward : (h : ℕ) (q : Name) → L s b (Ref n) ≡ End (Way b h) q → IsHonestWay honest b h w) where
+  module _ (onward : (h : ℕ) (q : Name) → L s b (Ref n) ≡ End (Way b h) q → (l : Link) × (world.link_at b h w.links ≡ Some l)) where
     abbrev Own : Name
     Own = Answer b msg
 
@@ -122,7 +125,7 @@ module _ (script : Script) (honest : ℕ → Bool) (w : World) (a b : ℕ) (r : 
       some_name p q e = cc
 
       alone : IfGives (Ends t) (refs.send_on K (refs.settle K) (Mail args None) t)
-      alone = sending.sends script honest w a b r there way d n verb ys msg named t both.0 (before_at ns t at) known args None (λ p e. absurd (no_answer p e)) (λ e. refl) (λ h q e. onward h q (sym lead_same ∙ e))
+      alone = sending.sends script honest w a b r there way d n verb ys msg named t both.0 (before_at ns t at) known args None (λ p e. absurd (no_answer p e)) (λ h q e. onward h q (sym lead_same ∙ e))
 
       -- the answer comes to be known, and the sender is to be told of it
       abbrev Came : Vat Name
@@ -135,13 +138,12 @@ module _ (script : Script) (honest : ℕ → Bool) (w : World) (a b : ℕ) (r : 
       unfolding host_of
       came_stays = come_stays script honest Full b t Own (λ o. o) (Root 0) (sending.next_answer script honest w a b r there way d n verb ys msg named t b (before_at ns t at))
 
-      alone_entry : (c : Bool) → same_reference Own Own ≡ c → c ≡ true → refs.entry_of K (begun Own b ∷ []) Own ≡ Some (begun Own b)
-      unfolding refs.entry_of begun names naming
-      alone_entry c e f = ap (λ z. elim z [ true ↦ Some (begun Own b) | false ↦ None ]) (e ∙ f)
+      came_found : refs.entry_of K Came.known Own ≡ Some (begun Own b)
+      came_found = new_entry K t.known (begun Own b) Own at.4 ∙ alone_self script b Own b tt
 
       came_asked : sending.IsAsked script honest w a b r there way d n verb ys msg named Came
       unfolding begun
-      came_asked = (begun Own b, new_entry K t.known (begun Own b) Own at.4 ∙ alone_entry (same_reference Own Own) refl (reference_self Own tt), refl)
+      came_asked = (begun Own b, came_found, refl)
 
       abbrev tells : AddsOnly K Came Told
       tells = change_adds K (ToTell a) Own tt Came
@@ -159,21 +161,36 @@ module _ (script : Script) (honest : ℕ → Bool) (w : World) (a b : ℕ) (r : 
           more (inl o) = inl o
           more (inr k) = inr (k.0, old_entry K t.known (begun Own b) k.0 n k.1)
 
-      asked_ends : d.asks ≡ true → IfGives (Ends Told) (refs.send_on K (refs.settle K) (Mail args (Some Own)) Told)
-      asked_ends asks =
+      -- nothing is held for the answer, nothing waits for it, and nothing else is followed to it
+      told_fresh : IsFresh K b Told Own (state.changed (ToTell a) (begun Own b))
+      unfolding state.changed state.unless_settled state.changed_to begun
+      told_fresh = record {
+        found = entry_changed K Own (ToTell a) Came.known (begun Own b) came_found;
+        unsettled = refl;
+        held = refl;
+        waiting = refl;
+        reactions = refl;
+        hosted = refl;
+      }
+
+      told_alone : IsAlone K Told.known Own
+      unfolding host_of
+      told_alone = still_alone K Came Told Own tells.alike (came_alone script honest b t Own both.0.ends (λ o. o) at.4)
+
+      asked_ends : IfGives (Ends Told) (refs.send_on K (refs.settle K) (Mail args (Some Own)) Told)
+      asked_ends =
           let lead = sending.grown_leads script honest w a b r there way d n verb ys t Told told_both.1 b (Ref n) ∙ lead_same in
           sending.sends script honest w a b r there way d n verb ys msg named Told told_both.0 (before_at ns t at) told_known args (Some Own)
-          (λ p e. (some_name Own p e, sending.entry_on script honest w a b r there way d n verb ys msg named Came Told tells.alike came_asked))
-          (λ e. absurd (true_false script b (sym asks ∙ silent (sym lead ∙ e)))) (λ h q e. onward h q (sym lead ∙ e))
+          (λ p e. (some_name Own p e, sending.entry_on script honest w a b r there way d n verb ys msg named Came Told tells.alike came_asked, (state.changed (ToTell a) (begun Own b), told_fresh, told_alone))) (λ h q e. onward h q (sym lead ∙ e))
 
-      answered : d.asks ≡ true → IfGives (Ends t) (arrive.send_on_asked K a d.message n verb args t)
+      answered : IfGives (Ends t) (arrive.send_on_asked K a d.message n verb args t)
       unfolding arrive.send_on_asked ◌>>=◌ ◌>>◌ and_then look come alter names naming name_of answer_of
-      answered asks = subst (λ v. IfGives (Ends t) (refs.send_on K (refs.settle K) (Mail args (Some (answer_of v d.message))) (record t { known = state.with_change K (ToTell a) (answer_of v d.message) (t.known ++ begun (answer_of v d.message) v ∷ []) }))) (sym both.0.number)
+      answered = subst (λ v. IfGives (Ends t) (refs.send_on K (refs.settle K) (Mail args (Some (answer_of v d.message))) (record t { known = state.with_change K (ToTell a) (answer_of v d.message) (t.known ++ begun (answer_of v d.message) v ∷ []) }))) (sym both.0.number)
           (subst (λ i. IfGives (Ends t) (refs.send_on K (refs.settle K) (Mail args (Some (answer_of b i))) (record t { known = state.with_change K (ToTell a) (answer_of b i) (t.known ++ begun (answer_of b i) b ∷ []) }))) (sym named)
-          (ends_map t Told (refs.send_on K (refs.settle K) (Mail args (Some Own)) Told) told_both.1 (asked_ends asks)))
+          (ends_map t Told (refs.send_on K (refs.settle K) (Mail args (Some Own)) Told) told_both.1 asked_ends))
 
       either : (c : Bool) → d.asks ≡ c → IfGives (Ends s) ((if c then arrive.send_on_asked K a d.message n verb args else refs.send_on K (refs.settle K) (Mail args None)) t)
-      either true e = ends_map s t (arrive.send_on_asked K a d.message n verb args t) both.1 (answered e)
+      either true e = ends_map s t (arrive.send_on_asked K a d.message n verb args t) both.1 answered
       either false e = ends_map s t (refs.send_on K (refs.settle K) (Mail args None) t) both.1 alone
 
     -- ---- the whole arrival
@@ -199,7 +216,7 @@ module _ (script : Script) (honest : ℕ → Bool) (w : World) (a b : ℕ) (r : 
     abbrev Learn : Vat Name → List Name → Vat Name → Type 0
     Learn t ns u = Learns script honest Full b r b msg t ns u
 
-    module _ (all : AllNotNext b r (Answer b msg) ys) where
+    module _ (all : AllNotNext b r (Answer b msg) Ns ys) where
       abbrev Ms : List Name
       Ms = (world.read_all ys Ns).known
 

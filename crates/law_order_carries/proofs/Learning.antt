@@ -1,15 +1,17 @@
 -- A vat learns the names in a note: it stays ready, and the ways only grow.
-use Rattle.std.proofs.Common.{◌≡◌, ℕ, ◌≤◌, Bool, true, false, List, [], ◌∷◌, ◌++◌, Some, None, length, refl, sym, ap, subst, ◌∙◌, if◌then◌else◌}
+use Rattle.std.proofs.Common.{◌≡◌, ℕ, ◌≤◌, Bool, true, false, List, [], ◌∷◌, ◌++◌, Option, Some, None, length, refl, sym, ap, subst, ◌∙◌, ◌⊎◌, inl, inr, if◌then◌else◌}
 use Rattle.std.specs.Prelude.{codes}
-use Rattle.def_machine.specs.Values.{Value, Null, Flag, Number, Letter, Text, Prim, Broken, Items, Ref, Name, Root, Object, Promise, Answer, Gift, Sent, Msg, Naming, host_of, naming, name_of, mail_of, same_reference}
-use Rattle.def_machine.specs.State.{Passed, Passeds, Plain, AGift, Many, NoMore, More, Ask, Put, ListCame, Vat, Act, Done, Gives, Throws, Ejects, Stops, ◌>>=◌, ◌>>◌, and_then, give, look, tell, new_list, come, mail, send_out, begun, is_in}
+use Rattle.def_machine.specs.Values.{Value, Null, Flag, Number, Letter, Text, Prim, Broken, Items, Ref, Name, Root, Object, Promise, Answer, Gift, Sent, Msg, Naming, NoObject, host_of, spot_of, naming, name_of, mail_of, same_reference}
+use Rattle.def_machine.specs.State.{Known, Settled, Settle, Passed, Passeds, Plain, AGift, Many, NoMore, More, Ask, Put, ListCame, Vat, Act, Done, Gives, Throws, Ejects, Stops, ◌>>=◌, ◌>>◌, and_then, give, look, tell, each, changed, new_list, come, mail, send_out, begun, is_in}
 use Rattle.def_machine.specs.Refs as refs
 use Rattle.def_machine.specs.Arrive as arrive
 use Rattle.def_machine.specs.Arrive.{Incoming, Old, New}
 use Rattle.def_run.specs.World.{Script, World, names}
 use Rattle.def_run.specs.World as world
-use Rattle.law_name.specs.Names.{names_in}
+use Rattle.law_name.specs.Names.{IsAmong, IsEventual, names_in}
 use Rattle.law_name.proofs.Among.{names_end}
+use Rattle.law_name.proofs.SameNames.{reference_self}
+use Rattle.law_name.proofs.Tracked.{names_change}
 use Rattle.law_order.specs.Places.{amid}
 use Rattle.law_order.specs.Worlds.{IsObject}
 use Rattle.law_order.specs.Steps.{Ready, Grown, StaysReady}
@@ -17,8 +19,12 @@ use Rattle.law_order.proofs.Entries.{reference_is}
 use Rattle.law_order.proofs.Pushing.{all_same}
 use Rattle.law_order.proofs.Coming.{new_entry, coming, comes_same}
 use Rattle.law_order.proofs.Amid.{leads_same}
-use Rattle.law_order.proofs.News.{stays_self, stays_then, came_none, came_ends, came_more}
+use Rattle.law_order.proofs.News.{grown_then, stays_self, stays_then, came_none, came_ends, came_more}
 use Rattle.law_order.proofs.Adds.{adds_nothing, adds_note, stays_quiet}
+use Rattle.law_order_views.specs.Led.{StandsOtherwise, BreaksAsItsHost}
+use Rattle.law_order_views.proofs.Settling.{settles_alone, settled_now}
+use Rattle.law_order_views.proofs.Severed.{IsAlone, came_alone, ends_then, severed_names_break_quietly}
+use Rattle.law_order_carries.proofs.Breaking.{IsFresh, Line, Broke, settles_so}
 use Rattle.law_order_carries.specs.Carries.{IsNotNext, ValueNotNext, PassedNotNext, AllNotNext}
 
 -- ---- what an act gives
@@ -65,6 +71,27 @@ unknown_plain ns (Promise w i) e o = o
 unknown_plain ns (Answer w m) e o = o
 unknown_plain ns (Gift w i) e o = o
 unknown_plain ns (Sent m) e o = o
+
+module _ (script : Script) (v : ℕ) where
+  abbrev N : Naming Name Name
+  N = names script v
+
+  -- what is not among the names known is not found
+  not_among : (ks : List (Known Name)) (n : Name) → (IsAmong n (names_in ks) → ⊥) → refs.entry_of N ks n ≡ None
+  unfolding refs.entry_of names naming
+  not_among [] n f = refl
+  not_among (k ∷ ks) n f = go (not_among ks n (λ h. f (inr h))) (same_reference k.name n) refl
+    where
+      go : refs.entry_of N ks n ≡ None → (c : Bool) → same_reference k.name n ≡ c → ◌≡◌ {A = Option (Known Name)} (elim c [ true ↦ Some k | false ↦ refs.entry_of N ks n ]) None
+      go h true e = absurd (f (inl (sym (reference_is k.name n e))))
+      go h false e = h
+
+  alone_by : (n : Name) (h : ℕ) (c : Bool) → same_reference n n ≡ c → c ≡ true → refs.entry_of N (begun n h ∷ []) n ≡ Some (begun n h)
+  unfolding refs.entry_of begun names naming
+  alone_by n h c e f = ap (λ z. elim z [ true ↦ Some (begun n h) | false ↦ None ]) (e ∙ f)
+
+  pub alone_self : (n : Name) (h : ℕ) → IsEventual n → refs.entry_of N (begun n h ∷ []) n ≡ Some (begun n h)
+  alone_self n h plain = alone_by n h (same_reference n n) refl (reference_self n plain)
 
 module _ (script : Script) (honest : ℕ → Bool) (w : World) (v : ℕ) where
   abbrev K : Naming Name Name
@@ -156,15 +183,119 @@ module _ (script : Script) (honest : ℕ → Bool) (w : World) (v : ℕ) where
     learn_value s ns (Items k) new at = (stays_self script honest w v s, at)
 
     -- a gift of a host that was not noticed is asked for
-    learn_gift : (s : Vat Name) (ns : List Name) (p h i : ℕ) → is_in h r.noticed ≡ false → IsAt ns s → Yields (λ x t. Learns s (ns ++ Gift h i ∷ []) t) (arrive.learn_gift K p h i s)
+    asks_gift : (s : Vat Name) (ns : List Name) (p h i : ℕ) → is_in h r.noticed ≡ false → IsAt ns s → Yields (λ x t. Learns s (ns ++ Gift h i ∷ []) t) (arrive.learn_gift K p h i s)
     unfolding arrive.learn_gift arrive.ask_for give look come send_out ◌>>=◌ ◌>>◌ and_then names naming name_of host_of
-    learn_gift s ns p h i e at =
+    asks_gift s ns p h i e at =
         let n : Name = Gift h i in
         let t : Vat Name = Came s n (λ o. o) in
         let a : Put Name = record { to = h; note = Ask p i n } in
         let u : Vat Name = record t { outbox = t.outbox ++ a ∷ [] } in
         subst (λ c. Yields (λ x z. Learns s (ns ++ n ∷ []) z) (and_then ((if c then refs.settle K n (Broken (codes "partition")) else send_out h (Ask p i n)) t) (λ z. give (Ref n)))) (sym (ap (λ z. is_in h z) at.3 ∙ e))
         (stays_then script honest w v {s = s} {t = t} {u = u} (come_stays s n (λ o. o) Bar (new_here s n at.1 at.2 (gift_is_new v r host msg h i))) (stays_quiet script honest w v t u (adds_note K t a tt, refl, refl, refl)), (came_at s ns n at, at.1, at.2, at.3, still_none s n at.4 (gift_is_new v r host msg h i).0))
+
+    -- One of a host that was noticed breaks. It comes to be known just now, so nothing changes by that.
+    module _ (s : Vat Name) (ns : List Name) (h i : ℕ) (gone : is_in h r.noticed ≡ true) (other : h ≡ v → ⊥) (new : IsAmong (Gift h i) ns → ⊥) (at : IsAt ns s) where
+      abbrev Given : Name
+      Given = Gift h i
+
+      abbrev Knows : Vat Name
+      Knows = record s { known = s.known ++ begun Given h ∷ [] }
+
+      unknown : refs.entry_of K s.known Given ≡ None
+      unknown = not_among script v s.known Given (λ a. new (subst (λ ms. IsAmong Given ms) at.0 a))
+
+      fresh : IsFresh K h Knows Given (begun Given h)
+      unfolding begun
+      fresh = record {
+        found = new_entry K s.known (begun Given h) Given unknown ∙ alone_self script v Given h tt;
+        unsettled = refl;
+        held = refl;
+        waiting = refl;
+        reactions = refl;
+        hosted = refl;
+      }
+
+      came : R s Knows
+      unfolding host_of
+      came = come_stays s Given (λ o. o) Bar (new_here s Given at.1 at.2 (gift_is_new v r host msg h i))
+
+      abbrev Line0 : Vat Name
+      Line0 = Line Knows Given (codes "partition")
+
+      abbrev Broke0 : Vat Name
+      Broke0 = Broke K Knows Given (codes "partition")
+
+      abbrev Now : Known Name
+      Now = changed (Settle (Broken (codes "partition"))) (begun Given h)
+
+      only : StandsOtherwise K Line0 Broke0 Given (begun Given h) Now
+      unfolding begun
+      only = settles_alone script v Line0 Given (Broken (codes "partition")) (begun Given h) fresh.found tt refl
+
+      broken : Now.standing ≡ Settled (Broken (codes "partition"))
+      unfolding begun
+      broken = settled_now script v Line0 Given (Broken (codes "partition")) (begun Given h) fresh.found tt refl
+
+      gift_host : (j : ℕ) → Gift h i ≡ Gift v j → h ≡ v
+      unfolding host_of
+      gift_host j e = ap (λ n. host_of n) e
+
+      module _ (ready : Ready script honest w v s) where
+        lined : Ready script honest w v Line0 × Grown script honest w v Knows Line0
+        lined = quiet Knows Line0 refl refl refl refl refl refl refl refl refl (came ready).0
+
+        alone : IsAlone K Knows.known Given
+        unfolding host_of
+        alone = came_alone script honest v s Given ready.ends (λ o. o) unknown
+
+        severed : BreaksAsItsHost K Line0 Broke0 Given (codes "partition")
+        unfolding begun names naming spot_of
+        severed = record {
+          before = begun Given h;
+          after = Now;
+          only = only;
+          unsettled = refl;
+          noticed = ap (λ z. is_in h z) at.3 ∙ gone;
+          broken = broken;
+          plain = refl;
+          follows = ends_then script honest v Line0 Broke0 Given (codes "partition") only refl broken lined.0.ends (λ o. o) alone;
+        }
+
+        breaks_stays : Ready script honest w v Broke0 × Grown script honest w v s Broke0
+        breaks_stays =
+            let broke = severed_names_break_quietly script honest w v Line0 Broke0 Given (codes "partition") severed (λ j e. other (gift_host j e)) lined.0 in
+            (broke.0, grown_then script honest w v s Knows Broke0 (came ready).1 (grown_then script honest w v Knows Line0 Broke0 lined.1 broke.1))
+
+      broke_at : IsAt (ns ++ Given ∷ []) Broke0
+      unfolding host_of
+      broke_at = (
+        names_change K (Settle (Broken (codes "partition"))) Given Knows.known ∙ came_at s ns Given at,
+        at.1,
+        at.2,
+        at.3,
+        only.others Bar (λ e. (gift_is_new v r host msg h i).0 (sym e)) ∙ still_none s Given at.4 (gift_is_new v r host msg h i).0,
+      )
+
+      settled_then : and_then (refs.settle K Given (Broken (codes "partition")) Knows) (λ z. give (Ref Given)) ≡ Gives (Ref Given) Broke0
+      unfolding begun each give and_then
+      settled_then = ap (λ d. and_then d (λ z. give (Ref Given))) (settles_so K h Knows Given (codes "partition") fresh)
+
+      breaks_gift : (p : ℕ) → Yields (λ x t. Learns s (ns ++ Given ∷ []) t) (arrive.learn_gift K p h i s)
+      unfolding arrive.learn_gift arrive.ask_for give look come ◌>>=◌ ◌>>◌ and_then names naming name_of
+      breaks_gift p =
+          subst (λ c. Yields (λ x z. Learns s (ns ++ Given ∷ []) z) (and_then ((if c then refs.settle K Given (Broken (codes "partition")) else send_out h (Ask p i Given)) Knows) (λ z. give (Ref Given)))) (sym (ap (λ z. is_in h z) at.3 ∙ gone))
+          (subst (λ d. Yields (λ x z. Learns s (ns ++ Given ∷ []) z) d) (sym settled_then) (breaks_stays, broke_at))
+
+    abbrev IsNewGift : List Name → ℕ → ℕ → Type 0
+    IsNewGift ns h i = (is_in h r.noticed ≡ false) ⊎ ((h ≡ v → ⊥) × (IsAmong (Gift h i) ns → ⊥))
+
+    learn_gift : (s : Vat Name) (ns : List Name) (p h i : ℕ) → IsNewGift ns h i → IsAt ns s → Yields (λ x t. Learns s (ns ++ Gift h i ∷ []) t) (arrive.learn_gift K p h i s)
+    learn_gift s ns p h i (inl live) at = asks_gift s ns p h i live at
+    learn_gift s ns p h i (inr new) at = go (is_in h r.noticed) refl
+      where
+        go : (c : Bool) → is_in h r.noticed ≡ c → Yields (λ x t. Learns s (ns ++ Gift h i ∷ []) t) (arrive.learn_gift K p h i s)
+        go true e = breaks_gift s ns h i e new.0 new.1 at p
+        go false e = asks_gift s ns p h i e at
 
     yields_more : {A : Type 0} (s t : Vat Name) (ms : List Name) (d : Done Name A) → R s t → Yields (λ x u. Learns t ms u) d → Yields (λ x u. Learns s ms u) d
     yields_more s t ms (Gives a u) g h = learns_then s t ms u g h
@@ -179,7 +310,7 @@ module _ (script : Script) (honest : ℕ → Bool) (w : World) (v : ℕ) where
     mutual
       unfolding world.read_passed world.read_all world.plain_read world.many_read world.more_read arrive.learn arrive.learn_all give ◌>>=◌
 
-      learn_passed : (s : Vat Name) (ns : List Name) (p : ℕ) (y : Passed Name) → PassedNotNext v r Bar y → IsAt ns s → Yields (λ x t. Learns s (world.read_passed y ns).known t) (arrive.learn K p (world.read_passed y ns).read s)
+      learn_passed : (s : Vat Name) (ns : List Name) (p : ℕ) (y : Passed Name) → PassedNotNext v r Bar ns y → IsAt ns s → Yields (λ x t. Learns s (world.read_passed y ns).known t) (arrive.learn K p (world.read_passed y ns).read s)
       learn_passed s ns p (Plain y) new at = learn_value s ns y new at
       learn_passed s ns p (AGift h i) new at = learn_gift s ns p h i new at
       learn_passed s ns p (Many ys) new at =
@@ -187,7 +318,7 @@ module _ (script : Script) (honest : ℕ → Bool) (w : World) (v : ℕ) where
           yields_bind (λ x t. Learns s ms t) (λ x t. Learns s ms t) (arrive.learn_all K p (world.read_all ys ns).read s) (arrive.make_list K) (learn_all s ns p ys new at)
           (λ xs t h. yields_more s t ms (arrive.make_list K xs t) h.0 (learn_list t ms xs h.1))
 
-      pub learn_all : (s : Vat Name) (ns : List Name) (p : ℕ) (ys : Passeds Name) → AllNotNext v r Bar ys → IsAt ns s → Yields (λ x t. Learns s (world.read_all ys ns).known t) (arrive.learn_all K p (world.read_all ys ns).read s)
+      pub learn_all : (s : Vat Name) (ns : List Name) (p : ℕ) (ys : Passeds Name) → AllNotNext v r Bar ns ys → IsAt ns s → Yields (λ x t. Learns s (world.read_all ys ns).known t) (arrive.learn_all K p (world.read_all ys ns).read s)
       learn_all s ns p NoMore new at = (stays_self script honest w v s, at)
       learn_all s ns p (More y ys) new at =
           let ms = (world.read_passed y ns).known in

@@ -1,6 +1,8 @@
 pub mod Learning
-pub mod Moved
 pub mod Arriving
-pub mod Sending
+pub mod Breaking
 pub mod Carried
+pub mod Informing
+pub mod Moved
+pub mod Sending
 pub mod Whole

@@ -7,13 +7,15 @@ use Rattle.law_order.specs.Changes as changes
 use Rattle.law_order.specs.Changes.{Beheads, stays, nearer, Loses, nowhere_still, free_still, end_still, mid_still, mid_nearer, GoesOn, IsLost}
 use Rattle.law_order.specs.Leavings.{FirstLeft}
 use Rattle.law_order.specs.Messages.{More, StaysBehind, LacksAt}
-use Rattle.law_order.proofs.Changes.{going_on_keeps, losing_keeps}
+use Rattle.law_order.proofs.Changes.{self, Never, never, Slides, slide_self, slid, going_on_keeps, losing_keeps}
+use Rattle.law_order.proofs.Kept.{Turns, same_mid, turning, Change, kept}
 use Rattle.law_order.proofs.Lanes.{Same, same_lane}
 use Rattle.law_order.proofs.Messages.{behind_then}
 use Rattle.law_order.proofs.Named.{same_is, same_self}
 use Rattle.law_order.proofs.Standing.{more_then}
 use Rattle.law_order_cuts.specs.Cuts.{IsShutOff}
 use Rattle.law_order_cuts.proofs.Shut.{shutting_keeps}
+use Rattle.law_order_carries.specs.Carries.{StaysBehindBut}
 
 pub last_in : (js : List Item) (i : Item) → IsIn i (js ++ i ∷ [])
 last_in [] i = inl refl
@@ -50,6 +52,12 @@ pub record Leaves (w u : Ways) (k : Lane) (i : Item) : Type 0 where
 pub record Carries (w u : Ways) (f g : Leading) (k : Lane) (i : Item) : Type 0 where
   pub references : (z : ℕ) (x : Value Name) → StaysBehind w u (f z x) (g z x)
   pub places : (l : Lane) (c d : List Item) (n : Name) → Beheads k i (Mid l c n) (Mid l d n) → LacksAt i.mail (Mid l d n) → StaysBehind w u (Mid l c n) (Mid l d n)
+  pub left : FirstLeft w u k i
+
+-- the same behind all messages but that one
+pub record CarriesBut (w u : Ways) (f g : Leading) (k : Lane) (i : Item) : Type 0 where
+  pub references : (z : ℕ) (x : Value Name) → StaysBehindBut i.mail w u (f z x) (g z x)
+  pub places : (l : Lane) (c d : List Item) (n : Name) → Beheads k i (Mid l c n) (Mid l d n) → StaysBehindBut i.mail w u (Mid l c n) (Mid l d n)
   pub left : FirstLeft w u k i
 
 -- ---- the lists
@@ -96,6 +104,27 @@ pub carries_then : (w u z : Ways) (f g h : Leading) (k : Lane) (i : Item) → Ca
 carries_then w u z f g h k i a b = record {
   references = λ n x. behind_then w u z (f n x) (g n x) (h n x) (a.references n x) (b.references n x);
   places = λ l c d n s q. behind_then w u z (Mid l c n) (Mid l d n) (Mid l d n) (a.places l c d n s q) (b.places l d n);
+  left = left_then w u z k i a.left b.more;
+}
+
+module _ (m : Name) (w u z : Ways) (c d e : Place) where
+  behind_but : StaysBehind w u c d → StaysBehindBut m u z d e → StaysBehindBut m w z c e
+  behind_but g h = (λ i. h.0 (g.0 i), λ x f i. h.1 x f (g.1 x i))
+
+  but_behind : StaysBehindBut m w u c d → StaysBehind u z d e → StaysBehindBut m w z c e
+  but_behind g h = (λ i. h.0 (g.0 i), λ x f i. h.1 x (g.1 x f i))
+
+pub firm_but : (w u z : Ways) (f g h : Leading) (k : Lane) (i : Item) (rest : List Item) → w.stands k ≡ i ∷ rest → Firm w u f g → CarriesBut u z g h k i → CarriesBut w z f h k i
+firm_but w u z f g h k i rest e a b = record {
+  references = λ n x. behind_but i.mail w u z (f n x) (g n x) (h n x) (a.references n x) (b.references n x);
+  places = λ l c d n s. behind_but i.mail w u z (Mid l c n) (Mid l c n) (Mid l d n) (a.places l c n) (b.places l c d n s);
+  left = first_then w u z k i rest e a.more b.left;
+}
+
+pub but_then : (w u z : Ways) (f g h : Leading) (k : Lane) (i : Item) → CarriesBut w u f g k i → Firm u z g h → CarriesBut w z f h k i
+but_then w u z f g h k i a b = record {
+  references = λ n x. but_behind i.mail w u z (f n x) (g n x) (h n x) (a.references n x) (b.references n x);
+  places = λ l c d n s. but_behind i.mail w u z (Mid l c n) (Mid l d n) (Mid l d n) (a.places l c d n s) (b.places l d n);
   left = left_then w u z k i a.left b.more;
 }
 
@@ -174,3 +203,43 @@ module _ (w u : Ways) (a b : ℕ) (i : Item) (l : Lane) (n : Name) (g : changes.
 
   pub shut_leaves : FirstLeft w u (Way a b) i → Leaves w u (Way a b) i
   shut_leaves f = record { behind = λ c d h q. behind_then w Between u c d d (going_on_keeps w Between (Way a b) l i n went_between tt c d h) (shutting_keeps Between u shut_then d); left = f }
+
+-- Wherever it goes, all others keep what is behind them.
+module _ (w u : Ways) (k : Lane) (i : Item) (g : changes.Leaves w u k i) (lanes : (l : Lane) (o : Name) → Beheads k i (w.onward l o) (u.onward l o)) where
+  module _ (x : Name) (other : x ≡ i.mail → ⊥) where
+    abbrev At : Name → Item
+    At m = record { mail = x; aim = m }
+
+    not_it : (m : Name) → At m ≡ i → ⊥
+    not_it m e = other (ap (λ (j : Item). j.mail) e)
+
+    still : (l : Lane) (m : Name) → IsIn (At m) (u.stands l) ⊎ ((l ≡ k) × (At m ≡ i)) → (Unit {0} × IsIn (At m) (u.stands l)) ⊎ Never l m
+    still l m (inl j) = inl (tt, j)
+    still l m (inr e) = absurd (not_it m e.1)
+
+    near : (b : List Item) (m : Name) → (At m ≡ i) ⊎ IsIn (At m) b → (Unit {0} × IsIn (At m) b) ⊎ Never k m
+    near b m (inl e) = absurd (not_it m e)
+    near b m (inr j) = inl (tt, j)
+
+    turns : (c d : Place) → Beheads k i c d → Turns w u x (Unit {0}) Never c d
+    turns c d stays = self w u x Never c
+    turns c d (nearer {b = b}) = same_mid (λ m j. near b m j)
+
+    change : Change w u x (Unit {0}) Never (λ c. c)
+    change = record {
+      standing = λ l m j. still l m (g.stands l (At m) j);
+      lanes = λ l n. turns (w.onward l n) (u.onward l n) (lanes l n);
+      links = λ a b. inl (λ n. g.links a b n);
+      places = λ c. turning (self w u x Never c);
+      ends = λ l. inl (λ n. refl);
+    }
+
+    ahead_still : (c d : Place) → Beheads k i c d → Ahead w x c → Ahead u x d
+    ahead_still c d b h = kept w u x (Unit {0}) Never (λ q. q) change (Ahead u x) (never w u x) c h d (turns c d b)
+
+  slides : (c d : Place) → Beheads k i c d → Slides w u c d
+  slides c d stays = slide_self w u c
+  slides c d nearer = same_mid (λ m j. inr tt)
+
+  pub others_keep : (c d : Place) → Beheads k i c d → StaysBehindBut i.mail w u c d
+  others_keep c d b = (λ h. slid w u (λ l n. slides (w.onward l n) (u.onward l n) (lanes l n)) g.links c d (slides c d b) h, λ x f h. ahead_still x f c d b h)

@@ -2,7 +2,7 @@
 use Rattle.std.proofs.Common.{◌≡◌, ℕ, zero, suc, ◌-◌, Bool, true, false, List, [], ◌∷◌, ◌++◌, Option, Some, None, length, refl, sym, ap, subst, ◌∙◌, ◌⊎◌, inl, inr, ◌≤◌, arith}
 use Rattle.std.specs.Prelude.{slice_get}
 use Rattle.def_machine.specs.Values.{Words, Value, Prim, Broken, Ref, Name, Root, Promise, Answer, Sent, Msg, Naming, key, IsAnswer, naming, name_of, answer_of, host_of}
-use Rattle.def_machine.specs.State.{Message, Standing, Unsettled, Known, Change, Hold, Wait, WaitOn, Waits, ToTell, begun, come, Passed, Passeds, AGift, Delivery, Note, Deliver, Open, Put, Happened, Lost, Posted, Vat, Done, Gives, Throws, Ejects, Stops, Act, ◌>>=◌, ◌>>◌, and_then, give, look, tell, send_out, enqueue, alter, draw, draws, drawn_at, for_some}
+use Rattle.def_machine.specs.State.{Message, Standing, Unsettled, Known, Change, Hold, Wait, WaitOn, Waits, ToTell, begun, come, Passed, Passeds, AGift, Delivery, Note, Deliver, Open, Put, Happened, Lost, Posted, Settles, Vat, Done, Gives, Throws, Ejects, Stops, Act, ◌>>=◌, ◌>>◌, and_then, give, look, tell, send_out, enqueue, alter, draw, draws, drawn_at, each, for_some}
 use Rattle.def_machine.specs.State as state
 use Rattle.def_machine.specs.Refs as refs
 use Rattle.def_machine.specs.Refs.{Near, Mine, Away, Gone, Settler}
@@ -12,12 +12,12 @@ use Rattle.law_machine.specs.Steps.{After}
 use Rattle.law_name.specs.Names.{IsAmong}
 use Rattle.law_name.proofs.Among.{among_more, among_last}
 use Rattle.law_order.specs.Ways.{Lane, Queue, Held, Way, Item, Place, Nowhere, Free, End, Mid, Ways, IsIn, IsOneWay}
-use Rattle.law_order.specs.Changes.{Grows, GoesOn}
+use Rattle.law_order.specs.Changes.{stays, Grows, GoesOn}
 use Rattle.law_order.specs.Leavings.{FirstLeft}
 use Rattle.law_order.specs.Comings.{MovesLast}
 use Rattle.law_order.specs.Messages.{StandsAt, IsNowhere, LacksAt, StaysBehind}
 use Rattle.law_order.specs.Places.{item, is_honest, over, aimed, leads_in, leads_at, leads, released_at, released, unsettled, onward_at, ways_of, ways, amid}
-use Rattle.law_order.specs.Worlds.{IfGives, IsWaiting, AddsOnly, RefersAlike}
+use Rattle.law_order.specs.Worlds.{IfGives, IsWaiting, LetsNothingGo, AddsOnly, RefersAlike}
 use Rattle.law_order.specs.Steps.{Ready, Grown, StaysReady}
 use Rattle.law_order.specs.Settlings.{with_line, IsLoose}
 use Rattle.law_order.specs.Arrivals.{keeping, IsOpenWay, IsLearnt, IsHere, GoesTo}
@@ -30,21 +30,35 @@ use Rattle.law_order.proofs.Leavings.{carried_is_first, carried_are_put_last}
 use Rattle.law_order.proofs.Messages.{gone_on_is_behind, behind_then}
 use Rattle.law_order.proofs.Moves.{Keeps, IsKept}
 use Rattle.law_order.proofs.News.{stays_then, opened}
-use Rattle.law_order.proofs.Passings.{keeps_pass_all}
+use Rattle.law_order.proofs.Passings.{keeps_pass, keeps_pass_all}
 use Rattle.law_order.proofs.Sends.{get_put, found_ends}
 use Rattle.law_order.proofs.Sent.{leads_there, mine_waits}
 use Rattle.law_order.proofs.Standing.{stands_more}
 use Rattle.law_order.proofs.Coming.{old_entry}
 use Rattle.law_order.proofs.Waiting.{waits_grown}
+use Rattle.law_order_views.proofs.Severed.{IsAlone}
+use Rattle.law_order_carries.proofs.Breaking.{IsFresh, Broke, settles_so, breaks}
+use Rattle.law_order_carries.proofs.Informing.{informs_each}
 use Rattle.law_order_carries.proofs.Learning.{come_stays}
-use Rattle.law_order_carries.specs.Carries.{IsNoName, IsNotNext, IsHonestWay}
-use Rattle.law_order_carries.proofs.Moved.{last_in, Leading, Firm, Carries, leaves_carries, firm_carries, carries_then, goes_on_leaves, lost_leaves, shut_leaves}
+use Rattle.law_order_carries.specs.Carries.{IsNoName, IsNotNext, StaysBehindBut}
+use Rattle.law_order_carries.proofs.Moved.{last_in, Leading, Firm, firm_then, Carries, CarriesBut, firm_but, but_then, others_keep, leaves_carries, firm_carries, carries_then, goes_on_leaves, lost_leaves, shut_leaves}
 use Rattle.law_order_carries.proofs.Arriving.{name_or, end_nowhere, near_end, aimed_back, away_other, refers_then, some_alike}
 
 given : (P : Vat Name → Type 0) (d : Done Name (Unit {0})) (t : Vat Name) → d ≡ Gives tt t → IfGives P d → P t
 given P d t e h = subst (IfGives P) e h
 
--- a link between honest vats that is cut leads nowhere, whatever the vat puts
+-- what happened by s happened by t
+abbrev Remembers : Vat Name → Vat Name → Type 0
+Remembers s t = (e : Happened Name) → IsAmong e s.happened → IsAmong e t.happened
+
+-- A link is there and has honest ends, cut or not.
+record IsHonestWay (honest : ℕ → Bool) (a b : ℕ) (w : World) : Type 0 where
+  pub link : Link
+  pub found : world.link_at a b w.links ≡ Some link
+  pub sender : honest a ≡ true
+  pub receiver : honest b ≡ true
+
+-- such a link that is cut leads nowhere, whatever the vat puts
 module _ (script : Script) (honest : ℕ → Bool) (w : World) (b h : ℕ) (on : IsHonestWay honest b h w) (cut : on.link.cut ≡ true) where
   shut_over : (vs : List (Vat Name)) (ls : List Link) (o : Name) (l : Link) → is_honest script honest l ≡ true → l.cut ≡ true → over script honest vs ls h o l ≡ Nowhere
   unfolding over
@@ -127,8 +141,15 @@ module _ (script : Script) (honest : ℕ → Bool) (w : World) (a b : ℕ) (r : 
   abbrev pub Comes : Vat Name → Vat Name → Type 0
   Comes s u = (l : Lane) × (c : List Item) × (o : Name) × StandsAt (Y u) d.message l c o × StaysBehind (W s) (Y u) (Mid From [] n) (Mid l c o)
 
+  -- it went on to a vat that is not honest
+  abbrev pub GoesFar : Vat Name → Type 0
+  GoesFar s = (h : ℕ) × (q : Name) × (L s b (Ref n) ≡ End (Way b h) q) × (honest h ≡ false)
+
+  abbrev pub Others : Vat Name → Vat Name → Type 0
+  Others s u = CarriesBut (W s) (Y u) (L s) (L u) From I
+
   abbrev pub Ends : Vat Name → Vat Name → Type 0
-  Ends s u = (Moves s u × Comes s u) ⊎ (IsOut u × (IsNowhere (Y u) d.message → Moves s u))
+  Ends s u = (Moves s u × Comes s u) ⊎ ((IsOut u × (IsNowhere (Y u) d.message → Moves s u)) ⊎ (GoesFar s × Others s u))
 
   first_left : (s t : Vat Name) → AddsOnly K s t → FirstLeft (W s) (Y t) From I
   first_left s t g = carried_is_first script honest w a b s t d n verb ys way g
@@ -143,43 +164,45 @@ module _ (script : Script) (honest : ℕ → Bool) (w : World) (a b : ℕ) (r : 
   lacks : (s : Vat Name) (z : ℕ) (x : Value Name) → LacksAt d.message (L s z x)
   lacks s z x = at_lacks d.message script honest z (slice_get (world.put_at b s w.vats) z) x
 
-  pub ends_before : (s t u : Vat Name) → Firm (W s) (W t) (L s) (L t) → Ends t u → Ends s u
-  ends_before s t u f (inl h) = let q = stands_first s in let c = h.1 in
+  pub ends_before : (s t u : Vat Name) → Grown script honest Full b s t → Ends t u → Ends s u
+  ends_before s t u g (inl h) = let f = firm_full s t g in let q = stands_first s in let c = h.1 in
       inl (firm_carries (W s) (W t) (Y u) (L s) (L t) (L u) From I q.0 q.1 f h.0, (c.0, c.1, c.2, c.3, behind_then (W s) (W t) (Y u) (Mid From [] n) (Mid From [] n) (Mid c.0 c.1 c.2) (f.places From [] n) c.4))
-  ends_before s t u f (inr h) = let q = stands_first s in inr (h.0, λ i. firm_carries (W s) (W t) (Y u) (L s) (L t) (L u) From I q.0 q.1 f (h.1 i))
+  ends_before s t u g (inr (inl h)) = let f = firm_full s t g in let q = stands_first s in inr (inl (h.0, λ i. firm_carries (W s) (W t) (Y u) (L s) (L t) (L u) From I q.0 q.1 f (h.1 i)))
+  ends_before s t u g (inr (inr h)) = let f = firm_full s t g in let q = stands_first s in let c = h.0 in
+      inr (inr ((c.0, c.1, sym (grown_leads s t g b (Ref n)) ∙ c.2, c.3), firm_but (W s) (W t) (Y u) (L s) (L t) (L u) From I q.0 q.1 f h.1))
 
   ends_by : (s t : Vat Name) (c : Place) → GoesTo (W s) (Y t) From I c → MovesLast (W s) (Y t) From I c → FirstLeft (W s) (Y t) From I → ((z : ℕ) (x : Value Name) → L t z x ≡ L s z x) → (c ≡ Nowhere → IsOut t) → Ends s t
   ends_by s t (End l o) g m f same out = inl (leaves_carries (W s) (Y t) (L s) (L t) From I (goes_on_leaves (W s) (Y t) a b l I o g f) same (lacks s), (l, (W s).stands l, o, record { behind = []; found = m.0 }, m.1))
-  ends_by s t Nowhere g m f same out = inr (out refl, λ h. leaves_carries (W s) (Y t) (L s) (L t) From I (lost_leaves (W s) (Y t) a b I (g h) f) same (lacks s))
+  ends_by s t Nowhere g m f same out = inr (inl (out refl, λ h. leaves_carries (W s) (Y t) (L s) (L t) From I (lost_leaves (W s) (Y t) a b I (g h) f) same (lacks s)))
   ends_by s t Free g m f same out = absurd g
   ends_by s t (Mid l c o) g m f same out = absurd g
 
   -- ---- passing
 
-  -- the vat stays ready, and refers alike
+  -- the vat stays ready, refers alike, and takes back no line of what happened
   abbrev Passes : Vat Name → Vat Name → Type 0
-  Passes s t = StaysReady script honest Full b s t × RefersAlike K s t
+  Passes s t = StaysReady script honest Full b s t × RefersAlike K s t × Remembers s t
 
-  passes_quiet : (s t : Vat Name) → t.known ≡ s.known → t.number ≡ s.number → t.gifts ≡ s.gifts → t.noticed ≡ s.noticed → t.queue ≡ s.queue → t.outbox ≡ s.outbox → t.messages ≡ s.messages → t.promises ≡ s.promises → t.drawn ≡ s.drawn → Passes s t
-  passes_quiet s t p q x z f g i j k = (stays_quiet script honest Full b s t (adds_nothing K s t p q x z f g, i, j, k), alike_same K s t p q x z)
+  passes_quiet : (s t : Vat Name) → t.known ≡ s.known → t.number ≡ s.number → t.gifts ≡ s.gifts → t.noticed ≡ s.noticed → t.queue ≡ s.queue → t.outbox ≡ s.outbox → t.messages ≡ s.messages → t.promises ≡ s.promises → t.drawn ≡ s.drawn → Remembers s t → Passes s t
+  passes_quiet s t p q x z f g i j k h = (stays_quiet script honest Full b s t (adds_nothing K s t p q x z f g, i, j, k), alike_same K s t p q x z, h)
 
   passes : IsKept Passes
   passes = record {
-    same = λ s. passes_quiet s s refl refl refl refl refl refl refl refl refl;
-    trans = λ {s} {t} {u} f g. (stays_then script honest Full b {s = s} {t = t} {u = u} f.0 g.0, refers_then K s t u f.1 g.1);
-    fuel = λ s k. passes_quiet s (record s { fuel = s.fuel - k }) refl refl refl refl refl refl refl refl refl;
-    happened = λ s e. passes_quiet s (record s { happened = s.happened ++ e ∷ [] }) refl refl refl refl refl refl refl refl refl;
-    activations = λ s. passes_quiet s (record s { activations = suc s.activations }) refl refl refl refl refl refl refl refl refl;
-    thing = λ s t. passes_quiet s (record s { things = s.things ++ t ∷ [] }) refl refl refl refl refl refl refl refl refl;
-    killed = λ s k. passes_quiet s (record s { things = state.change state.dead k s.things }) refl refl refl refl refl refl refl refl refl;
-    slot = λ s c. passes_quiet s (record s { slots = s.slots ++ c ∷ [] }) refl refl refl refl refl refl refl refl refl;
-    written = λ s k x. passes_quiet s (record s { slots = state.change (state.holding x) k s.slots }) refl refl refl refl refl refl refl refl refl;
-    list = λ s xs. passes_quiet s (record s { lists = s.lists ++ xs ∷ [] }) refl refl refl refl refl refl refl refl refl;
+    same = λ s. passes_quiet s s refl refl refl refl refl refl refl refl refl (λ e h. h);
+    trans = λ {s} {t} {u} f g. (stays_then script honest Full b {s = s} {t = t} {u = u} f.0 g.0, refers_then K s t u f.1 g.1, λ e h. g.2 e (f.2 e h));
+    fuel = λ s k. passes_quiet s (record s { fuel = s.fuel - k }) refl refl refl refl refl refl refl refl refl (λ e h. h);
+    happened = λ s e. passes_quiet s (record s { happened = s.happened ++ e ∷ [] }) refl refl refl refl refl refl refl refl refl (λ x h. among_more x s.happened e h);
+    activations = λ s. passes_quiet s (record s { activations = suc s.activations }) refl refl refl refl refl refl refl refl refl (λ e h. h);
+    thing = λ s t. passes_quiet s (record s { things = s.things ++ t ∷ [] }) refl refl refl refl refl refl refl refl refl (λ e h. h);
+    killed = λ s k. passes_quiet s (record s { things = state.change state.dead k s.things }) refl refl refl refl refl refl refl refl refl (λ e h. h);
+    slot = λ s c. passes_quiet s (record s { slots = s.slots ++ c ∷ [] }) refl refl refl refl refl refl refl refl refl (λ e h. h);
+    written = λ s k x. passes_quiet s (record s { slots = state.change (state.holding x) k s.slots }) refl refl refl refl refl refl refl refl refl (λ e h. h);
+    list = λ s xs. passes_quiet s (record s { lists = s.lists ++ xs ∷ [] }) refl refl refl refl refl refl refl refl refl (λ e h. h);
   }
 
   passes_told : (h : ℕ) (o : Name) → Keeps Passes (alter K (ToTell h) o)
   unfolding alter
-  passes_told h o = record { after = λ s. let t : Vat Name = record s { known = state.with_change K (ToTell h) o s.known } in let g = change_adds K (ToTell h) o tt s in (stays_quiet script honest Full b s t (g, refl, refl, refl), g.alike) }
+  passes_told h o = record { after = λ s. let t : Vat Name = record s { known = state.with_change K (ToTell h) o s.known } in let g = change_adds K (ToTell h) o tt s in (stays_quiet script honest Full b s t (g, refl, refl, refl), g.alike, λ e h. h) }
 
   passes_gift : (h : ℕ) (o : Name) → Keeps {N = Name} {A = Passed Name} Passes (draw K >>= (λ i. send_out h (Open i o) >> give (AGift h i)))
   unfolding draw ◌>>=◌ ◌>>◌ and_then send_out give draws
@@ -187,7 +210,15 @@ module _ (script : Script) (honest : ℕ → Bool) (w : World) (a b : ℕ) (r : 
     where
       go : (s : Vat Name) (k : Option ℕ) → drawn_at zero (K.word (length s.drawn)) s.drawn ≡ k → After {N = Name} {A = Passed Name} Passes s (and_then (draws (K.word (length s.drawn)) k s) (λ i. send_out h (Open i o) >> give (AGift h i)))
       go s (Some i) e = passes.same s
-      go s None e = let c = K.word (length s.drawn) in (opened script honest Full b h c o s e, alike_same K s (record s { drawn = s.drawn ++ c ∷ []; outbox = s.outbox ++ record { to = h; note = Open (key s.number c) o } ∷ [] }) refl refl refl refl)
+      go s None e = let c = K.word (length s.drawn) in (opened script honest Full b h c o s e, alike_same K s (record s { drawn = s.drawn ++ c ∷ []; outbox = s.outbox ++ record { to = h; note = Open (key s.number c) o } ∷ [] }) refl refl refl refl, λ x h. h)
+
+  passes_note : (h : ℕ) (o : Note Name) → LetsNothingGo o → Keeps {N = Name} {A = Unit {0}} Passes (send_out h o)
+  unfolding send_out
+  passes_note h o i = record { after = λ s. let p : Put Name = record { to = h; note = o } in let t : Vat Name = record s { outbox = s.outbox ++ p ∷ [] } in let g = adds_note K s p i in (stays_quiet script honest Full b s t (g, refl, refl, refl), g.alike, λ e h. h) }
+
+  -- vats are told what a name settled to
+  passes_informs : (o : Name) (hs : List ℕ) → Keeps Passes (each (refs.inform K o) hs)
+  passes_informs o hs = informs_each K Passes passes (λ h x. keeps_pass K Passes passes passes_told passes_gift h x) passes_note o hs
 
   passes_all : (h : ℕ) (xs : List (Value Name)) → Keeps Passes (refs.pass_all K h xs)
   passes_all h xs = keeps_pass_all K Passes passes passes_told passes_gift h xs
@@ -207,6 +238,10 @@ module _ (script : Script) (honest : ℕ → Bool) (w : World) (a b : ℕ) (r : 
   learnt_on s t g (inr h) = let k = some_alike n (refs.entry_of K s.known n) (refs.entry_of K t.known n) h.0 (g.entries n) h.1 in inr (k.0, k.1)
 
   -- ---- the message is put on
+
+  -- that link from this vat is there
+  abbrev pub IsLinked : ℕ → Type 0
+  IsLinked h = (l : Link) × (world.link_at b h w.links ≡ Some l)
 
   module _ (h : ℕ) (q : Name) (x : Message Name) (id : x.id ≡ d.message) where
     -- it stands last on the next link, or that is cut; and the vat refers alike
@@ -270,17 +305,35 @@ module _ (script : Script) (honest : ℕ → Bool) (w : World) (a b : ℕ) (r : 
         put_shut : Ends s T
         put_shut =
             let g = left_for script honest w a b r s Old d.asks d.answer n verb ys there way T (Way b h) q (outbox_refers K s (s.outbox ++ P ∷ [])) (λ i j. j) (P ∷ []) refl (tt, tt) (leads_own s ∙ lead) in
-            inr (posted_cut h put_ends posted, λ i. leaves_carries (W s) (Y T) (L s) (L T) From I (shut_leaves (W s) (Y T) a b I (Way b h) q g.0 (λ l o. g.1 l o) g.2 shut first_gone) same_leads (lacks s))
+            inr (inl (posted_cut h put_ends posted, λ i. leaves_carries (W s) (Y T) (L s) (L T) From I (shut_leaves (W s) (Y T) a b I (Way b h) q g.0 (λ l o. g.1 l o) g.2 shut first_gone) same_leads (lacks s)))
+
+      -- it goes to a vat that is not honest
+      put_away : honest h ≡ false → Ends s T
+      put_away e =
+          let g = left_for script honest w a b r s Old d.asks d.answer n verb ys there way T (Way b h) q (outbox_refers K s (s.outbox ++ P ∷ [])) (λ i j. j) (P ∷ []) refl (tt, tt) (leads_own s ∙ lead) in
+          let keep = others_keep (W s) (Y T) From I g.0 (λ l o. g.1 l o) in
+          inr (inr (
+            (h, q, lead, e),
+            record {
+              references = λ z y. subst (λ c. StaysBehindBut d.message (W s) (Y T) (L s z y) c) (sym (same_leads z y)) (keep (L s z y) (L s z y) stays);
+              places = λ l c o m i. keep (Mid l c m) (Mid l o m) i;
+              left = first_gone;
+            },
+          ))
 
       put_by : (on : IsHonestWay honest b h w) (c : Bool) → on.link.cut ≡ c → IsAmong (Posted h d.message) s.happened → Ends s T
       put_by on true e i = put_shut on e i
       put_by on false e i = put_open (record { link = on.link; found = on.found; uncut = e; sender = on.sender; receiver = on.receiver })
 
-      pub puts_out : IsHonestWay honest b h w → IsAmong (Posted h d.message) s.happened → GoesOut s T
-      puts_out on i = (put_by on on.link.cut refl i, outbox_refers K s (s.outbox ++ P ∷ []))
+      put_so : IsLinked h → (c : Bool) → honest h ≡ c → IsAmong (Posted h d.message) s.happened → Ends s T
+      put_so on false e i = put_away e
+      put_so on true e i = put_by (record { link = on.0; found = on.1; sender = way.receiver; receiver = e }) on.0.cut refl i
+
+      pub puts_out : IsLinked h → IsAmong (Posted h d.message) s.happened → GoesOut s T
+      puts_out on i = (put_so on (honest h) refl i, outbox_refers K s (s.outbox ++ P ∷ []))
 
     -- with its arguments
-    pub delivers : IsHonestWay honest b h w → (s : Vat Name) → Ready script honest Full b s → IsLearnt b script s n → L s b (Ref n) ≡ End (Way b h) q → IfGives (GoesOut s) (refs.deliver K x h q s)
+    pub delivers : IsLinked h → (s : Vat Name) → Ready script honest Full b s → IsLearnt b script s n → L s b (Ref n) ≡ End (Way b h) q → IfGives (GoesOut s) (refs.deliver K x h q s)
     unfolding refs.deliver ◌>>=◌ ◌>>◌ and_then tell send_out
     delivers on s ready known lead = go (refs.pass_all K h x.args s) ((passes_all h x.args).after s)
       where
@@ -295,7 +348,7 @@ module _ (script : Script) (honest : ℕ → Bool) (w : World) (a b : ℕ) (r : 
             let line : IsAmong (Posted h d.message) u.happened = subst (λ i. IsAmong (Posted h i) u.happened) id (among_last t.happened (Posted h x.id)) in
             let out = puts_out u both.0 (learnt_on s u g.1 known) (grown_leads s u both.1 b (Ref n) ∙ lead) zs on line in
             let v : Vat Name = record u { outbox = u.outbox ++ record { to = h; note = Deliver (refs.delivery_of K x) q x.verb zs } ∷ [] } in
-            (ends_before s u v (firm_full s u both.1) out.0, refers_then K s u v g.1 out.1)
+            (ends_before s u v both.1 out.0, refers_then K s u v g.1 out.1)
 
   -- ---- its answer waits
 
@@ -321,7 +374,8 @@ module _ (script : Script) (honest : ℕ → Bool) (w : World) (a b : ℕ) (r : 
 
   ends_after : (s t u : Vat Name) → Grown script honest w b t u → (IsOut t → IsOut u) → Ends s t → Ends s u
   ends_after s t u g o (inl h) = let f = firm_bare t u g in inl (carries_then (W s) (Y t) (Y u) (L s) (L t) (L u) From I h.0 f, comes_then s t u f h.1)
-  ends_after s t u g o (inr h) = let f = firm_bare t u g in inr (o h.0, λ i. carries_then (W s) (Y t) (Y u) (L s) (L t) (L u) From I (h.1 (nowhere_before (Y t) (Y u) g.grows d.message i)) f)
+  ends_after s t u g o (inr (inl h)) = let f = firm_bare t u g in inr (inl (o h.0, λ i. carries_then (W s) (Y t) (Y u) (L s) (L t) (L u) From I (h.1 (nowhere_before (Y t) (Y u) g.grows d.message i)) f))
+  ends_after s t u g o (inr (inr h)) = inr (inr (h.0, but_then (W s) (Y t) (Y u) (L s) (L t) (L u) From I h.1 (firm_bare t u g)))
 
   out_still : (t u : Vat Name) (e : Happened Name) → u.queue ≡ t.queue → u.happened ≡ t.happened ++ e ∷ [] → IsOut t → IsOut u
   out_still t u e i j (came_on_data q x f g k) = came_on_data q x (i ∙ f) g k
@@ -337,7 +391,7 @@ module _ (script : Script) (honest : ℕ → Bool) (w : World) (a b : ℕ) (r : 
       ends_after s t u (waits_grown script honest w b t p z k e i (loose_answer t g m k e i)) (out_still t u (Waits p z) refl refl) h
 
   pub ends_map : (s t : Vat Name) (e : Done Name (Unit {0})) → Grown script honest Full b s t → IfGives (Ends t) e → IfGives (Ends s) e
-  ends_map s t (Gives x u) g h = ends_before s t u (firm_full s t g) h
+  ends_map s t (Gives x u) g h = ends_before s t u g h
   ends_map s t (Throws p u) g h = tt
   ends_map s t (Ejects i y u) g h = tt
   ends_map s t (Stops c u) g h = tt
@@ -355,6 +409,10 @@ module _ (script : Script) (honest : ℕ → Bool) (w : World) (a b : ℕ) (r : 
     -- its answer here is unsettled
     abbrev pub IsAsked : Vat Name → Type 0
     IsAsked s = (k : Known Name) × (refs.entry_of K s.known Own ≡ Some k) × (k.standing ≡ Unsettled)
+
+    -- it holds nothing, nothing waits for it, and nothing else is followed to it
+    abbrev pub IsLone : Vat Name → Type 0
+    IsLone s = (k : Known Name) × IsFresh K b s Own k × IsAlone K s.known Own
 
     answer_root : (h : ℕ) → Answer h msg ≡ Root 0 → ⊥
     answer_root h e = cc
@@ -378,7 +436,7 @@ module _ (script : Script) (honest : ℕ → Bool) (w : World) (a b : ℕ) (r : 
     pub entry_on : (s t : Vat Name) → RefersAlike K s t → IsAsked s → IsAsked t
     entry_on s t g h = let k = some_alike Own (refs.entry_of K s.known Own) (refs.entry_of K t.known Own) h.0 (g.entries Own) h.1 in (k.0, k.1, k.2 ∙ h.2)
 
-    module _ (h : ℕ) (q : Name) (on : IsHonestWay honest b h w) (x : Message Name) (id : x.id ≡ d.message) where
+    module _ (h : ℕ) (q : Name) (on : IsLinked h) (x : Message Name) (id : x.id ≡ d.message) where
       -- once its next answer is known
       waits_on_next : (s : Vat Name) → Ready script honest Full b s → IsLearnt b script s n → IsAsked s → L s b (Ref n) ≡ End (Way b h) q → (z : Name)
           → IfGives (Ends s) (and_then (refs.deliver K (record x { answer = Some z }) h q s) (λ _. refs.wait_on K Own z))
@@ -426,8 +484,8 @@ module _ (script : Script) (honest : ℕ → Bool) (w : World) (a b : ℕ) (r : 
 
     -- ---- it is sent on
 
-    module _ (s : Vat Name) (ready : Ready script honest Full b s) (before : IsBefore s) (known : IsLearnt b script s n) (args : List (Value Name)) (answer : Option Name) (asked : (p : Name) → answer ≡ Some p → (p ≡ Own) × IsAsked s)
-        (silent : L s b (Ref n) ≡ Nowhere → answer ≡ None) (onward : (h : ℕ) (q : Name) → L s b (Ref n) ≡ End (Way b h) q → IsHonestWay honest b h w) where
+    module _ (s : Vat Name) (ready : Ready script honest Full b s) (before : IsBefore s) (known : IsLearnt b script s n) (args : List (Value Name)) (answer : Option Name) (asked : (p : Name) → answer ≡ Some p → (p ≡ Own) × IsAsked s × IsLone s)
+        (onward : (h : ℕ) (q : Name) → L s b (Ref n) ≡ End (Way b h) q → IsLinked h) where
       abbrev Mail : Message Name
       Mail = record { id = d.message; target = Ref n; verb = verb; args = args; answer = answer }
 
@@ -471,25 +529,64 @@ module _ (script : Script) (honest : ℕ → Bool) (w : World) (a b : ℕ) (r : 
       abbrev Told : Vat Name
       Told = record s { happened = s.happened ++ Lost d.message ∷ [] }
 
-      lost_ends : L s b (Ref n) ≡ Nowhere → Ends s Told
-      lost_ends lead =
-          let g = grown_adds script honest Full b s Told (quiet s Told refl refl refl refl refl refl) in
+      told_grown : Ready script honest Full b Told × Grown script honest Full b s Told
+      told_grown = stays_quiet script honest Full b s Told (quiet s Told refl refl refl refl refl refl, refl, refl, refl) ready
+
+      -- it leads nowhere, and what the vat does then keeps order: so the note may leave
+      lost_by : (u : Vat Name) → IsOut u → Firm (W s) (W u) (L s) (L u) → L u b (Ref n) ≡ Nowhere → Ends s u
+      lost_by u out f lead =
           let first = stands_first s in
-          inr (
-            told_lost (among_last s.happened (Lost d.message)),
-            λ h. firm_carries (W s) (W Told) (Y Told) (L s) (L Told) (L Told) From I first.0 first.1 (firm_full s Told g)
-                (leaves_carries (W Told) (Y Told) (L Told) (L Told) From I
-                (lost_leaves (W Told) (Y Told) a b I (gone script honest w a b r Told Mail d.asks d.answer n verb ys there way Told (self_refers K Told) (λ i j. j) refl (leads_own Told ∙ grown_leads s Told g b (Ref n) ∙ lead) h) (first_left Told Told (quiet Told Told refl refl refl refl refl refl)))
-                (λ z x. refl) (lacks Told)),
-          )
+          inr (inl (
+            out,
+            λ h. firm_carries (W s) (W u) (Y u) (L s) (L u) (L u) From I first.0 first.1 f
+                (leaves_carries (W u) (Y u) (L u) (L u) From I
+                (lost_leaves (W u) (Y u) a b I (gone script honest w a b r u Mail d.asks d.answer n verb ys there way u (self_refers K u) (λ i j. j) refl (leads_own u ∙ lead) h) (first_left u u (quiet u u refl refl refl refl refl refl)))
+                (λ z x. refl) (lacks u)),
+          ))
+
+      lost_ends : L s b (Ref n) ≡ Nowhere → Ends s Told
+      lost_ends lead = lost_by Told (told_lost (among_last s.happened (Lost d.message))) (firm_full s Told told_grown.1) (grown_leads s Told told_grown.1 b (Ref n) ∙ lead)
+
+      -- the answer breaks with it, and the vats are told that are to be
+      module _ (p : Words) (lead : L s b (Ref n) ≡ Nowhere) (entry : Known Name) (fresh : IsFresh K b s Own entry) (alone : IsAlone K s.known Own) where
+        abbrev Broke0 : Vat Name
+        Broke0 = Broke K Told Own p
+
+        fresh_told : IsFresh K b Told Own entry
+        fresh_told = record { found = fresh.found; unsettled = fresh.unsettled; held = fresh.held; waiting = fresh.waiting; reactions = fresh.reactions; hosted = fresh.hosted }
+
+        there_full : slice_get Full.vats b ≡ Some r
+        unfolding keeping
+        there_full = there
+
+        broken : Ready script honest Full b Broke0 × Firm (W Told) (W Broke0) (L Told) (L Broke0) × ((z : ℕ) (x : Value Name) → L Told z x ≡ Nowhere → L Broke0 z x ≡ Nowhere)
+        unfolding leads amid keeping
+        broken = breaks script honest Full b r there_full Told Own p fresh_told alone tt (λ o. o) told_grown.0
+
+        lost_then : (u : Vat Name) → Passes Broke0 u → Ends s u
+        lost_then u g =
+            let informed = g.0 broken.0 in
+            lost_by u (told_lost (g.2 (Lost d.message) (among_more (Lost d.message) Told.happened (Settles Own (Broken p)) (among_last s.happened (Lost d.message)))))
+            (firm_then (W s) (W Told) (W u) (L s) (L Told) (L u) (firm_full s Told told_grown.1) (firm_then (W Told) (W Broke0) (W u) (L Told) (L Broke0) (L u) broken.1 (firm_full Broke0 u informed.1)))
+            (grown_leads Broke0 u informed.1 b (Ref n) ∙ broken.2 b (Ref n) (grown_leads s Told told_grown.1 b (Ref n) ∙ lead))
+
+        informed_ends : (e : Done Name (Unit {0})) → After Passes Broke0 e → IfGives (Ends s) e
+        informed_ends (Gives x u) g = lost_then u g
+        informed_ends (Throws q u) g = tt
+        informed_ends (Ejects i y u) g = tt
+        informed_ends (Stops c u) g = tt
+
+        broken_ends : IfGives (Ends s) (refs.settle K Own (Broken p) Told)
+        broken_ends = subst (λ e. IfGives (Ends s) e) (sym (settles_so K b Told Own p fresh_told)) (informed_ends (each (refs.inform K Own) entry.told Broke0) ((passes_informs Own entry.told).after Broke0))
 
       out_by : (h : ℕ) (q : Name) → L s b (Ref n) ≡ End (Way b h) q → (o : Option Name) → answer ≡ o → IfGives (Ends s) (refs.pass_on K Mail h q s)
       out_by h q lead None e = goes_without h q (onward h q lead) Mail refl s e ready known lead
       out_by h q lead (Some p) e = let k = asked p e in goes_with h q (onward h q lead) Mail refl s (e ∙ ap (λ z. Some z) k.0) ready before known k.1 lead
 
-      sent_lost : (p : Words) → L s b (Ref n) ≡ Nowhere → IfGives (Ends s) (refs.send_to K settles Mail To (Gone p) s)
+      sent_lost : (p : Words) → L s b (Ref n) ≡ Nowhere → (o : Option Name) → answer ≡ o → IfGives (Ends s) (refs.send_to K settles Mail To (Gone p) s)
       unfolding refs.send_to ◌>>◌ and_then tell for_some give
-      sent_lost p lead = subst (λ o. IfGives (Ends s) (for_some o (λ z. settles z (Broken p)) (give tt) Told)) (sym (silent lead)) (lost_ends lead)
+      sent_lost p lead None e = subst (λ o. IfGives (Ends s) (for_some o (λ z. settles z (Broken p)) (give tt) Told)) (sym e) (lost_ends lead)
+      sent_lost p lead (Some z) e = let k = asked z e in subst (λ o. IfGives (Ends s) (for_some o (λ z. settles z (Broken p)) (give tt) Told)) (sym (e ∙ ap (λ z. Some z) k.0)) (broken_ends p lead k.2.0 k.2.1 k.2.2)
 
       sent_to : (p : refs.Place Name) → At ≡ p → IfGives (Ends s) (refs.send_to K settles Mail To p s)
       unfolding refs.send_to enqueue alter
@@ -498,7 +595,7 @@ module _ (script : Script) (honest : ℕ → Bool) (w : World) (a b : ℕ) (r : 
       sent_to (Mine q) e = let t : Vat Name = record s { known = state.with_change K (Hold (record Mail { target = To })) q s.known } in
           here_ends t (subst IsHere (sym e) tt) (ap (λ p. refs.send_to K settles Mail To p s) e) (change_adds K (Hold (record Mail { target = To })) q tt s) (λ f. absurd (end_nowhere (Held b q) q (sym (ap (λ p. aimed b To p) e ∙ mine_end q) ∙ f)))
       sent_to (Away h q o) e = out_by h q (learnt_aims s known ∙ ap (λ p. aimed b To p) e ∙ away_end h q o) answer refl
-      sent_to (Gone p) e = let lead = learnt_aims s known ∙ ap (λ z. aimed b To z) e ∙ gone_nowhere p in sent_lost p lead
+      sent_to (Gone p) e = let lead = learnt_aims s known ∙ ap (λ z. aimed b To z) e ∙ gone_nowhere p in sent_lost p lead answer refl
 
       pub sends : IfGives (Ends s) (refs.send_on K settles Mail s)
       unfolding refs.send_on ◌>>=◌ and_then look

@@ -24,8 +24,8 @@ use Rattle.law_order.proofs.Changes.{growing_keeps}
 use Rattle.law_order.proofs.Messages.{behind_then}
 use Rattle.law_order.proofs.OrderKeeping.{arriving_changes_nothing}
 use Rattle.law_order.proofs.Sends.{get_put}
-use Rattle.law_order_carries.specs.Carries.{IsCarried, CanCarry, CarryKeeps, comes_to, is_lost, IsLeftOut, on_data, lost_here, lost_on_way, IsHonestWay, CarryEnds, MessageCarriesKeep}
-use Rattle.law_order_carries.proofs.Moved.{Leading, Firm, Carries, firm_carries}
+use Rattle.law_order_carries.specs.Carries.{IsCarried, CanCarry, CarryKeeps, comes_to, is_lost, IsLeftOut, on_data, lost_here, lost_on_way, OthersKeep, CarryEnds, MessageCarriesKeep}
+use Rattle.law_order_carries.proofs.Moved.{Leading, Firm, Carries, firm_carries, firm_but}
 use Rattle.law_order_carries.proofs.Sending as sending
 use Rattle.law_order_carries.proofs.Sending.{IsOut, came_on_data, told_lost, posted_cut}
 use Rattle.law_order_carries.proofs.Carried.{arrives}
@@ -97,8 +97,8 @@ module _ (script : Script) (honest : ℕ → Bool) (w : World) (a b : ℕ) (d : 
   way : IsOpenWay honest a b Bare
   way = let o = kept_there (world.with_notes c.borne.rest) false a b a b (ends_kept a b) cut_kept w.links (c.borne.link, c.borne.found, c.borne.uncut) in record { link = o.0; found = o.1; uncut = o.2; sender = c.borne.sender; receiver = c.borne.receiver }
 
-  way_on : (h : ℕ) → IsHonestWay honest b h w → IsHonestWay honest b h Bare
-  way_on h g = let o = there_on h g.link.cut (g.link, g.found, refl) in record { link = o.0; found = o.1; sender = g.sender; receiver = g.receiver }
+  way_on : (h : ℕ) → (l : Link) × (world.link_at b h w.links ≡ Some l) → (l : Link) × (world.link_at b h Bare.links ≡ Some l)
+  way_on h g = let o = there_on h g.0.cut (g.0, g.1, refl) in (o.0, o.1)
 
   abbrev Start : Vat Name
   Start = readied w c.borne.vat
@@ -189,7 +189,7 @@ module _ (script : Script) (honest : ℕ → Bool) (w : World) (a b : ℕ) (d : 
   arrived : IfGives Ends (arrive.arrive (names script b) a (read_note (names_in c.borne.vat.known) Note0) Start)
   unfolding readied
   arrived = arrives script honest Bare a b c.borne.vat c.borne.there way d n verb ys c.message c.named Start ready (refl, refl, refl, refl, c.fresh) c.before c.target
-      (λ e. c.borne.silent (sym lead_here ∙ e)) (λ h q e. way_on h (c.borne.onward h q (sym lead_here ∙ e))) c.args
+      (λ h q e. way_on h (c.borne.onward h q (sym lead_here ∙ e))) c.args
 
   -- ---- the world then
 
@@ -216,10 +216,15 @@ module _ (script : Script) (honest : ℕ → Bool) (w : World) (a b : ℕ) (d : 
     unfolding ways amid leads
     keeps g h = record { references = λ z x. g.references z x; places = g.places; left = g.left; carried = h }
 
+    others : sending.Others script honest Bare a b c.borne.vat c.borne.there way d n verb ys Start u → OthersKeep script honest w (Then head u) a b I
+    unfolding ways amid leads
+    others g = let k = firm_but (ways script honest w) (W Start) (Y u) Was (L Start) (L u) (Way a b) I first.0 first.1 firm g in record { references = λ z x. k.references z x; places = k.places; left = k.left }
+
     ends : Ends u → CarryEnds script honest w (Then head u) a b I
     unfolding ways amid
-    ends (inl h) = let k = h.1 in inl (keeps (moves h.0) (comes_to k.3 (behind_then (ways script honest w) (W Start) (Y u) (Mid (Way a b) [] n) (Mid (Way a b) [] n) (Mid k.0 k.1 k.2) (firm.places (Way a b) [] n) k.4)))
-    ends (inr h) = inr (left_out head u h.0, λ q. keeps (moves (h.1 q)) (is_lost q))
+    ends (inl h) = let k = h.1 in inl (inl (keeps (moves h.0) (comes_to k.3 (behind_then (ways script honest w) (W Start) (Y u) (Mid (Way a b) [] n) (Mid (Way a b) [] n) (Mid k.0 k.1 k.2) (firm.places (Way a b) [] n) k.4))))
+    ends (inr (inl h)) = inr (left_out head u h.0, λ q. keeps (moves (h.1 q)) (is_lost q))
+    ends (inr (inr h)) = let k = h.0 in inl (inr ((k.0, k.1, sym lead_here ∙ k.2, k.3), others h.1))
 
   ended : (y : World) (head : List Event) (k : ℕ) (e : Done Name (Unit {0})) → IfGives Ends e → world.put_back b Bare head k e ≡ Goes y → CarryEnds script honest w y a b I
   unfolding world.put_back

@@ -1,11 +1,11 @@
 -- A message is carried: what is ahead of what as the first note of a link arrives, which delivers it.
 use Rattle.std.specs.Prelude.{◌≡◌, ℕ, suc, ◌≤◌, Bool, true, false, List, [], ◌∷◌, ◌++◌, Some, None, slice_get, ◌⊎◌}
-use Rattle.def_machine.specs.Values.{Words, Value, Null, Flag, Number, Letter, Text, Prim, Broken, Items, Ref, Name, Promise, Answer, Sent, Msg}
+use Rattle.def_machine.specs.Values.{Words, Value, Null, Flag, Number, Letter, Text, Prim, Broken, Items, Ref, Name, Promise, Answer, Gift, Sent, Msg}
 use Rattle.def_machine.specs.State.{Message, Passed, Passeds, Plain, AGift, Many, NoMore, More, Delivery, Note, Deliver, Lost, Vat, is_in}
 use Rattle.def_machine.specs.Refs.{entry_of}
-use Rattle.def_run.specs.World.{names, Script, Carry, Here, LostCut, Link, World, Goes, link_at, step, readied}
-use Rattle.law_name.specs.Names.{IsAmong}
-use Rattle.law_order.specs.Ways.{Lane, Way, Item, Nowhere, Mid, End, Ways}
+use Rattle.def_run.specs.World.{names, Script, Carry, Here, LostCut, Link, World, Goes, link_at, step, read_passed, readied}
+use Rattle.law_name.specs.Names.{IsAmong, names_in}
+use Rattle.law_order.specs.Ways.{Lane, Way, Item, Place, Mid, End, Ways, Doom, Ahead}
 use Rattle.law_order.specs.Changes.{Beheads}
 use Rattle.law_order.specs.Leavings.{FirstLeft}
 use Rattle.law_order.specs.Messages.{StandsAt, IsNowhere, LacksAt, StaysBehind}
@@ -29,16 +29,16 @@ ValueNotNext v s bar (Prim k) = Unit {0}
 ValueNotNext v s bar (Broken p) = Unit {0}
 ValueNotNext v s bar (Items k) = Unit {0}
 
--- each name in what passes is such, and of each gift in it the vat did not notice the host
+-- Each name in what passes is such. Of each gift in it the vat did not notice the host; or that is another vat, and the gift is not among the names that are known as it is read.
 abbrev mutual
-  pub PassedNotNext : ℕ → Vat Name → Name → Passed Name → Type 0
-  PassedNotNext v s bar (Plain y) = ValueNotNext v s bar y
-  PassedNotNext v s bar (AGift h i) = is_in h s.noticed ≡ false
-  PassedNotNext v s bar (Many ys) = AllNotNext v s bar ys
+  pub PassedNotNext : ℕ → Vat Name → Name → List Name → Passed Name → Type 0
+  PassedNotNext v s bar ns (Plain y) = ValueNotNext v s bar y
+  PassedNotNext v s bar ns (AGift h i) = (is_in h s.noticed ≡ false) ⊎ ((h ≡ v → ⊥) × (IsAmong (Gift h i) ns → ⊥))
+  PassedNotNext v s bar ns (Many ys) = AllNotNext v s bar ns ys
 
-  pub AllNotNext : ℕ → Vat Name → Name → Passeds Name → Type 0
-  AllNotNext v s bar NoMore = Unit {0}
-  AllNotNext v s bar (More y ys) = PassedNotNext v s bar y × AllNotNext v s bar ys
+  pub AllNotNext : ℕ → Vat Name → Name → List Name → Passeds Name → Type 0
+  AllNotNext v s bar ns NoMore = Unit {0}
+  AllNotNext v s bar ns (More y ys) = PassedNotNext v s bar ns y × AllNotNext v s bar (read_passed y ns).known ys
 
 -- ---- what a carry comes to
 
@@ -57,6 +57,24 @@ pub record CarryKeeps (script : Script) (honest : ℕ → Bool) (w y : World) (a
   -- so do all other messages
   pub left : FirstLeft (ways script honest w) (ways script honest y) (Way a b) i
   pub carried : IsCarried (ways script honest w) (ways script honest y) (Way a b) i
+
+-- As `StaysBehind`, of all messages but m.
+abbrev pub StaysBehindBut : Name → Ways → Ways → Place → Place → Type 0
+StaysBehindBut m w u c d = (Doom w c → Doom u d) × ((x : Name) → (x ≡ m → ⊥) → Ahead w x c → Ahead u x d)
+
+-- From w to y the item that stood first on the link from a to b left it, and each thing keeps its order behind all other messages.
+pub record OthersKeep (script : Script) (honest : ℕ → Bool) (w y : World) (a b : ℕ) (i : Item) : Type 0 where
+  pub references : (u : ℕ) (x : Value Name) → StaysBehindBut i.mail (ways script honest w) (ways script honest y) (leads script honest w.vats w.links u x) (leads script honest y.vats y.links u x)
+  pub places : (l : Lane) (c d : List Item) (n : Name) → Beheads (Way a b) i (Mid l c n) (Mid l d n) → StaysBehindBut i.mail (ways script honest w) (ways script honest y) (Mid l c n) (Mid l d n)
+  pub left : FirstLeft (ways script honest w) (ways script honest y) (Way a b) i
+
+-- the name of that vat leads on to a vat that is not honest
+abbrev pub GoesAway : Script → (ℕ → Bool) → World → ℕ → Name → Type 0
+GoesAway script honest w b n = (h : ℕ) × (q : Name) × (leads script honest w.vats w.links b (Ref n) ≡ End (Way b h) q) × (honest h ≡ false)
+
+-- Order is kept; or the item went on to a vat that is not honest, of whose links nothing is said, and order is kept behind all others.
+abbrev pub OrderKept : (script : Script) (honest : ℕ → Bool) (w y : World) (a b : ℕ) (i : Item) → Type 0
+OrderKept script honest w y a b i = CarryKeeps script honest w y a b i ⊎ (GoesAway script honest w b i.aim × OthersKeep script honest w y a b i)
 
 -- it names nothing
 abbrev pub IsNoName : Value Name → Type 0
@@ -78,14 +96,7 @@ pub data IsLeftOut (y : World) (b : ℕ) (m : Name) : Type 0 where
 
 -- it keeps order; where the message is left out, if that stands nowhere
 abbrev pub CarryEnds : (script : Script) (honest : ℕ → Bool) (w y : World) (a b : ℕ) (i : Item) → Type 0
-CarryEnds script honest w y a b i = CarryKeeps script honest w y a b i ⊎ (IsLeftOut y b i.mail × (IsNowhere (ways script honest y) i.mail → CarryKeeps script honest w y a b i))
-
--- A link is there and has honest ends, cut or not.
-pub record IsHonestWay (honest : ℕ → Bool) (a b : ℕ) (w : World) : Type 0 where
-  pub link : Link
-  pub found : link_at a b w.links ≡ Some link
-  pub sender : honest a ≡ true
-  pub receiver : honest b ≡ true
+CarryEnds script honest w y a b i = OrderKept script honest w y a b i ⊎ (IsLeftOut y b i.mail × (IsNowhere (ways script honest y) i.mail → CarryKeeps script honest w y a b i))
 
 -- The first note on the link from a to b, which is not cut and has honest ends, delivers that message.
 pub record BearsMessage (script : Script) (honest : ℕ → Bool) (w : World) (a b : ℕ) (d : Delivery Name) (n : Name) (verb : Words) (ys : Passeds Name) : Type 0 where
@@ -98,9 +109,8 @@ pub record BearsMessage (script : Script) (honest : ℕ → Bool) (w : World) (a
   pub first : link.notes ≡ Deliver d n verb ys ∷ rest
   pub sender : honest a ≡ true
   pub receiver : honest b ≡ true
-  -- Where its target leads on over a link, that is there and has an honest end. Where it leads nowhere, no answer is asked for.
-  pub onward : (h : ℕ) (q : Name) → leads script honest w.vats w.links b (Ref n) ≡ End (Way b h) q → IsHonestWay honest b h w
-  pub silent : leads script honest w.vats w.links b (Ref n) ≡ Nowhere → d.asks ≡ false
+  -- where its target leads on over a link, that is there
+  pub onward : (h : ℕ) (q : Name) → leads script honest w.vats w.links b (Ref n) ≡ End (Way b h) q → (l : Link) × (link_at b h w.links ≡ Some l)
 
 -- It can be carried: its receiver is ready.
 pub record CanCarry (script : Script) (honest : ℕ → Bool) (w : World) (a b : ℕ) (d : Delivery Name) (n : Name) (verb : Words) (ys : Passeds Name) : Type 0 where
@@ -113,7 +123,7 @@ pub record CanCarry (script : Script) (honest : ℕ → Bool) (w : World) (a b :
   -- The note does not name the message's answer at the receiver, which that does not know.
   pub fresh : entry_of (names script b) borne.vat.known (Answer b message) ≡ None
   pub target : IsNotNext b borne.vat (Answer b message) n
-  pub args : AllNotNext b borne.vat (Answer b message) ys
+  pub args : AllNotNext b borne.vat (Answer b message) (names_in borne.vat.known) ys
 
 -- ---- laws
 

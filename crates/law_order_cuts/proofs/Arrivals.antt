@@ -1,4 +1,4 @@
--- As a note arrives, a note that lets a gift go is put with a draw, or in the place of the one that arrived.
+-- As a note arrives, a note that lets a gift go is put with a draw, or in the place of one that arrived and asked for it.
 use Rattle.std.proofs.Common.{◌≡◌, ℕ, true, false, refl, ap, arith}
 use Rattle.std.specs.Prelude.{◌==◌}
 use Rattle.def_machine.specs.Values.{Name, Naming}
@@ -8,6 +8,7 @@ use Rattle.def_machine.specs.Arrive as arrive
 use Rattle.def_machine.specs.Arrive.{Incoming}
 use Rattle.law_machine.specs.Steps.{After}
 use Rattle.law_order_cuts.specs.Letting.{lets_go, once}
+use Rattle.law_order_cuts.specs.Opening.{asks_to_open}
 use Rattle.law_order_cuts.proofs.Counts.{more_put}
 use Rattle.law_order_cuts.proofs.Walk.{learning_name, walked_arrive}
 use Rattle.law_order_cuts.proofs.Puts.{Pays, pays_walked}
@@ -56,10 +57,10 @@ module _ (i : ℕ) (K : Naming Name Name) where
   unfolding arrive.arrive_shorten ◌>>=◌ and_then look
   arrive_shorten_extra z j s = bind_extra (once (j == i)) s (arrive.learn_name K z s) _ ((learning_name K R Anyone (pays_walked i K) z).after s) (λ n t. shorten_extra j _ t)
 
-  pub pays_arrive : (from : ℕ) (n : Note (Incoming Name Name)) (s : Vat Name) → After (Pays i (once (lets_go i n))) s (arrive.arrive K from n s)
-  unfolding arrive.arrive lets_go
+  pub pays_arrive : (from : ℕ) (n : Note (Incoming Name Name)) (s : Vat Name) → After (Pays i (once (asks_to_open i n))) s (arrive.arrive K from n s)
+  unfolding arrive.arrive asks_to_open
   pays_arrive from (Deliver d z verb ys) s = extra_less (once false) s _ ((walked_arrive K R Anyone (pays_walked i K) from (Deliver d z verb ys) tt).after s)
-  pays_arrive from (Open j z) s = extra_less (once (j == i)) s _ ((walked_arrive K R Anyone (pays_walked i K) from (Open j z) tt).after s)
+  pays_arrive from (Open j z) s = extra_less (once false) s _ ((walked_arrive K R Anyone (pays_walked i K) from (Open j z) tt).after s)
   pays_arrive from (Ask p j z) s = extra_less (once false) s _ ((walked_arrive K R Anyone (pays_walked i K) from (Ask p j z) tt).after s)
   pays_arrive from (SettledTo z y) s = extra_less (once false) s _ ((walked_arrive K R Anyone (pays_walked i K) from (SettledTo z y) tt).after s)
   pays_arrive from (Elsewhere z c) s = extra_less (once false) s _ ((walked_arrive K R Anyone (pays_walked i K) from (Elsewhere z c) tt).after s)

@@ -33,15 +33,41 @@ more_put i (q ∷ ps) p = let rest = more_put i ps p in omega arith
 
 -- ---- a link is changed
 
+-- what each link weighs, together
+unfoldable pub sum_of : (Link → ℕ) → List Link → ℕ
+sum_of m [] = 0
+sum_of m (l ∷ ls) = m l + sum_of m ls
+
 -- where the change of the link adds that much at most
-changed_most : (f : Link → Link) (i c v h : ℕ) (ls : List Link) → ((l : Link) → letting_in i (f l).notes ≤ letting_in i l.notes + c) → letting i (world.with_link f v h ls) ≤ letting i ls + c
-unfolding world.with_link letting
-changed_most f i c v h [] g = omega arith
-changed_most f i c v h (l ∷ ls) g = go (changed_most f i c v h ls g) (world.is_link v h l)
+pub changed_sum : (m : Link → ℕ) (f : Link → Link) (c v h : ℕ) (ls : List Link) → ((l : Link) → m (f l) ≤ m l + c) → sum_of m (world.with_link f v h ls) ≤ sum_of m ls + c
+unfolding world.with_link sum_of
+changed_sum m f c v h [] g = omega arith
+changed_sum m f c v h (l ∷ ls) g = go (changed_sum m f c v h ls g) (world.is_link v h l)
   where
-    go : letting i (world.with_link f v h ls) ≤ letting i ls + c → (b : Bool) → letting i (elim b [ true ↦ f l ∷ ls | false ↦ l ∷ world.with_link f v h ls ]) ≤ letting_in i l.notes + letting i ls + c
+    go : sum_of m (world.with_link f v h ls) ≤ sum_of m ls + c → (b : Bool) → sum_of m (elim b [ true ↦ f l ∷ ls | false ↦ l ∷ world.with_link f v h ls ]) ≤ m l + sum_of m ls + c
     go r true = let here = g l in omega arith
     go r false = omega arith
+
+-- where the change of the link that is found takes that much at least
+pub taken_sum : (m : Link → ℕ) (f : Link → Link) (d a b : ℕ) (ls : List Link) (l : Link) → world.link_at a b ls ≡ Some l → m (f l) + d ≤ m l → sum_of m (world.with_link f a b ls) + d ≤ sum_of m ls
+unfolding world.with_link world.link_at sum_of
+taken_sum m f d a b [] l e g = none_some l e
+taken_sum m f d a b (k ∷ ls) l e g = go (λ q. taken_sum m f d a b ls l q g) (world.is_link a b k) e
+  where
+    here : k ≡ l → m (f k) + d ≤ m k
+    here q = subst (λ (j : Link). m (f j) + d ≤ m j) (sym q) g
+
+    go : (world.link_at a b ls ≡ Some l → sum_of m (world.with_link f a b ls) + d ≤ sum_of m ls) → (c : Bool) → elim c [ true ↦ Some k | false ↦ world.link_at a b ls ] ≡ Some l → sum_of m (elim c [ true ↦ f k ∷ ls | false ↦ k ∷ world.with_link f a b ls ]) + d ≤ m k + sum_of m ls
+    go r true q = let less = here (some_same k l q) in omega arith
+    go r false q = let rest = r q in omega arith
+
+letting_sum : (i : ℕ) (ls : List Link) → letting i ls ≡ sum_of (λ l. letting_in i l.notes) ls
+unfolding letting sum_of
+letting_sum i [] = refl
+letting_sum i (l ∷ ls) = let rest = letting_sum i ls in omega arith
+
+pub changed_most : (f : Link → Link) (i c v h : ℕ) (ls : List Link) → ((l : Link) → letting_in i (f l).notes ≤ letting_in i l.notes + c) → letting i (world.with_link f v h ls) ≤ letting i ls + c
+changed_most f i c v h ls g = let all = changed_sum (λ l. letting_in i l.notes) f c v h ls g in let before = letting_sum i ls in let after = letting_sum i (world.with_link f v h ls) in omega arith
 
 pushed_most : (i : ℕ) (n : Note Name) (l : Link) (b : Bool) → l.cut ≡ b → letting_in i (world.pushed n l).notes ≤ letting_in i l.notes + once (lets_go i n)
 pushed_most i n l true e = subst (λ (k : Link). letting_in i k.notes ≤ letting_in i l.notes + once (lets_go i n)) (sym (pushed_shut n l e)) (omega arith)
@@ -64,17 +90,11 @@ severed_most i a b ls = let most = changed_most world.severed_link i 0 a b ls no
 -- the first note is taken
 pub taken_less : (i a b : ℕ) (ls : List Link) (l : Link) (n : Note Name) (ns : List (Note Name)) → world.link_at a b ls ≡ Some l → l.notes ≡ n ∷ ns
     → letting i (world.with_link (world.with_notes ns) a b ls) + once (lets_go i n) ≤ letting i ls
-unfolding world.with_link world.link_at letting letting_in world.with_notes
-taken_less i a b [] l n ns e f = none_some l e
-taken_less i a b (k ∷ ls) l n ns e f = go (λ q. taken_less i a b ls l n ns q f) (world.is_link a b k) e
-  where
-    here : k ≡ l → letting_in i k.notes ≡ once (lets_go i n) + letting_in i ns
-    here q = ap (λ (j : Link). letting_in i j.notes) q ∙ ap (λ ms. letting_in i ms) f
-
-    go : (world.link_at a b ls ≡ Some l → letting i (world.with_link (world.with_notes ns) a b ls) + once (lets_go i n) ≤ letting i ls) → (c : Bool) → elim c [ true ↦ Some k | false ↦ world.link_at a b ls ] ≡ Some l
-        → letting i (elim c [ true ↦ world.with_notes ns k ∷ ls | false ↦ k ∷ world.with_link (world.with_notes ns) a b ls ]) + once (lets_go i n) ≤ letting_in i k.notes + letting i ls
-    go r true q = let same = here (some_same k l q) in omega arith
-    go r false q = let rest = r q in omega arith
+unfolding letting_in world.with_notes
+taken_less i a b ls l n ns e f =
+    let all : letting_in i l.notes ≡ once (lets_go i n) + letting_in i ns = ap (λ ms. letting_in i ms) f in
+    let less = taken_sum (λ k. letting_in i k.notes) (world.with_notes ns) (once (lets_go i n)) a b ls l e (omega arith) in
+    let before = letting_sum i ls in let after = letting_sum i (world.with_link (world.with_notes ns) a b ls) in omega arith
 
 -- ---- what was logged
 
@@ -145,14 +165,14 @@ taken_logged a b ls l n ns e f h = changed_logged (world.with_notes ns) a b ls (
 
 -- ---- the start
 
--- no note is under way
-abbrev Quiet : List Link → Type 0
+-- no note is under way, and none was put
+abbrev pub Quiet : List Link → Type 0
 Quiet [] = Unit {0}
-Quiet (l ∷ ls) = (l.notes ≡ []) × Quiet ls
+Quiet (l ∷ ls) = (l.notes ≡ []) × (l.log ≡ []) × Quiet ls
 
 quiet_all : (ls ks : List Link) → Quiet ls → Quiet ks → Quiet (ls ++ ks)
 quiet_all [] ks h i = i
-quiet_all (l ∷ ls) ks h i = (h.0, quiet_all ls ks h.1 i)
+quiet_all (l ∷ ls) ks h i = (h.0, h.1, quiet_all ls ks h.2 i)
 
 links_to_quiet : (v h : ℕ) (ps : List Program) → Quiet (world.links_to v h ps)
 unfolding world.links_to
@@ -164,7 +184,7 @@ links_to_quiet v h (p ∷ ps) = go (v == h) (links_to_quiet v (suc h) ps)
       | false ↦ record { from = v; to = h; cut = false; notes = []; roots = world.roots_for v p; log = [] } ∷ world.links_to v (suc h) ps
     ])
     go true i = i
-    go false i = (refl, i)
+    go false i = (refl, refl, i)
 
 pub links_from_quiet : (all : List Program) (v : ℕ) (ps : List Program) → Quiet (world.links_from all v ps)
 unfolding world.links_from
@@ -174,12 +194,12 @@ links_from_quiet all v (p ∷ ps) = quiet_all (world.links_to v zero all) (world
 pub quiet_counts : (i : ℕ) (ls : List Link) → Quiet ls → letting i ls ≤ 0
 unfolding letting letting_in
 quiet_counts i [] h = omega arith
-quiet_counts i (l ∷ ls) h = let rest = quiet_counts i ls h.1 in let here : letting_in i l.notes ≡ 0 = ap (λ ns. letting_in i ns) h.0 in omega arith
+quiet_counts i (l ∷ ls) h = let rest = quiet_counts i ls h.2 in let here : letting_in i l.notes ≡ 0 = ap (λ ns. letting_in i ns) h.0 in omega arith
 
 pub quiet_logged : (ls : List Link) → Quiet ls → AllLogged ls
 unfolding any_note
 quiet_logged [] h = tt
-quiet_logged (l ∷ ls) h = (λ f e. none f (sym (ap (λ ns. any_note f ns) h.0) ∙ e), quiet_logged ls h.1)
+quiet_logged (l ∷ ls) h = (λ f e. none f (sym (ap (λ ns. any_note f ns) h.0) ∙ e), quiet_logged ls h.2)
   where
     none : (f : Note Name → Bool) → any_note f [] ≡ true → any_note f l.log ≡ true
     none f e = cc

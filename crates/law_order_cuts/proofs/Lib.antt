@@ -1,7 +1,9 @@
 pub mod Shut
 pub mod Counts
+pub mod Openings
 pub mod Gifts
 pub mod Severed
+pub mod WholeWalk
 pub mod Walk
 pub mod Puts
 pub mod Arrivals

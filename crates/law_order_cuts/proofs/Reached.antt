@@ -1,4 +1,4 @@
--- In every world of a run at most one note under way lets the gift under a key go, and each note under way was logged.
+-- In every world of a run at most one note under way lets the gift under a key go, at most one was put that opens it, and each note under way was logged.
 use Rattle.std.proofs.Common.{◌≡◌, ℕ, zero, ◌+◌, ◌≤◌, Bool, List, [], ◌∷◌, Some, refl, sym, ap, subst, ◌∙◌, arith}
 use Rattle.def_machine.specs.Values.{Name}
 use Rattle.def_machine.specs.State.{Note, Deliver, Open, Ask, SettledTo, Elsewhere, Shorten, Vat, Gives, Done}
@@ -10,18 +10,21 @@ use Rattle.law_run.proofs.Told.{moves_told}
 use Rattle.law_run.proofs.Honest.{NoDeed, NoWord, lifted}
 use Rattle.law_order.specs.Ways.{Way, Mid, Place}
 use Rattle.law_order.specs.Places.{first_place, open_place, shorten_place, was_put, or_never, gift_place}
-use Rattle.law_order_cuts.specs.Letting.{lets_go, once, letting, OneLetsGo, AllLogged, OneNoteLetsAGiftGo, NotesAreLogged, FirstOpensLetGo, FirstShortensLetGo}
+use Rattle.law_order_cuts.specs.Letting.{once, letting, OneLetsGo, AllLogged, OneNoteLetsAGiftGo, NotesAreLogged, FirstOpensLetGo, FirstShortensLetGo}
+use Rattle.law_order_cuts.specs.Opening.{asks_to_open, EachGiftIsOpenedOnce}
 use Rattle.law_order_cuts.specs.Cuts.{CutsKeepInRuns}
 use Rattle.law_order_cuts.proofs.Counts.{letting_put, pushes_most, pushes_logged, severed_most, cuts_logged, taken_less, taken_logged, links_from_quiet, quiet_counts, quiet_logged}
+use Rattle.law_order_cuts.proofs.Openings.{one_of_both, opening, opening_is, pushes_open, severed_open, taken_open, quiet_open}
 use Rattle.law_order_cuts.proofs.Puts.{Pays, drawn_of, drawn_most, pays_walked}
 use Rattle.law_order_cuts.proofs.Arrivals.{pays_arrive}
 use Rattle.law_order_cuts.proofs.Walk.{walked_opening, walked_taking, walked_notice}
 use Rattle.law_order_cuts.proofs.Gifts.{first_opens, first_shortens, none_open}
 use Rattle.law_order_cuts.proofs.Severed.{cuts_keep}
 
--- each note under way that lets a gift go was paid by a draw, and each was logged
+-- each note under way that lets a gift go was paid by a draw, and so was each that was put to open one; and each note under way was logged
 pub record Holds (w : World) : Type 0 where
   pub paid : (i : ℕ) → letting i w.links ≤ drawn_of i w.drawn
+  pub opened : (i : ℕ) → opening i w.links ≤ drawn_of i w.drawn
   pub logged : AllLogged w.links
 
 going : {x z : World} → Goes x ≡ Goes z → x ≡ z
@@ -30,14 +33,14 @@ going e = cc
 gives_after : {A : Type 0} (P : Vat Name → Vat Name → Type 0) (s t : Vat Name) (d : Done Name A) (a : A) → d ≡ Gives a t → After P s d → P s t
 gives_after P s t d a e h = subst (After P s) e h
 
-read_lets : (i : ℕ) (ks : List Name) (n : Note Name) → lets_go i (read_note ks n) ≡ lets_go i n
-unfolding lets_go read_note
-read_lets i ks (Deliver d n verb ys) = refl
-read_lets i ks (Open j n) = refl
-read_lets i ks (Ask p j n) = refl
-read_lets i ks (SettledTo n y) = refl
-read_lets i ks (Elsewhere n c) = refl
-read_lets i ks (Shorten n c j) = refl
+read_asks : (i : ℕ) (ks : List Name) (n : Note Name) → asks_to_open i (read_note ks n) ≡ asks_to_open i n
+unfolding asks_to_open read_note
+read_asks i ks (Deliver d n verb ys) = refl
+read_asks i ks (Open j n) = refl
+read_asks i ks (Ask p j n) = refl
+read_asks i ks (SettledTo n y) = refl
+read_asks i ks (Elsewhere n c) = refl
+read_asks i ks (Shorten n c j) = refl
 
 abbrev Anyone : Name → Vat Name → Type 0
 Anyone p s = Unit {0}
@@ -65,19 +68,32 @@ module _ (script : Script) where
     paid = λ i.
         let step = from_ready i 0 w q t (gives_after (Pays i 0) (readied w q) t (does (names script v) what (readied w q)) tt d.gives (steps_pay i v what (readied w q) alone)) in
         let push = pushes_most i v t.outbox w.links in let had = h.paid i in omega arith;
+    opened = λ i.
+        let step = from_ready i 0 w q t (gives_after (Pays i 0) (readied w q) t (does (names script v) what (readied w q)) tt d.gives (steps_pay i v what (readied w q) alone)) in
+        let push = pushes_open i v t.outbox w.links in let had = h.opened i in omega arith;
     logged = pushes_logged v t.outbox w.links h.logged;
   }
 
+  -- what is put as a note arrives
+  note_pays : (i : ℕ) (w : World) (a v : ℕ) (s t : Vat Name) (n : Note Name) → Does script w v s s t (Receives a (read_note (names_of s) n)) → letting_put i t.outbox + drawn_of i w.drawn ≤ drawn_of i t.drawn + once (asks_to_open i n)
+  unfolding does
+  note_pays i w a v s t n d =
+      let pays : Pays i (once (asks_to_open i (read_note (names_of s) n))) (readied w s) t = gives_after (Pays i (once (asks_to_open i (read_note (names_of s) n)))) (readied w s) t _ tt d.gives (pays_arrive i (names script v) a (read_note (names_of s) n) (readied w s)) in
+      let step = from_ready i (once (asks_to_open i (read_note (names_of s) n))) w s t pays in
+      let same : once (asks_to_open i (read_note (names_of s) n)) ≡ once (asks_to_open i n) = ap once (read_asks i (names_of s) n) in omega arith
+
   arrived : (w : World) (a v : ℕ) (s t : Vat Name) (n : Note Name) (ns : List (Note Name)) (l : Link) (head : List Event) → Holds w → world.link_at a v w.links ≡ Some l → l.notes ≡ n ∷ ns → Does script w v s s t (Receives a (read_note (names_of s) n))
       → Holds (went v (record w { links = world.with_link (world.with_notes ns) a v w.links }) head t)
-  unfolding went does
+  unfolding went
   arrived w a v s t n ns l head h at front d = record {
     paid = λ i.
-        let pays : Pays i (once (lets_go i (read_note (names_of s) n))) (readied w s) t = gives_after (Pays i (once (lets_go i (read_note (names_of s) n)))) (readied w s) t _ tt d.gives (pays_arrive i (names script v) a (read_note (names_of s) n) (readied w s)) in
-        let step = from_ready i (once (lets_go i (read_note (names_of s) n))) w s t pays in
-        let same : once (lets_go i (read_note (names_of s) n)) ≡ once (lets_go i n) = ap once (read_lets i (names_of s) n) in
+        let step = note_pays i w a v s t n d in let both = one_of_both i n in
         let less = taken_less i a v w.links l n ns at front in
         let push = pushes_most i v t.outbox (world.with_link (world.with_notes ns) a v w.links) in let had = h.paid i in omega arith;
+    opened = λ i.
+        let step = note_pays i w a v s t n d in
+        let less = taken_open i a v w.links l n ns at front in
+        let push = pushes_open i v t.outbox (world.with_link (world.with_notes ns) a v w.links) in let had = h.opened i in omega arith;
     logged = pushes_logged v t.outbox (world.with_link (world.with_notes ns) a v w.links) (taken_logged a v w.links l n ns at front h.logged);
   }
 
@@ -85,14 +101,16 @@ module _ (script : Script) where
   unfolding world.step world.cut
   cut_holds w y k a b h e = subst Holds (going e) (record {
     paid = λ i. let one = severed_most i a b w.links in let two = severed_most i b a (world.with_link world.severed_link a b w.links) in let had = h.paid i in omega arith;
+    opened = λ i. let one = severed_open i a b w.links in let two = severed_open i b a (world.with_link world.severed_link a b w.links) in let had = h.opened i in omega arith;
     logged = cuts_logged b a (world.with_link world.severed_link a b w.links) (cuts_logged a b w.links h.logged);
   })
 
   moved_holds : (w y : World) → Holds w → M w y → Holds y
-  moved_holds w y h (Still es e) = subst Holds (sym e) (record { paid = h.paid; logged = h.logged })
+  moved_holds w y h (Still es e) = subst Holds (sym e) (record { paid = h.paid; opened = h.opened; logged = h.logged })
   moved_holds w y h (Severs k a b e) = cut_holds w y k a b h e
   moved_holds w y h (Drops a v n ns l es at uncut front none e) = subst Holds (sym e) (record {
     paid = λ i. let less = taken_less i a v w.links l n ns at front in let had = h.paid i in omega arith;
+    opened = λ i. let less = taken_open i a v w.links l n ns at front in let had = h.opened i in omega arith;
     logged = taken_logged a v w.links l n ns at front h.logged;
   })
   moved_holds w y h (Steps v s q t what head honest alone may quiet d e) = subst Holds (sym e) (stepped w v s q t what head h alone d)
@@ -104,6 +122,7 @@ module _ (script : Script) where
   unfolding world.begins
   begins_holds = let quiet = links_from_quiet script.vats zero script.vats in record {
     paid = λ i. let none = quiet_counts i (world.links_from script.vats zero script.vats) quiet in omega arith;
+    opened = λ i. let none = quiet_open i (world.links_from script.vats zero script.vats) quiet in omega arith;
     logged = quiet_logged (world.links_from script.vats zero script.vats) quiet;
   }
 
@@ -117,6 +136,9 @@ module _ (script : Script) where
 
 pub one_note_lets_a_gift_go : OneNoteLetsAGiftGo
 one_note_lets_a_gift_go = λ script w r. reached_most script w r
+
+pub each_gift_is_opened_once : EachGiftIsOpenedOnce
+each_gift_is_opened_once = λ script w r i. let had = (reached_holds script w r).opened i in let most = drawn_most i w.drawn in let is = opening_is i w.links in omega arith
 
 pub notes_are_logged : NotesAreLogged
 notes_are_logged = λ script w r. (reached_holds script w r).logged

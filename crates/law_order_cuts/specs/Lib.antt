@@ -1,3 +1,4 @@
 pub mod Letting
+pub mod Opening
 pub mod Cuts
 pub mod Example

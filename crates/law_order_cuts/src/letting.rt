@@ -1,6 +1,7 @@
 //! The notes that let gifts go, in every world of a run.
 
 ghost use Rattle.law_order_cuts.specs.Letting.{FirstOpensLetGo, FirstShortensLetGo, NotesAreLogged, OneNoteLetsAGiftGo};
+ghost use Rattle.law_order_cuts.specs.Opening.{EachGiftIsOpenedOnce};
 
 /// In every world of a run at most one note is under way that lets the gift under a key go: a note of its
 /// provider that opens it, or the note by which its provider is asked to.
@@ -8,6 +9,14 @@ ghost use Rattle.law_order_cuts.specs.Letting.{FirstOpensLetGo, FirstShortensLet
 /// A vat puts such a note as it draws the word of the key, or in the place of one that arrives.
 pub fn one_note_lets_a_gift_go()
     ensures { OneNoteLetsAGiftGo }
+{}
+
+/// In every world of a run at most one note was ever put that opens the gift under a key, on all links together; and none
+/// as long as a note is under way that asks its provider to.
+///
+/// So a note that opens a gift and is under way is the only one that there ever was.
+pub fn each_gift_is_opened_once()
+    ensures { EachGiftIsOpenedOnce }
 {}
 
 /// Each note under way stands in the log of its link: so where one lets a gift go, one was put.

@@ -6,7 +6,7 @@ use Rattle.def_run.specs.World.{Script, Carry, Entry, World, Run, Goes, Stopped,
 use Rattle.law_fate.specs.Fate.{places, sent, fates}
 use Rattle.law_fate.proofs.RunFates.{places_and_fates}
 use Rattle.law_order.specs.Places.{item}
-use Rattle.law_order_carries.specs.Carries.{CarryKeeps, CarryEnds}
+use Rattle.law_order_carries.specs.Carries.{OrderKept, CarryEnds}
 use Rattle.law_order_carries.proofs.Whole.{message_carries_keep}
 use Rattle.law_order_runs.specs.Carrying.{MessageCarriesKeepInRuns}
 use Rattle.law_order_runs.proofs.Beginnings.{reached_is}
@@ -45,6 +45,6 @@ message_carries_keep_in_runs script once w x y es k a b o e f honest d n verb ys
     next : (j : ℕ) × (step script (Carry a b) j x ≡ Goes y)
     next = next_step script (Carry a b) x y es k w e f
 
-    go : CarryEnds script honest x y a b (item d.message n) → CarryKeeps script honest x y a b (item d.message n)
+    go : CarryEnds script honest x y a b (item d.message n) → OrderKept script honest x y a b (item d.message n)
     go (inl h) = h
-    go (inr h) = h.1 (left_nowhere script honest y b d.message (few d.message y (reached_is (Fated d.message) _ y f ((places_and_fates d.message script).1 w (es ++ Carry a b ∷ []) k o))) h.0)
+    go (inr h) = inl (h.1 (left_nowhere script honest y b d.message (few d.message y (reached_is (Fated d.message) _ y f ((places_and_fates d.message script).1 w (es ++ Carry a b ∷ []) k o))) h.0))

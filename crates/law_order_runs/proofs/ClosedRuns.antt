@@ -22,7 +22,7 @@ use Rattle.law_reference.proofs.VatStep.{link_all}
 use Rattle.law_order.specs.Ways.{Held, Way, Place, Nowhere, End}
 use Rattle.law_order.specs.Places.{aimed, by_host, by_follow, of_name, leads_in, leads_at, leads}
 use Rattle.law_order_runs.specs.Reaching.{InClosedRuns, IsOfVat, NamesAreOfVats, LinksAreThere, CarriesKeepInClosedRuns}
-use Rattle.law_order_runs.specs.Carrying.{BearsLive}
+use Rattle.law_order_carries.specs.Carries.{BearsMessage}
 use Rattle.law_order_runs.proofs.Beginnings.{entry_name, host_in_world}
 use Rattle.law_order_runs.proofs.LinkRuns.{reached_linked}
 use Rattle.law_order_runs.proofs.CarryRuns.{message_carries_keep_in_runs}
@@ -181,25 +181,21 @@ links_are_there = in_closed_runs _ (λ script knows w stands r. links_there scri
 -- ---- carries
 
 pub carries_keep_in_closed_runs : CarriesKeepInClosedRuns
-carries_keep_in_closed_runs script once knows w x y es k a b o e f honest d n verb ys c = message_carries_keep_in_runs script once w x y es k a b o e f honest d n verb ys live
+carries_keep_in_closed_runs script once knows w x y es k a b o e f honest d n verb ys c = message_carries_keep_in_runs script once w x y es k a b o e f honest d n verb ys borne
   where
     target : IsOfVat script n
     target = ((names_are_of_vats script once knows).1 w x es k o e).1 a b c.link d n verb ys c.found (subst (λ ns. IsAmong (Deliver d n verb ys) ns) (sym c.first) (inl refl))
 
-    live : BearsLive script honest x a b d n verb ys
-    live = record {
-      borne = record {
-        vat = c.vat;
-        there = c.there;
-        link = c.link;
-        found = c.found;
-        uncut = c.uncut;
-        rest = c.rest;
-        first = c.first;
-        sender = c.sender;
-        receiver = c.receiver;
-        onward = λ h q i. let way = (links_are_there script once knows).1 w x es k o e honest b h c.vat n q c.there target i in record { link = way.0; found = way.1; sender = c.receiver; receiver = c.onward h q i };
-        silent = c.silent;
-      };
-      gifts = c.gifts;
+    borne : BearsMessage script honest x a b d n verb ys
+    borne = record {
+      vat = c.vat;
+      there = c.there;
+      link = c.link;
+      found = c.found;
+      uncut = c.uncut;
+      rest = c.rest;
+      first = c.first;
+      sender = c.sender;
+      receiver = c.receiver;
+      onward = λ h q i. (links_are_there script once knows).1 w x es k o e honest b h c.vat n q c.there target i;
     }

@@ -4,6 +4,7 @@ pub mod Nowhere
 pub mod Truths
 pub mod ToldRuns
 pub mod OwnRuns
+pub mod NewGifts
 pub mod Bearing
 pub mod CarryRuns
 pub mod LinkRuns

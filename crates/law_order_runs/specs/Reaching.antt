@@ -7,11 +7,10 @@ use Rattle.def_run.specs.World.{Script, Carry, Entry, Link, World, Goes, begins,
 use Rattle.law_name.specs.Names.{IsAmong}
 use Rattle.law_name.specs.Runs.{KnowsOnce}
 use Rattle.law_fate.specs.WholeFateRuns.{KnowsVats}
-use Rattle.law_order.specs.Ways.{Way, Nowhere, End}
+use Rattle.law_order.specs.Ways.{Way, End}
 use Rattle.law_order.specs.Places.{item, leads}
-use Rattle.law_order_carries.specs.Carries.{CarryKeeps}
+use Rattle.law_order_carries.specs.Carries.{OrderKept}
 use Rattle.law_order_runs.specs.Beginnings.{InRunsOf}
-use Rattle.law_order_runs.specs.Carrying.{AllGiftsLive}
 
 -- Of each script whose vats know only vats of it, and by which no vat is told twice that it knows a vat, or that it knows itself.
 abbrev pub InClosedRuns : (Script → World → Type 0) → Type 0
@@ -30,8 +29,8 @@ abbrev pub LinksAreThere : Type 0
 LinksAreThere = InClosedRuns (λ script w. (honest : ℕ → Bool) (v h : ℕ) (s : Vat Name) (n q : Name) → slice_get w.vats v ≡ Some s → IsOfVat script n → leads script honest w.vats w.links v (Ref n) ≡ End (Way v h) q
     → (l : Link) × (link_at v h w.links ≡ Some l))
 
--- The first note on the link from a to b, which is not cut and has honest ends, delivers that message, and its receiver noticed the host of no gift in it.
-pub record BearsOn (script : Script) (honest : ℕ → Bool) (w : World) (a b : ℕ) (d : Delivery Name) (n : Name) (verb : Words) (ys : Passeds Name) : Type 0 where
+-- The first note on the link from a to b, which is not cut and has honest ends, delivers that message.
+pub record BearsOn (honest : ℕ → Bool) (w : World) (a b : ℕ) (d : Delivery Name) (n : Name) (verb : Words) (ys : Passeds Name) : Type 0 where
   pub vat : Vat Name
   pub there : slice_get w.vats b ≡ Some vat
   pub link : Link
@@ -41,13 +40,9 @@ pub record BearsOn (script : Script) (honest : ℕ → Bool) (w : World) (a b : 
   pub first : link.notes ≡ Deliver d n verb ys ∷ rest
   pub sender : honest a ≡ true
   pub receiver : honest b ≡ true
-  -- Where its target leads on over a link, the end of that is honest. Where it leads nowhere, no answer is asked for.
-  pub onward : (h : ℕ) (q : Name) → leads script honest w.vats w.links b (Ref n) ≡ End (Way b h) q → honest h ≡ true
-  pub silent : leads script honest w.vats w.links b (Ref n) ≡ Nowhere → d.asks ≡ false
-  pub gifts : AllGiftsLive vat ys
 
--- In every run of such a script, as the next entry carries that message, order is kept.
+-- In every run of such a script, as the next entry carries that message, order is kept; where the message goes on to a vat that is not honest, behind all others.
 abbrev pub CarriesKeepInClosedRuns : Type 0
 CarriesKeepInClosedRuns = (script : Script) → KnowsOnce script → KnowsVats script → (w x y : World) (es : List Entry) (k a b : ℕ)
     → open_from script zero script.vats (begins script) ≡ Goes w → steps_from script es k w ≡ Goes x → steps_from script (es ++ Carry a b ∷ []) k w ≡ Goes y
-    → (honest : ℕ → Bool) (d : Delivery Name) (n : Name) (verb : Words) (ys : Passeds Name) → BearsOn script honest x a b d n verb ys → CarryKeeps script honest x y a b (item d.message n)
+    → (honest : ℕ → Bool) (d : Delivery Name) (n : Name) (verb : Words) (ys : Passeds Name) → BearsOn honest x a b d n verb ys → OrderKept script honest x y a b (item d.message n)

@@ -18,10 +18,9 @@ pub fn links_are_there()
 {}
 
 /// In every run, as an entry carries a message from one honest vat to another, order is kept, as
-/// `message_carries_keep_in_runs` has it: wherever the message goes on, if that is to an honest vat.
+/// `message_carries_keep_in_runs` has it: whatever the message asks for and brings, and wherever it goes on.
 ///
-/// Left out are three cases: it goes on to a vat that is not honest; its target is broken and it asks for an answer; an
-/// argument is a gift of a vat that the receiver noticed as cut off. It is asked what `names_are_of_vats` asks.
+/// It is asked what `names_are_of_vats` asks.
 pub fn carries_keep_in_closed_runs()
     ensures { CarriesKeepInClosedRuns }
 {}

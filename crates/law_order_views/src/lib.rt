@@ -1,7 +1,7 @@
 //! Laws of the order of messages as names with views settle.
 #![tactic(auto)]
 
-ghost use Rattle.law_order_views.specs.Led.{ViewedNamesSettleSo, ViewsSettleQuietly};
+ghost use Rattle.law_order_views.specs.Led.{SeveredNamesBreakQuietly, ViewedNamesSettleSo, ViewsSettleQuietly};
 ghost use Rattle.law_order_views.specs.Wholes.{LedSettlingsKeep};
 
 /// As a name that holds nothing settles to the data or the object to which its view settled, no way changes: each
@@ -14,6 +14,15 @@ pub fn views_settle_quietly()
 /// follows what it knows to an end.
 pub fn viewed_names_settle_so()
     ensures { ViewedNamesSettleSo }
+{}
+
+/// As a name breaks whose host the vat noticed, no reference leads elsewhere: each to it led nowhere. The ways only grow,
+/// and a vat that was ready is ready.
+///
+/// It asks that the name held nothing and was unsettled, that it is no object and no gift of the vat, and that the vat
+/// follows all to an end after it.
+pub fn severed_names_break_quietly()
+    ensures { SeveredNamesBreakQuietly }
 {}
 
 /// What is ahead of a reference or of a message stays ahead of it, and what is doomed stays doomed, through a whole

@@ -1,1 +1,12 @@
-pub mod Astray
+pub mod Meets
+pub mod Vats
+pub mod SourceContents
+pub mod SourceTokens
+pub mod SourceValues
+pub mod Sources
+pub mod Checked
+pub mod NeverAstray
+pub mod AcceptedTexts
+pub mod Bounded
+pub mod ReadTexts
+pub mod FramesOfNotes

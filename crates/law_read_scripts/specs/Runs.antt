@@ -9,9 +9,9 @@ use Rattle.ev_reader.specs.Program.{Answers}
 use Rattle.ev_script.specs.Script.{read}
 use Rattle.ev_script.specs.declared.script.Script.{Script}
 use Rattle.ev_script.specs.declared.script.VatScript.{VatScript}
-use Rattle.law_covered.specs.Formed.{AllOf}
+use Rattle.law_never_astray.specs.Formed.{AllOf}
 use Rattle.law_schedule.specs.Scripts.{machine_script}
-use Rattle.law_checked.specs.Checked.{IsGiven}
+use Rattle.law_read_scripts.specs.Checked.{IsGiven}
 
 -- the program of a vat is read to this tree, under names of the safe scope and of vats that it knows
 abbrev pub IsReadTo : List VatScript → VatScript → List Node → Type 0

@@ -1,5 +1,6 @@
 -- What is printed of integers is read again as a value.
-use Rattle.std.proofs.Common.{◌||◌, ◌≡◌, ◌<◌, ◌≤◌, ◌-◌, ◌++◌, ◌^◌, ℕ, zero, suc, Bool, true, false, not, cond, eqb, ltb, leb, List, [], ◌∷◌, Option, Some, None, length, get_or, refl, sym, ◌∙◌, ap, arith}
+use Rattle.std.proofs.Common.{◌||◌, ◌≡◌, ◌<◌, ◌≤◌, ◌+◌, ◌-◌, ◌%◌, ◌++◌, ◌^◌, ℕ, zero, suc, Bool, true, false, not, cond, eqb, ltb, leb, List, [], ◌∷◌, Option, Some, None, length, length-append, get_or, refl, sym, ◌∙◌, ap, arith}
+use lib.ListN.{get_or-append}
 use Rattle.std.specs.Prelude.{ℤ, pos, negsuc, neg_ℤ, decimal, codes, option_map, Ok}
 use Rattle.std.specs.Char.{is_ascii_digit}
 use Rattle.std.specs.Fmt.{signed_decimal}
@@ -8,7 +9,7 @@ use Rattle.std.specs.Str.{bytes_eq, all_ascii_digits}
 use Rattle.std.specs.Str.Parse.{digits_value}
 use Rattle.std.proofs.lemmas.Bool.{lt-ltb, le-leb}
 use Rattle.std.proofs.lemmas.Bool.Decides.{nat_tests}
-use Rattle.std.proofs.lemmas.Fmt.{decimal_digit, decimal_is_IsNumeral, decimal_nonempty, first_decimal}
+use Rattle.std.proofs.lemmas.Fmt.{decimal_by_steps_wide, decimal_digit, decimal_is_IsNumeral_wide}
 use Rattle.std.proofs.lemmas.Slice.Eq.{bytes_eq-Decides}
 use Rattle.std.proofs.lemmas.Str.Parse.{IsNumeralModel, numerals_by_value, tells_all_ascii_digits}
 use Rattle.def_event.specs.declared.shown.Shown.{Int}
@@ -41,7 +42,7 @@ pub numbered_by : (names : List (List ℕ)) (mark : ℕ) (word : List ℕ) (o : 
 numbered_by names mark word None s e f = rw s refl
 numbered_by names mark word (Some p) s e f = rw s (rw (no_vat names p.0 e (low_front word p.0 p.1 mark (split_is mark word p s) f)) refl)
 
-not_word : (word other : List ℕ) (mark : ℕ) (t : Bool) → bytes_eq word other ≡ t → starts mark other ≡ true → starts mark word ≡ false → bytes_eq word other ≡ false
+pub not_word : (word other : List ℕ) (mark : ℕ) (t : Bool) → bytes_eq word other ≡ t → starts mark other ≡ true → starts mark word ≡ false → bytes_eq word other ≡ false
 not_word word other mark false s o w = s
 not_word word other mark true s o w = let one : starts mark word ≡ true = ap (starts mark) ((bytes_eq-Decides word other).0 s) ∙ o in absurd cc
 
@@ -69,8 +70,15 @@ as_value names word z lawful first i =
 own : IsNumeralModel (λ ds. all_ascii_digits ds ≡ true) (digits_value 10)
 own = numerals_by_value _ tells_all_ascii_digits
 
-digits_alone : (n : ℕ) → n < 2 ^ 64 → all_ascii_digits (decimal n) ≡ true
-digits_alone n h = own.from (decimal n) (decimal_is_IsNumeral n h).0.1
+pub digits_alone : (n : ℕ) → n < 10 ^ 64 → all_ascii_digits (decimal n) ≡ true
+digits_alone n h = own.from (decimal n) (decimal_is_IsNumeral_wide n h).0.1
+
+pub decimal_some : (n : ℕ) → n < 10 ^ 64 → 0 < length (decimal n)
+decimal_some n h = (decimal_is_IsNumeral_wide n h).0.0
+
+first_digit : (n : ℕ) → 0 < n → n < 10 ^ 64 → 48 < get_or (decimal n) 0 0
+first_digit n some h = (decimal_by_steps_wide (λ m ds. (0 < length ds) × (0 < m → 48 < get_or ds 0 0)) (λ m l. (omega arith, λ a. omega arith))
+    (λ m ds l h. (omega (arith, length-append ds ((48 + m % 10) ∷ [])), λ a. omega (arith, get_or-append ds ((48 + m % 10) ∷ []) 0 0 h.0, h.1 (omega arith)))) n h).1 some
 
 not_zero : (ds : List ℕ) → 48 < get_or ds 0 0 → begins_with_zero ds ≡ false
 not_zero [] h = refl
@@ -80,18 +88,18 @@ or_true : (a : Bool) → (a || true) ≡ true
 or_true true = refl
 or_true false = refl
 
-no_leading_zero : (n : ℕ) → n < 2 ^ 64 → (eqb (length (decimal n)) 1 || not (begins_with_zero (decimal n))) ≡ true
+no_leading_zero : (n : ℕ) → n < 10 ^ 64 → (eqb (length (decimal n)) 1 || not (begins_with_zero (decimal n))) ≡ true
 no_leading_zero zero h = rw (decimal_digit 0 (omega arith)) refl
-no_leading_zero (suc n) h = rw (not_zero (decimal (suc n)) (first_decimal (suc n) (omega arith) h)) (or_true (eqb (length (decimal (suc n))) 1))
+no_leading_zero (suc n) h = rw (not_zero (decimal (suc n)) (first_digit (suc n) (omega arith) h)) (or_true (eqb (length (decimal (suc n))) 1))
 
 counted : (most : ℕ) (word : List ℕ) (n : ℕ) → all_ascii_digits word ≡ true → (eqb (length word) 1 || not (begins_with_zero word)) ≡ true → ltb 0 (length word) ≡ true
     → leb (digits_value 10 word) most ≡ true → digits_value 10 word ≡ n → number most word ≡ Some n
 counted most word n digits first some small value = rw (digits, first, some, small) (ap Some value)
 
-number_again : (most n : ℕ) → n < 2 ^ 64 → n ≤ most → number most (decimal n) ≡ Some n
+number_again : (most n : ℕ) → n < 10 ^ 64 → n ≤ most → number most (decimal n) ≡ Some n
 number_again most n h l =
-    let same : digits_value 10 (decimal n) ≡ n = (decimal_is_IsNumeral n h).1 in
-    counted most (decimal n) n (digits_alone n h) (no_leading_zero n h) (lt-ltb 0 (length (decimal n)) (decimal_nonempty n h)) (le-leb (digits_value 10 (decimal n)) most (omega (arith, same, l))) same
+    let same : digits_value 10 (decimal n) ≡ n = (decimal_is_IsNumeral_wide n h).1 in
+    counted most (decimal n) n (digits_alone n h) (no_leading_zero n h) (lt-ltb 0 (length (decimal n)) (decimal_some n h)) (le-leb (digits_value 10 (decimal n)) most (omega (arith, same, l))) same
 
 -- ---- integers
 
@@ -107,9 +115,9 @@ digits_no_letter (b ∷ word) e =
     let d = (both (is_ascii_digit b) (all_ascii_digits word) e).0 in
     record { low = digit_is_low b d; n = digit_is_not b 110 d refl; t = digit_is_not b 116 d refl; f = digit_is_not b 102 d refl }
 
-no_sign : (word : List ℕ) → all_ascii_digits word ≡ true → starts 45 word ≡ false
-no_sign [] e = refl
-no_sign (b ∷ word) e = digit_is_not b 45 (both (is_ascii_digit b) (all_ascii_digits word) e).0 refl
+pub no_mark : (mark : ℕ) (word : List ℕ) → is_ascii_digit mark ≡ false → all_ascii_digits word ≡ true → starts mark word ≡ false
+no_mark mark [] m e = refl
+no_mark mark (b ∷ word) m e = digit_is_not b mark (both (is_ascii_digit b) (all_ascii_digits word) e).0 m
 
 integer_pos : (word : List ℕ) (n : ℕ) → 0 < length word → starts 45 word ≡ false → number (2 ^ 127 - 1) word ≡ Some n → integer word ≡ Some (pos n)
 integer_pos [] n h s e = absurd (omega arith)
@@ -119,15 +127,20 @@ integer_neg : (digits : List ℕ) (n : ℕ) → begins_with_zero digits ≡ fals
 integer_neg digits n z e =
     ap (λ t. option_map (λ (m : ℕ). neg_ℤ (pos m)) (cond {A = Option ℕ} t None (number (2 ^ 127) digits))) z ∙ ap (option_map (λ (m : ℕ). neg_ℤ (pos m))) e
 
-pub positive_again : (names : List (List ℕ)) (n : ℕ) → list_all is_vat_name names ≡ true → n < 2 ^ 64 → value names (signed_decimal (pos n)) ≡ Ok (Int (pos n))
-positive_again names n lawful h =
-    as_value names (decimal n) (pos n) lawful (digits_no_letter (decimal n) (digits_alone n h))
-    (integer_pos (decimal n) n (decimal_nonempty n h) (no_sign (decimal n) (digits_alone n h)) (number_again (2 ^ 127 - 1) n h (omega arith)))
+pub wide : (n : ℕ) → n ≤ 2 ^ 127 → n < 10 ^ 64
+wide n h = omega arith
 
-pub negative_again : (names : List (List ℕ)) (n : ℕ) → list_all is_vat_name names ≡ true → suc n < 2 ^ 64 → value names (signed_decimal (negsuc n)) ≡ Ok (Int (negsuc n))
+positive_again : (names : List (List ℕ)) (n : ℕ) → list_all is_vat_name names ≡ true → n < 2 ^ 127 → value names (signed_decimal (pos n)) ≡ Ok (Int (pos n))
+positive_again names n lawful h =
+    let small = wide n (omega arith) in
+    as_value names (decimal n) (pos n) lawful (digits_no_letter (decimal n) (digits_alone n small))
+    (integer_pos (decimal n) n (decimal_some n small) (no_mark 45 (decimal n) refl (digits_alone n small)) (number_again (2 ^ 127 - 1) n small (omega arith)))
+
+negative_again : (names : List (List ℕ)) (n : ℕ) → list_all is_vat_name names ≡ true → n < 2 ^ 127 → value names (signed_decimal (negsuc n)) ≡ Ok (Int (negsuc n))
 negative_again names n lawful h =
+    let small = wide (suc n) (omega arith) in
     as_value names (45 ∷ decimal (suc n)) (negsuc n) lawful (record { low = refl; n = refl; t = refl; f = refl })
-    (integer_neg (decimal (suc n)) n (not_zero (decimal (suc n)) (first_decimal (suc n) (omega arith) h)) (number_again (2 ^ 127) (suc n) h (omega arith)))
+    (integer_neg (decimal (suc n)) n (not_zero (decimal (suc n)) (first_digit (suc n) (omega arith) small)) (number_again (2 ^ 127) (suc n) small (omega arith)))
 
 pub integers_again : IntegersAreReadAgain
 integers_again names (pos n) are h = positive_again names n are.lawful h

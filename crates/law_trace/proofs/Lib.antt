@@ -3,3 +3,17 @@ pub mod IntegersAgain
 pub mod TextsAgain
 pub mod OthersAgain
 pub mod CharactersAgain
+pub mod TextsSeen
+pub mod AnyValue
+pub mod WordsAgain
+pub mod PassedAgain
+pub mod RenamedFits
+pub mod RenamedSame
+pub mod LinesAgain
+pub mod NotesAgain
+pub mod EventsAgain
+pub mod NamesFound
+pub mod WholeAgain
+pub mod ScanLemmas
+pub mod VatsFound
+pub mod Placed

@@ -63,7 +63,7 @@ last_of (x ∷ xs) b =
     let place : length (x ∷ (xs ++ b ∷ [])) - 1 ≡ suc (length (xs ++ b ∷ []) - 1) = omega (arith, long) in
     ap (slice_index (x ∷ (xs ++ b ∷ []))) place ∙ last_of xs b
 
-text_again : (t : List ℕ) → text (quoted t) ≡ Ok t
+pub text_again : (t : List ℕ) → text (quoted t) ≡ Ok t
 text_again t = rw (reads_quoted t) (rw ((bytes_eq-Decides (quoted t) (quoted t)).1 refl) refl)
 
 whole_again : (t : List ℕ) → length (chars t) ≤ 32 → whole (quoted t) ≡ Ok t
@@ -83,15 +83,16 @@ text_by names word t l s p q b e = rw l (rw s (rw p (rw q (rw b (rw e refl)))))
 plain_by : (names : List (List ℕ)) (rest : List ℕ) → constant (34 ∷ rest) ≡ None → primitive (34 ∷ rest) ≡ None → parts.name names (34 ∷ rest) ≡ None → parts.plain names (34 ∷ rest) ≡ None
 plain_by names rest c p n = rw c (rw p (rw n refl))
 
-pub short_again : (names : List (List ℕ)) (t : List ℕ) → list_all is_vat_name names ≡ true → length (chars t) ≤ 32 → value names (quoted t) ≡ Ok (Text t)
-short_again names t lawful h =
-    let word = quoted t in
+-- a text by what its spelling is read as
+pub text_value_again : (names : List (List ℕ)) (rest t : List ℕ) → list_all is_vat_name names ≡ true → shown_text (34 ∷ rest) ≡ Ok t → value names (34 ∷ rest) ≡ Ok (Text t)
+text_value_again names rest t lawful shown =
+    let word = 34 ∷ rest in
     text_by names word t (numbered_by names 37 word (split_at 37 word) refl lawful refl) (numbered_by names 38 word (split_at 38 word) refl lawful refl)
-    (plain_by names (flat_map escaped t ++ 34 ∷ []) (no_constant word refl refl refl) (no_primitive word refl) (no_name names word lawful refl refl))
-    (no_front 39 word (behind_mark 39 word) refl refl) (label_by word (split_at 58 word) refl refl) (shown_again t h)
+    (plain_by names rest (no_constant word refl refl refl) (no_primitive word refl) (no_name names word lawful refl refl))
+    (no_front 39 word (behind_mark 39 word) refl refl) (label_by word (split_at 58 word) refl refl) shown
 
 pub as_printed : (t : List ℕ) → length (chars t) ≤ 32 → shortened t ≡ quoted t
 as_printed t h = rw (le-leb (length (chars t)) 32 h) refl
 
 pub short_texts_again : ShortTextsAreReadAgain
-short_texts_again names t are h = ap (value names) (as_printed t h) ∙ short_again names t are.lawful h
+short_texts_again names t are h = ap (value names) (as_printed t h) ∙ text_value_again names (flat_map escaped t ++ 34 ∷ []) t are.lawful (shown_again t h)

@@ -33,7 +33,7 @@ both false b e = absurd cc
 -- ---- how names begin
 
 -- the first byte is that of a name: a small letter, or `@`
-abbrev begins_name : List ℕ → Bool
+abbrev pub begins_name : List ℕ → Bool
 begins_name [] = false
 begins_name (b ∷ word) = is_lower b || eqb b 64
 
@@ -53,7 +53,7 @@ vat_begins [] v e h = absurd (omega arith)
 vat_begins (x ∷ names) zero e h = letter_first x (both (is_vat_name x) (list_all is_vat_name names) e).0
 vat_begins (x ∷ names) (suc v) e h = vat_begins names v (both (is_vat_name x) (list_all is_vat_name names) e).1 (omega arith)
 
-begins_so : (names : List (List ℕ)) (x : Name) → AreNames names → FitsName (length names) x → begins_name (lines.name names x) ≡ true
+pub begins_so : (names : List (List ℕ)) (x : Name) → AreNames names → FitsName (length names) x → begins_name (lines.name names x) ≡ true
 begins_so names (Object v n) are fits = lower_name (vat names v) _ (vat_begins names v are.lawful fits.0)
 begins_so names (Own v n) are fits = lower_name (vat names v) _ (vat_begins names v are.lawful fits.0)
 begins_so names (Gift v n) are fits = lower_name (vat names v) _ (vat_begins names v are.lawful fits.0)
@@ -93,7 +93,7 @@ pub no_front : (mark : ℕ) (word : List ℕ) (o : Option (List ℕ)) → behind
 no_front mark word None s f = s
 no_front mark word (Some rest) s f = let one : starts mark word ≡ true = ap (starts mark) (begins mark word rest s) ∙ same_mark mark in absurd cc
 
-starts_not : (mark : ℕ) (word : List ℕ) → is_lower mark ≡ false → eqb mark 64 ≡ false → begins_name word ≡ true → starts mark word ≡ false
+pub starts_not : (mark : ℕ) (word : List ℕ) → is_lower mark ≡ false → eqb mark 64 ≡ false → begins_name word ≡ true → starts mark word ≡ false
 starts_not mark [] l r e = refl
 starts_not mark (b ∷ word) l r e = other_first mark b l r e
 

@@ -1,5 +1,5 @@
 -- What is printed of names, lists, slots, integers and short texts is read again as a value.
-use Rattle.std.specs.Prelude.{◌≡◌, ℕ, ℤ, pos, negsuc, suc, true, false, ◌<◌, ◌≤◌, ◌^◌, ◌⊎◌, List, length, Some, Ok}
+use Rattle.std.specs.Prelude.{◌≡◌, ℕ, ℤ, pos, negsuc, true, false, ◌<◌, ◌≤◌, ◌^◌, ◌⊎◌, List, length, Some, Ok}
 use Rattle.std.specs.Fmt.{signed_decimal}
 use Rattle.std.specs.Char.{IsScalar}
 use Rattle.std.specs.Str.{chars}
@@ -17,14 +17,14 @@ pub record ThingsAreReadAgain : Type 0 where
   pub list : (names : List (List ℕ)) (v n : ℕ) → AreNames names → v < length names → n < 2 ^ 64 → value names (lines.numbered names v 37 n) ≡ Ok (ListOf v n)
   pub slot : (names : List (List ℕ)) (v n : ℕ) → AreNames names → v < length names → n < 2 ^ 64 → value names (lines.numbered names v 38 n) ≡ Ok (Slot v n)
 
--- the integer lies between -2^64 and 2^64
-abbrev pub IsSmall : ℤ → Type 0
-IsSmall (pos n) = n < 2 ^ 64
-IsSmall (negsuc n) = suc n < 2 ^ 64
+-- an integer of 128 bits
+abbrev pub IsWide : ℤ → Type 0
+IsWide (pos n) = n < 2 ^ 127
+IsWide (negsuc n) = n < 2 ^ 127
 
 -- an integer that is printed is read as itself
 abbrev pub IntegersAreReadAgain : Type 0
-IntegersAreReadAgain = (names : List (List ℕ)) (z : ℤ) → AreNames names → IsSmall z → value names (signed_decimal z) ≡ Ok (Int z)
+IntegersAreReadAgain = (names : List (List ℕ)) (z : ℤ) → AreNames names → IsWide z → value names (signed_decimal z) ≡ Ok (Int z)
 
 -- a text of at most 32 characters that is printed is read as itself
 abbrev pub ShortTextsAreReadAgain : Type 0

@@ -7,7 +7,7 @@ pub fn things_are_read_again()
     ensures { ThingsAreReadAgain }
 {}
 
-/// An integer between -2^64 and 2^64 that is printed is read as itself.
+/// An integer of 128 bits that is printed is read as itself.
 pub fn integers_are_read_again()
     ensures { IntegersAreReadAgain }
 {}

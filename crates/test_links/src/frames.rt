@@ -5,8 +5,6 @@ use def_op::{Desc, Op, Plain, Resolved};
 use ev_op::{decode, encode};
 use ev_parts::parts;
 use std::alloc::Global;
-use std::fmt;
-use std::fmt::Write;
 
 /// Adds the bytes that a word spells.
 fn push_word(alloc: Global, word: &str, bytes: &mut Vec<u8>) -> Option<()> {
@@ -130,35 +128,4 @@ fn frames(rt: HostRuntime) {
     ] {
         assert_eq!(rt; first_wrong(rt.alloc(), front, rows), None);
     }
-}
-
-/// The items of a message, each with its offset.
-const ITEMS: &str =
-    "0 Code(1), 1 Number(0), 2 Code(9), 3 Number(7), 4 Other, 9 Number(3), 10 Code(13), 11 Vat(2), \
-    12 Swiss(54153188427484749102756803625621698678), 28 Code(7), 29 Number(49), 30 Code(3), 31 Other, ";
-
-/// The items of a frame that are allowed.
-fn items(alloc: Global, frame: &[u8]) -> Result<String, fmt::Error> {
-    let mut out = String::new(alloc);
-    if let Ok(found) = parts(alloc, frame) {
-        for spot in found.spots.as_slice() {
-            write!(out, "{} {:?}, ", spot.at, spot.part)?;
-        }
-    }
-    Ok(out)
-}
-
-fn are_items(alloc: Global, frame: &[u8], due: &str) -> bool {
-    match items(alloc, frame) {
-        Ok(items) => items.as_str() == due,
-        Err(_) => false,
-    }
-}
-
-#[test]
-fn items_of_a_frame(rt: HostRuntime) {
-    assert!(rt; are_items(rt.alloc(), b"\x01", "0 Code(1), "));
-    let frame =
-        b"\x01\x00\x09\x07\x04meet\x03\x0d\x02\x76\xb8\xe0\xad\xa0\xf1\x3d\x90\x40\x5d\x6a\xe5\x53\x86\xbd\x28\x07\x31\x03\x7f";
-    assert!(rt; are_items(rt.alloc(), frame, ITEMS));
 }

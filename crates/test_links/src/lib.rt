@@ -1,11 +1,7 @@
-//! Tests of what vats exchange: operations and their bytes, gifts, and links.
+//! Tests of frames: operations and their bytes, and where bytes that are no frame have their fault.
 #![tactic(auto)]
 
 #[cfg(test)]
 mod frames;
-#[cfg(test)]
-mod intro;
-#[cfg(test)]
-mod link;
 #[cfg(test)]
 mod rows;

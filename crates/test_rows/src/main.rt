@@ -22,9 +22,7 @@ use ev_io::{MemorySink, MemorySource};
 use ev_kernel_reader::read_form;
 use ev_scope::{Scoped, check};
 use ev_script::{Script, read_script};
-use ev_top::top;
-use ev_vat::{Vat, VatStop};
-use ev_world::{RunEnd, write_run};
+use ev_top::{Program, RunEnd, Vat, VatStop, top, write_run};
 use std::alloc::Global;
 use std::process::ExitCode;
 use std::{fs, io};
@@ -299,9 +297,10 @@ fn run_is_as_told(
 }
 
 /// Whether the opening turn of a tree goes astray.
-fn goes_astray(alloc: Global, tree: &Kernel, reach: Reach) -> Result<bool, Memory> {
+fn goes_astray(alloc: Global, tree: Kernel, reach: Reach) -> Result<bool, Memory> {
+    let program = Program::new(alloc, tree)?;
     let mut vat = Vat::start(alloc, VatId(0), &[], &[], &[0; 32], reach.fuel)?;
-    let opened = vat.first_turn(tree, &[], reach.limits);
+    let opened = vat.first_turn(&program, &[], reach.limits);
     Ok(matches!(opened, Err(VatStop::Astray)))
 }
 
@@ -310,7 +309,7 @@ fn form_is_as_told(alloc: Global, run: &str, row: &Row<'_>) -> Option<bool> {
     let reach = reach_of(run)?;
     if row.status == "astray" {
         let tree = read_form(alloc, row.input).ok()?;
-        return goes_astray(alloc, &tree, reach).ok();
+        return goes_astray(alloc, tree, reach).ok();
     }
     let program = program_of(alloc, row.input)?;
     let script = script_of(alloc, reach.turns, reach.fuel)?;

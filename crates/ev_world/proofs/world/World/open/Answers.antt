@@ -2,12 +2,12 @@ use Rattle.std.proofs.Common.{◌≡◌, ◌∙◌, ℕ, None, List, [], ◌∷�
 use Rattle.std.proofs.lemmas.Bool.{ltb-true}
 use Rattle.std.proofs.lemmas.Option.{slice_get_read}
 use Rattle.std.specs.Vec.{with_item}
+use Rattle.def_kernel.specs.declared.node.Node.{Node}
 use Rattle.def_local.specs.Numbers.{nothing_brought, open_member}
 use Rattle.def_machine.specs.Values.{Words}
 use Rattle.def_run.specs.World.{Opens}
 use Rattle.ev_resident.specs.declared.Sending.{Sending}
 use Rattle.ev_naming.specs.Names.{Entry}
-use Rattle.ev_scope.specs.declared.accepted.Scoped.{Scoped}
 use Rattle.ev_world.specs.Exporting.{AreCounted}
 use Rattle.ev_world.specs.Midway.{IsMidway}
 use Rattle.ev_world.specs.declared.world.World.{World}
@@ -34,12 +34,12 @@ returns-in_err-sendings-clause-step c = λ S w p there is_at steady.
     let vs = c.deref-2.result.now in
     let found : slice_get rs u ≡ Some r = slice_get_read rs (length rs) u r refl (ltb-true u (length rs) (sym c.in-Some-get_mut.ensures.item.0)) c.in-Some-get_mut.ensures.item.1 in
     let program : slice_get was.programs.items u ≡ Some x =
-    subst (λ (xs : List Scoped). slice_get xs u ≡ Some x) c.deref.ensures.value (slice_get_read ps (length ps) u x refl (ltb-true u (length ps) (sym c.in-Some.ensures.lookup.0)) c.in-Some.ensures.lookup.1) in
+    subst (λ (xs : List (List Node)). slice_get xs u ≡ Some x) c.deref.ensures.value (slice_get_read ps (length ps) u x refl (ltb-true u (length ps) (sym c.in-Some.ensures.lookup.0)) c.in-Some.ensures.lookup.1) in
     let nouns : slice_get was.nouns.items u ≡ Some ns =
     subst (λ (xs : List (List Words)). slice_get xs u ≡ Some ns) c.deref-2.ensures.value (slice_get_read vs (length vs) u ns refl (ltb-true u (length vs) (sym c.in-Some-get.ensures.lookup.0)) c.in-Some-get.ensures.lookup.1) in
     stops_with S c.from_residual-in_err-sendings.result c.in_err-sendings.field-0.0 u (open_member S u p w (slice_get w.members u)) (record was { residents = with_item was.residents u c.first_turn.new.self; words = c.first_turn.new.words })
     c.from_residual-in_err-sendings.ensures
-    (open_halts S w u p was r x ns c.tree.result.now c.as_slice.result.now there is_at found program nouns c.tree.ensures c.as_slice.ensures {A = Vec Sending Global} (λ (xs : Vec Sending Global). xs.items) c.in_err-sendings.field-0.0 c.first_turn.new.self.member
+    (open_halts S w u p was r x ns x c.as_slice.result.now there is_at found program nouns refl c.as_slice.ensures {A = Vec Sending Global} (λ (xs : Vec Sending Global). xs.items) c.in_err-sendings.field-0.0 c.first_turn.new.self.member
     (λ m same is. c.in_err-sendings.ensures.step m same is))
 
 pub returns-clause-step : goal.returns-clause-step
@@ -56,7 +56,7 @@ returns-clause-step c = λ S w p there is_at steady.
     let before = c.as_slice-2.result.now in
     let found : slice_get rs u ≡ Some r = slice_get_read rs (length rs) u r refl (ltb-true u (length rs) (sym c.in-Some-get_mut.ensures.item.0)) c.in-Some-get_mut.ensures.item.1 in
     let program : slice_get was.programs.items u ≡ Some x =
-    subst (λ (xs : List Scoped). slice_get xs u ≡ Some x) c.deref.ensures.value (slice_get_read ps (length ps) u x refl (ltb-true u (length ps) (sym c.in-Some.ensures.lookup.0)) c.in-Some.ensures.lookup.1) in
+    subst (λ (xs : List (List Node)). slice_get xs u ≡ Some x) c.deref.ensures.value (slice_get_read ps (length ps) u x refl (ltb-true u (length ps) (sym c.in-Some.ensures.lookup.0)) c.in-Some.ensures.lookup.1) in
     let nouns : slice_get was.nouns.items u ≡ Some ns =
     subst (λ (xs : List (List Words)). slice_get xs u ≡ Some ns) c.deref-2.ensures.value (slice_get_read vs (length vs) u ns refl (ltb-true u (length vs) (sym c.in-Some-get.ensures.lookup.0)) c.in-Some-get.ensures.lookup.1) in
     let mid : World = record was { residents = with_item was.residents u q; words = c.first_turn.new.words; history = c.push.new.self } in
@@ -73,7 +73,7 @@ returns-clause-step c = λ S w p there is_at steady.
       nouns = refl;
       wire = refl;
     } in
-    open_comes S w u p was r x ns c.tree.result.now c.as_slice.result.now there is_at found program nouns c.tree.ensures c.as_slice.ensures {A = Vec Sending Global} (λ (xs : Vec Sending Global). xs.items) c.in_ok-me.me c.in_ok-sendings.sendings before mid c.finish.new.self q
+    open_comes S w u p was r x ns x c.as_slice.result.now there is_at found program nouns refl c.as_slice.ensures {A = Vec Sending Global} (λ (xs : Vec Sending Global). xs.items) c.in_ok-me.me c.in_ok-sendings.sendings before mid c.finish.new.self q
     c.in_ok-me.ensures steady took (λ m same is. c.in_ok-sendings.ensures.step m same is) refl c.in_ok-push.ensures.ok
     (λ m s midway. c.in_ok-finish.ensures.finished S w m (Opens c.in_ok-me.me ∷ []) (nothing_brought m) s
     (subst (λ (es : List Entry). IsMidway S w c.in_ok-me.me m (Opens c.in_ok-me.me ∷ []) (nothing_brought m) s before c.in_ok-sendings.sendings.items None es mid) (sym c.new.ensures) midway))

@@ -2,11 +2,11 @@ use Rattle.std.proofs.Common.{◌≡◌, ◌∙◌, ℕ, None, List, [], ◌∷�
 use Rattle.std.proofs.lemmas.Bool.{ltb-true}
 use Rattle.std.proofs.lemmas.Option.{slice_get_read}
 use Rattle.std.specs.Vec.{with_item}
+use Rattle.def_kernel.specs.declared.node.Node.{Node}
 use Rattle.def_local.specs.Numbers.{nothing_brought, step, step_number}
 use Rattle.def_run.specs.World.{Turn, Turned}
 use Rattle.ev_resident.specs.declared.Sending.{Sending}
 use Rattle.ev_naming.specs.Names.{Entry}
-use Rattle.ev_scope.specs.declared.accepted.Scoped.{Scoped}
 use Rattle.ev_world.specs.Exporting.{AreCounted}
 use Rattle.ev_world.specs.Midway.{IsMidway}
 use Rattle.ev_world.specs.declared.world.World.{World}
@@ -35,11 +35,11 @@ returns-in_err-sendings-clause-step c = λ S w is_at steady.
     let found : slice_get rs u ≡ Some r =
     subst (λ (i : ℕ). slice_get rs i ≡ Some r) c.vat.view_is (slice_get_read rs (length rs) k r refl (ltb-true k (length rs) (sym c.in-Some-get_mut.ensures.item.0)) c.in-Some-get_mut.ensures.item.1) in
     let program : slice_get was.programs.items u ≡ Some x =
-    subst (λ (xs : List Scoped). slice_get xs u ≡ Some x) c.deref.ensures.value
+    subst (λ (xs : List (List Node)). slice_get xs u ≡ Some x) c.deref.ensures.value
     (subst (λ (i : ℕ). slice_get ps i ≡ Some x) c.vat.view_is (slice_get_read ps (length ps) k x refl (ltb-true k (length ps) (sym c.in-Some.ensures.lookup.0)) c.in-Some.ensures.lookup.1)) in
     stops_with S c.from_residual-in_err-sendings.result c.in_err-sendings.field-0.0 (step_number S c.args.number) (step S (Turn u) c.args.number w) (record was { residents = with_item was.residents k c.turn.new.self; words = c.turn.new.words })
     c.from_residual-in_err-sendings.ensures
-    (turn_stops_so S w u c.args.number was r x c.tree.result.now is_at found program c.tree.ensures {A = Vec Sending Global} (λ (xs : Vec Sending Global). xs.items) c.in_err-sendings.field-0.0 c.turn.new.self.member (λ m same is. c.in_err-sendings.ensures.step m same is))
+    (turn_stops_so S w u c.args.number was r x x is_at found program refl {A = Vec Sending Global} (λ (xs : Vec Sending Global). xs.items) c.in_err-sendings.field-0.0 c.turn.new.self.member (λ m same is. c.in_err-sendings.ensures.step m same is))
 
 pub returns-in_default-2-clause-step : goal.returns-in_default-2-clause-step
 returns-in_default-2-clause-step c = λ S w is_at steady.
@@ -56,7 +56,7 @@ returns-in_default-2-clause-step c = λ S w is_at steady.
     let found : slice_get rs u ≡ Some r =
     subst (λ (i : ℕ). slice_get rs i ≡ Some r) c.vat.view_is (slice_get_read rs (length rs) k r refl (ltb-true k (length rs) (sym c.in-Some-get_mut.ensures.item.0)) c.in-Some-get_mut.ensures.item.1) in
     let program : slice_get was.programs.items u ≡ Some x =
-    subst (λ (xs : List Scoped). slice_get xs u ≡ Some x) c.deref.ensures.value
+    subst (λ (xs : List (List Node)). slice_get xs u ≡ Some x) c.deref.ensures.value
     (subst (λ (i : ℕ). slice_get ps i ≡ Some x) c.vat.view_is (slice_get_read ps (length ps) k x refl (ltb-true k (length ps) (sym c.in-Some.ensures.lookup.0)) c.in-Some.ensures.lookup.1)) in
     let mid : World = record was { residents = with_item was.residents k q; words = c.turn.new.words } in
     let e : World = record was { residents = with_item was.residents k z; words = c.rest-self.new.words; fuel = c.rest-self.result; history = c.push.new.self } in
@@ -81,8 +81,8 @@ returns-in_default-2-clause-step c = λ S w is_at steady.
       ready = c.rest-self.ensures.ready;
       names = c.rest-self.ensures.names;
     } in
-    turn_idles S w u c.args.number was r x c.tree.result.now is_at found program c.tree.ensures {A = Vec Sending Global} (λ (xs : Vec Sending Global). xs.items) before mid e q z took
-    (λ m same is. subst (λ (o : Option (Vec Sending Global)). TurnsTo {A = Vec Sending Global} was c.tree.result.now (λ (xs : Vec Sending Global). xs.items) (Ok o) q.member m) c.in_default-2.is (c.in_ok-sendings.ensures.step m same is))
+    turn_idles S w u c.args.number was r x x is_at found program refl {A = Vec Sending Global} (λ (xs : Vec Sending Global). xs.items) before mid e q z took
+    (λ m same is. subst (λ (o : Option (Vec Sending Global)). TurnsTo {A = Vec Sending Global} was x (λ (xs : Vec Sending Global). xs.items) (Ok o) q.member m) c.in_default-2.is (c.in_ok-sendings.ensures.step m same is))
     rested (ap (λ (i : ℕ). slice_set rs i z) c.vat.view_is) refl refl refl refl refl c.in_ok-push.ensures.ok
 
 pub returns-in_default-2-clause-ready : goal.returns-in_default-2-clause-ready
@@ -103,7 +103,7 @@ returns-clause-step c = λ S w is_at steady.
     let found : slice_get rs u ≡ Some r =
     subst (λ (i : ℕ). slice_get rs i ≡ Some r) c.vat.view_is (slice_get_read rs (length rs) k r refl (ltb-true k (length rs) (sym c.in-Some-get_mut.ensures.item.0)) c.in-Some-get_mut.ensures.item.1) in
     let program : slice_get was.programs.items u ≡ Some x =
-    subst (λ (xs : List Scoped). slice_get xs u ≡ Some x) c.deref.ensures.value
+    subst (λ (xs : List (List Node)). slice_get xs u ≡ Some x) c.deref.ensures.value
     (subst (λ (i : ℕ). slice_get ps i ≡ Some x) c.vat.view_is (slice_get_read ps (length ps) k x refl (ltb-true k (length ps) (sym c.in-Some.ensures.lookup.0)) c.in-Some.ensures.lookup.1)) in
     let mid : World = record was { residents = with_item was.residents k q; words = c.turn.new.words; history = c.push-2.new.self } in
     let took : Took u before was mid r q = record {
@@ -119,8 +119,8 @@ returns-clause-step c = λ S w is_at steady.
       nouns = refl;
       wire = refl;
     } in
-    turn_comes S w u c.args.number was r x c.tree.result.now is_at found program c.tree.ensures {A = Vec Sending Global} (λ (xs : Vec Sending Global). xs.items) sendings before mid c.finish.new.self q steady took
-    (λ m same is. subst (λ (o : Option (Vec Sending Global)). TurnsTo {A = Vec Sending Global} was c.tree.result.now (λ (xs : Vec Sending Global). xs.items) (Ok o) q.member m) c.in-Some-2.is (c.in_ok-sendings.ensures.step m same is))
+    turn_comes S w u c.args.number was r x x is_at found program refl {A = Vec Sending Global} (λ (xs : Vec Sending Global). xs.items) sendings before mid c.finish.new.self q steady took
+    (λ m same is. subst (λ (o : Option (Vec Sending Global)). TurnsTo {A = Vec Sending Global} was x (λ (xs : Vec Sending Global). xs.items) (Ok o) q.member m) c.in-Some-2.is (c.in_ok-sendings.ensures.step m same is))
     refl c.in_ok-push-2.ensures.ok
     (λ m s midway. c.in_ok-finish.ensures.finished S w m (Turned c.args.number u ∷ []) (nothing_brought m) s
     (subst (λ (es : List Entry). IsMidway S w u m (Turned c.args.number u ∷ []) (nothing_brought m) s before sendings.items None es mid) (sym c.new.ensures) midway))

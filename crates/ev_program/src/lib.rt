@@ -1,0 +1,6 @@
+//! Programs as vats run them.
+#![tactic(auto)]
+
+pub mod program;
+
+pub use program::Program;

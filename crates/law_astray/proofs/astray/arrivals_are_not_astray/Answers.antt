@@ -1,5 +1,0 @@
-use Rattle.law_astray.proofs.Arrivals.{arrivals_are_not_astray}
-use Rattle.law_astray.proofs.astray.arrivals_are_not_astray.Goals as goal
-
-pub returns : goal.returns
-returns c = arrivals_are_not_astray

@@ -1,5 +1,0 @@
-use Rattle.law_astray.proofs.Ejections.{ejections_awaited}
-use Rattle.law_astray.proofs.astray.ejections_are_awaited.Goals as goal
-
-pub returns : goal.returns
-returns c = ejections_awaited

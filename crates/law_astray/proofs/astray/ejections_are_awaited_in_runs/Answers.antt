@@ -1,5 +1,0 @@
-use Rattle.law_astray.proofs.Ejections.{ejections_awaited_in_runs}
-use Rattle.law_astray.proofs.astray.ejections_are_awaited_in_runs.Goals as goal
-
-pub returns : goal.returns
-returns c = ejections_awaited_in_runs

@@ -1,5 +1,0 @@
-use Rattle.law_astray.proofs.Settling.{settlings_end}
-use Rattle.law_astray.proofs.astray.settlings_end.Goals as goal
-
-pub returns : goal.returns
-returns c = settlings_end

@@ -1,3 +1,0 @@
-pub mod Astray
-pub mod Runs
-pub mod Ejections

@@ -1,4 +1,0 @@
-//! What no run of scoped trees meets.
-#![tactic(auto)]
-
-pub mod astray;

@@ -1,4 +1,0 @@
-//! Calls that call again.
-#![tactic(auto)]
-
-pub mod levels;

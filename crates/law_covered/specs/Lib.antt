@@ -1,4 +1,0 @@
-pub mod Formed
-pub mod Covered
-pub mod Laws
-pub mod Runs

@@ -1,5 +1,0 @@
-//! What the references of a vat hold, and what they tell.
-#![tactic(auto)]
-
-pub mod telling;
-pub mod values;

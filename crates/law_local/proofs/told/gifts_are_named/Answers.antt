@@ -1,0 +1,5 @@
+use Rattle.law_local.proofs.ToldLaws.{gifts_named}
+use Rattle.law_local.proofs.told.gifts_are_named.Goals as goal
+
+pub returns : goal.returns
+returns c = gifts_named

@@ -1,4 +1,0 @@
-//! Which kernel trees are scoped.
-#![tactic(auto)]
-
-pub mod scoped;

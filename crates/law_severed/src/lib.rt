@@ -1,4 +1,0 @@
-//! What a notice breaks is broken for good, and what of gifts no step undoes.
-#![tactic(auto)]
-
-pub mod gifts;

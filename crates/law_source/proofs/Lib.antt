@@ -1,4 +1,0 @@
-pub mod Contents
-pub mod Tokens
-pub mod Values
-pub mod Sources

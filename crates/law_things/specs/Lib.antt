@@ -1,2 +1,0 @@
-pub mod Things
-pub mod Objects

@@ -1,4 +1,0 @@
-//! Objects that a vat names are there.
-#![tactic(auto)]
-
-pub mod things;

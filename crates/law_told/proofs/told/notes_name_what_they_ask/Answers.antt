@@ -1,5 +1,0 @@
-use Rattle.law_told.proofs.Laws.{notes_named}
-use Rattle.law_told.proofs.told.notes_name_what_they_ask.Goals as goal
-
-pub returns : goal.returns
-returns c = notes_named

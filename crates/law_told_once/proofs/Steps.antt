@@ -1,0 +1,77 @@
+-- What a step of one vat tells another.
+use Rattle.std.proofs.Common.{◌≡◌, ℕ}
+use Rattle.def_machine.specs.Values.{Name, Gift, Naming, naming}
+use Rattle.def_machine.specs.State.{Note, Deliver, Open, Ask, SettledTo, Elsewhere, Shorten, Vat}
+use Rattle.def_machine.specs.Arrive.{arrive}
+use Rattle.law_machine.specs.Steps.{Step, Opens as Starts, Takes, Receives, Notices, does}
+use Rattle.def_run.specs.Draws.{draw_word}
+use Rattle.def_run.specs.World.{Script, World, names, names_of, read_note, readied}
+use Rattle.law_name.specs.Names.{AllOf, WasDrawn, Everywhere}
+use Rattle.law_name.proofs.Care.{Sound}
+use Rattle.law_reference.specs.ListRingless.{IsNamed}
+use Rattle.law_reference.proofs.Moves.{IsAlone, Does}
+use Rattle.law_hearing.proofs.Bare.{Bare, Bares}
+use Rattle.law_order_cuts.proofs.WholeWalk.{whole_opening, whole_taking, whole_notice, whole_arrive}
+use Rattle.law_told_once.proofs.Settling as settling
+use Rattle.law_told_once.proofs.Arriving as arriving
+use Rattle.law_told_once.proofs.Arriving.{given_by, Told, tells_told}
+
+module _ (script : Script) (w : World) (h v : ℕ) where
+  abbrev word : ℕ → ℕ
+  word = draw_word script.key
+
+  abbrev K : Naming Name Name
+  K = naming word h
+
+  abbrev Tells : Vat Name → Vat Name → Type 0
+  Tells = settling.Tells K v
+
+  -- ---- that no note begins
+
+  pub alone_tells : (s q t : Vat Name) (what : Step Name Name) → IsAlone what → Does script w h s q t what → Tells (readied w q) t
+  unfolding does names
+  alone_tells s q t (Starts tree depth root given) o d = given_by Tells (readied w q) t tt _ d.gives ((whole_opening K Tells (settling.walked K v) tree depth root given).after (readied w q))
+  alone_tells s q t (Takes tree depth m) o d = given_by Tells (readied w q) t tt _ d.gives ((whole_taking K Tells (settling.walked K v) tree depth m).after (readied w q))
+  alone_tells s q t (Receives from n) o d = absurd o
+  alone_tells s q t (Notices u) o d = given_by Tells (readied w q) t tt _ d.gives ((whole_notice K Tells (settling.walked K v) u).after (readied w q))
+
+  -- ---- as a note arrives
+
+  -- what is told late: the gift for which the note asks, to the vat that asks for it
+  abbrev pub LateBy : ℕ → Note Name → Name → Type 0
+  LateBy from (Ask p i x) z = (z ≡ Gift h i) × (v ≡ from)
+  LateBy from (Deliver d x verb ys) z = ⊥
+  LateBy from (Open i x) z = ⊥
+  LateBy from (SettledTo x y) z = ⊥
+  LateBy from (Elsewhere x c) z = ⊥
+  LateBy from (Shorten x c i) z = ⊥
+
+  -- that gift is not in hand
+  abbrev pub IsBareOf : Vat Name → Note Name → Type 0
+  IsBareOf s (Ask p i x) = WasDrawn w.drawn i × Everywhere (Bare h i h) s
+  IsBareOf s (Deliver d x verb ys) = Unit {0}
+  IsBareOf s (Open i x) = Unit {0}
+  IsBareOf s (SettledTo x y) = Unit {0}
+  IsBareOf s (Elsewhere x c) = Unit {0}
+  IsBareOf s (Shorten x c i) = Unit {0}
+
+  cared : (s : Vat Name) (i : ℕ) → s.number ≡ h → WasDrawn w.drawn i → Everywhere (Bare h i h) s → Sound (Bares h i h) (readied w s)
+  unfolding readied
+  cared s i number drew b = record { parts = record { things = b.things; slots = b.slots; lists = b.lists; queue = b.queue; known = b.known; gifts = b.gifts; outbox = tt }; more = (number, drew) }
+
+  named_ready : (s : Vat Name) → AllOf (IsNamed h) s.gifts → AllOf (IsNamed h) (let r : Vat Name = readied w s in r.gifts)
+  unfolding readied
+  named_ready s k = k
+
+  number_ready : (s : Vat Name) → s.number ≡ h → (let r : Vat Name = readied w s in r.number) ≡ h
+  unfolding readied
+  number_ready s e = e
+
+  pub note_tells : (from : ℕ) (s t : Vat Name) (n : Note Name) → s.number ≡ h → AllOf (IsNamed h) s.gifts → IsBareOf s n → Does script w h s s t (Receives from (read_note (names_of s) n)) → Told word h v (LateBy from n) (readied w s) t
+  unfolding does names read_note arrive
+  note_tells from s t (Ask p i x) number named b d = arriving.arriving_ask word h v i from p (readied w s) t (number_ready s number) (named_ready s named) (cared s i number b.0 b.1) d.gives
+  note_tells from s t (Deliver m x verb ys) number named b d = tells_told word h v (LateBy from (Deliver m x verb ys)) (readied w s) t (given_by Tells (readied w s) t tt _ d.gives ((whole_arrive K Tells (settling.walked K v) from (read_note (names_of s) (Deliver m x verb ys)) tt).after (readied w s)))
+  note_tells from s t (Open i x) number named b d = tells_told word h v (LateBy from (Open i x)) (readied w s) t (given_by Tells (readied w s) t tt _ d.gives ((whole_arrive K Tells (settling.walked K v) from (read_note (names_of s) (Open i x)) tt).after (readied w s)))
+  note_tells from s t (SettledTo x y) number named b d = tells_told word h v (LateBy from (SettledTo x y)) (readied w s) t (given_by Tells (readied w s) t tt _ d.gives ((whole_arrive K Tells (settling.walked K v) from (read_note (names_of s) (SettledTo x y)) tt).after (readied w s)))
+  note_tells from s t (Elsewhere x c) number named b d = tells_told word h v (LateBy from (Elsewhere x c)) (readied w s) t (given_by Tells (readied w s) t tt _ d.gives ((whole_arrive K Tells (settling.walked K v) from (read_note (names_of s) (Elsewhere x c)) tt).after (readied w s)))
+  note_tells from s t (Shorten x c i) number named b d = tells_told word h v (LateBy from (Shorten x c i)) (readied w s) t (given_by Tells (readied w s) t tt _ d.gives ((arriving.arriving_shorten word h v _ i).after (readied w s)))

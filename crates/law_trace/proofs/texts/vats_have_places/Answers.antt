@@ -1,0 +1,5 @@
+use Rattle.law_trace.proofs.Placed.{vats_placed}
+use Rattle.law_trace.proofs.texts.vats_have_places.Goals as goal
+
+pub returns : goal.returns
+returns c = vats_placed

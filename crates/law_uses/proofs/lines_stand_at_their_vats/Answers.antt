@@ -1,0 +1,5 @@
+use Rattle.law_uses.proofs.Texts.{lines_stand}
+use Rattle.law_uses.proofs.lines_stand_at_their_vats.Goals as goal
+
+pub returns : goal.returns
+returns c = lines_stand
