@@ -78,7 +78,7 @@ read_there all (first ∷ vats) (scoped ∷ programs) (read, are) zero vat e =
 read_there all (first ∷ vats) (scoped ∷ programs) (read, are) (suc place) vat e =
     let r = read_there all vats programs are place vat e in record { scoped = r.scoped; read = r.read; same = r.same }
 
-are_read_to : (script : Script) (programs : List Scoped) → IsAdmitted script → AreRead script.vats script.vats programs → AreReadTo script (tree_in programs)
+pub are_read_to : (script : Script) (programs : List Scoped) → IsAdmitted script → AreRead script.vats script.vats programs → AreReadTo script (tree_in programs)
 are_read_to script programs h are = λ place vat e.
     let r = read_there script.vats script.vats programs are place vat e in
     (r.scoped, names_for script.vats vat, names_given script h place vat e, r.read, r.same)

@@ -11,5 +11,6 @@ pub mod CauseLemmas
 pub mod Fates
 pub mod Reach
 pub mod Severed
+pub mod Uses
 pub mod Unread
 pub mod Generated

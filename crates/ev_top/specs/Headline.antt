@@ -1,5 +1,5 @@
 -- What holds of the machine's run that a call owes for a script.
-use Rattle.std.specs.Prelude.{◌≡◌, ◌⊎◌, ◌≤◌, ◌+◌, ◌*◌, ℕ, zero, true, false, List, ◌∷◌, ◌++◌, length, codes, Some, slice_get}
+use Rattle.std.specs.Prelude.{◌≡◌, ◌⊎◌, ◌≤◌, ◌+◌, ◌*◌, ℕ, zero, true, false, List, ◌∷◌, ◌++◌, length, codes, None, Some, Ok, slice_get}
 use Rattle.std.specs.declared.option.Option.{Option}
 use Rattle.def_kernel.specs.declared.node.Node.{Node}
 use Rattle.def_machine.specs.Values.{Words, Value, Broken, Ref, Name, Foreign, spot_of}
@@ -7,6 +7,9 @@ use Rattle.def_machine.specs.State.{Stop, Astray, Vat, is_in}
 use Rattle.def_machine.specs.Refs.{follow}
 use Rattle.def_run.specs.World as machine
 use Rattle.def_run.specs.World.{Program, Entry, NoticeLink, World, Goes, Stopped, begins, names, open_from, run, steps_from}
+use Rattle.def_run.specs.Text.{text}
+use Rattle.def_trace.specs.Uses.{JudgesUses}
+use Rattle.ev_trace.specs.Reading as trace
 use Rattle.law_machine.specs.Breaks.{settled_value, SeveredStays}
 use Rattle.law_run.specs.Runs.{EachVat}
 use Rattle.law_halt.specs.Halted.{LeavesOf}
@@ -17,6 +20,8 @@ use Rattle.law_fate.specs.Carry.{carries}
 use Rattle.law_frozen.specs.Runs.{ReachIsFrozenIn}
 use Rattle.law_connected.specs.Begotten.{LinesConnected, TakenBegotten}
 use Rattle.law_connected.specs.UseLaws.{RunConnected}
+use Rattle.law_text.specs.Runs.{events_of}
+use Rattle.law_read_texts.specs.Runs.{TellsLowOf, trace_of}
 use Rattle.ev_scope.specs.declared.accepted.Scoped.{Scoped}
 use Rattle.ev_script.specs.declared.script.Script.{Script}
 use Rattle.law_generated.specs.Accepted.{generated_script}
@@ -83,6 +88,15 @@ StampedReachFrozenAlone command input = (script : machine.Script) → IsToRun co
 -- each line of the history of each of its worlds is connected in the step that the run took, in which an opening turn is given the roots that its vat knows by the script; and what a message brings that was taken, who sent it knew.
 abbrev pub UsesAreConnected : Option Command → List ℕ → Type 0
 UsesAreConnected command input = (script : machine.Script) → IsToRun command input script → RunConnected script × ((world : World) → ComesTo script world → LinesConnected script world × TakenBegotten script world)
+
+-- So it is by the lines of its text alone, as `check` judges uses: no line of the history fails, and none of what is read of the text does. The text is read as what a line shows of each event, with the vats numbered as they are found
+-- (where the run stops for a word that was drawn before, it is read where the two have numbers below 2^64).
+abbrev pub HoldsUses : machine.Script → Type 0
+HoldsUses script = JudgesUses (events_of (run script)) None × JudgesUses (trace_of script (run script)).history None
+    × (TellsLowOf (run script) → trace.read (text script (run script)) ≡ Ok (trace_of script (run script)))
+
+abbrev pub RunsHoldUses : Option Command → List ℕ → Type 0
+RunsHoldUses command input = (script : machine.Script) → IsToRun command input script → HoldsUses script
 
 -- ---- partitions
 

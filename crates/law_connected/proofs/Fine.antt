@@ -10,7 +10,7 @@ use Rattle.def_machine.specs.Scopes.{Answer, Answers, AuditionAsk, GetsForm, Get
 use Rattle.law_machine.proofs.StepLaws.{get_append}
 use Rattle.law_connected.specs.Known.{Item, AValue, AGuard, ASlot, IsAmong, AllOf, IsThing, Knows, told as told_by, tells, by, values}
 use Rattle.law_natives.specs.Natives.{ReplyHas, AskedHas}
-use Rattle.law_connected.specs.Connected.{served, open_after, Judges, GivenBack, LineWell, callee, uses, itself}
+use Rattle.law_connected.specs.Connected.{served, open_after, Judges, AskedThen, GivenBack, LineWell, callee, uses, itself}
 use Rattle.law_connected.specs.ConnectedLaws as laws
 use Rattle.law_connected.proofs.Traces.{among_last}
 use Rattle.law_connected.specs.Settlings.{IsCaused, IsResolver, IsHanded, IsGiven, SettlesWell, Follows}
@@ -18,11 +18,12 @@ use Rattle.law_connected.proofs.Causes.{Causes, Ends as CausesEnds, Any, Steady,
 use Rattle.law_connected.proofs.RefsCauses.{IsAt as PlacedAt}
 use Rattle.law_connected.specs.Activations.{Rises}
 use Rattle.law_connected.specs.Told.{ReadTold}
+use Rattle.law_connected.specs.InTime.{MakesOwn}
 use Rattle.law_connected.specs.News.{thing_made, slot_made, list_made}
 use Rattle.law_connected.proofs.Rising.{rises_line, rises_new, length_end}
 use Rattle.law_connected.proofs.Adding.{adds_line, adds_new}
 use Rattle.law_connected.proofs.Idle.{Idle, IdleEnds}
-use Rattle.law_connected.proofs.Ground.{Ground, all_map, opens, with_line, opens_last, idles_opens, held, Has, Knew, ViewKnown, Judged, Grows, Good, has_up, resolver_up, thing_up, among_up, judges_up, view_up, judged_up, given_up, grows_same, grows_line, grows_trans, grows_by, PutTold, put_up, CellTold, makes_none, good_block, good_line, good_by, idles_grows, idles_good}
+use Rattle.law_connected.proofs.Ground.{Ground, all_map, opens, with_line, opens_last, idles_opens, held, first, Has, Knew, ViewKnown, Judged, Grows, Good, has_up, resolver_up, thing_up, among_up, judges_up, view_up, judged_up, asked_of_up, given_up, grows_same, grows_line, grows_trans, grows_by, PutTold, put_up, CellTold, makes_none, good_block, good_line, then_of, good_by, idles_grows, idles_good}
 
 abbrev pub MayBe : {A : Type 0} → (A → Type 0) → Option A → Type 0
 MayBe P (Some x) = P x
@@ -65,6 +66,8 @@ pub data Fact (N : Type 0) : Type 0 where
   WasCalled : Value N → Words → List (Value N) → Fact N
   -- a value is followed to what bears that number
   IsAt : Value N → ℕ → Fact N
+  -- before the innermost open call, of that receiver and verb, the receiver was followed to an audition of that number
+  AskedOf : Value N → Words → ℕ → Fact N
   -- what an audition with that view may be made for
   IsJudging : View N → Fact N
   IsJudged : ℕ → View N → Fact N
@@ -245,6 +248,7 @@ module _ {N W : Type 0} (K : Naming N W) (E : Ground N W) (a : ℕ) where
   Holds s (MayHand n o) = MayBe (Handed s n) o
   Holds s (WasCalled x verb args) = Serving s x verb args
   Holds s (IsAt x i) = IsThing K E.start.vat.known s.happened x i
+  Holds s (AskedOf x verb i) = AskedThen K (held K E s) s.happened a x verb i
   Holds s (IsJudging view) = Judging s view
   Holds s (IsJudged i view) = Judged K E s i view
   Holds s (MayGive x verb v) = GivenBack K (held K E s) s.happened a x verb None v
@@ -266,7 +270,9 @@ module _ {N W : Type 0} (K : Naming N W) (E : Ground N W) (a : ℕ) where
   Keeps s t (Also A B) = Keeps s t A × Keeps s t B
   Keeps s t (IsScope here) = opens t ≡ opens s
   Keeps s t (WasCalled x verb args) = opens t ≡ opens s
+  Keeps s t (AskedOf x verb i) = opens t ≡ opens s
   Keeps s t (IsJudging view) = opens t ≡ opens s
+  Keeps s t (MayGive x verb v) = opens t ≡ opens s
   Keeps s t _ = Unit {0}
 
   abbrev pub Passes : Vat N → Vat N → Type 0
@@ -380,9 +386,10 @@ module _ {N W : Type 0} (K : Naming N W) (E : Ground N W) (a : ℕ) where
     holds_up (MayHand n o) e h = may_up _ _ (handed_up n) o h
     holds_up (WasCalled x verb args) e h = (h.0, among_up K E s t g (Called h.0 x verb args None) h.1, ap served e ∙ h.2)
     holds_up (IsAt x i) e h = thing_up K E s t g x i h
+    holds_up (AskedOf x verb i) e h = asked_of_up K E s t g a x verb i e h
     holds_up (IsJudging view) e h = judging_up view e h
     holds_up (IsJudged i view) e h = judged_up K E s t g i view h
-    holds_up (MayGive x verb v) e h = given_up K E s t g a x verb None v h
+    holds_up (MayGive x verb v) e h = given_up K E s t g a x verb None v e h
     holds_up (MayThing i o) e h = may_up _ _ (there_up i) o h
     holds_up (IsPlaced y p) e h = h
     holds_up (IsLine l) e h = among_up K E s t g l h
@@ -417,9 +424,10 @@ module _ {N W : Type 0} (K : Naming N W) (E : Ground N W) (a : ℕ) where
   all_keep s t e (MayHand n o) = tt
   all_keep s t e (WasCalled x verb args) = e
   all_keep s t e (IsAt x i) = tt
+  all_keep s t e (AskedOf x verb i) = e
   all_keep s t e (IsJudging view) = e
   all_keep s t e (IsJudged i view) = tt
-  all_keep s t e (MayGive x verb v) = tt
+  all_keep s t e (MayGive x verb v) = e
   all_keep s t e (MayThing i o) = tt
   all_keep s t e (IsPlaced y p) = tt
   all_keep s t e (IsLine l) = tt
@@ -549,12 +557,12 @@ module _ {N W : Type 0} (K : Naming N W) (E : Ground N W) (a : ℕ) where
   -- ---- lines
 
   -- a line that is connected and ends no call, with what it tells
-  pub then_line : {B : Type 0} {C D : Fact N} (e : Happened N) {m : Act N B} {H : B → Fact N} → thing_made K e ≡ None → slot_made e ≡ None → list_made e ≡ None → ((so : List (Happened N)) → IsCaused K E.start so e) → ((s : Vat N) → open_after (opens s) e ≡ opens s) → ((s : Vat N) → Good K E s → Holds s C → LineWell K (held K E s) s.happened e)
+  pub then_line : {B : Type 0} {C D : Fact N} (e : Happened N) {m : Act N B} {H : B → Fact N} → thing_made K e ≡ None → slot_made e ≡ None → list_made e ≡ None → ((so : List (Happened N)) → IsCaused K E.start so e) → MakesOwn K (first K E) e → ((s : Vat N) → open_after (opens s) e ≡ opens s) → ((s : Vat N) → Good K E s → Holds s C → LineWell K (held K E s) s.happened e)
       → ((s : Vat N) → Holds s C → ReadTold E.slots s.happened e) → ((s : Vat N) → Holds s C → Holds (with_line s e) D) → Fine (Also C D) m H → Fine C (tell e >> m) H
   unfolding tell ◌>>◌ and_then
-  then_line {C = C} {D = D} e {m = m} {H = H} nil none new cz o l rd d h = record {
+  then_line {C = C} {D = D} e {m = m} {H = H} nil none new cz mk o l rd d h = record {
     after = λ s g c. let t : Vat N = with_line s e in let p : Passes s t = (grows_line K E s e, opens_last s e ∙ o s) in
-        widen H s t (m t) p (h.after t (good_line K E s e nil none new (cz s.happened) g (l s g c) (rd s c)) (still_holds s t p C c, d s c));
+        widen H s t (m t) p (h.after t (good_line K E s e nil none new (cz s.happened) g (l s g c) (rd s c) mk (then_of K E s e mk (o s) (l s g c)).2) (still_holds s t p C c, d s c));
   }
 
   pub uses_values : (s : Vat N) (Q : List (Item N)) (vs : List (Value N)) → AllOf (Knew K E s a) vs → AllOf (λ u. Knows K (held K E s) s.happened u.0 u.1 ⊎ IsAmong u.1 Q) (by a (values vs))
@@ -568,7 +576,7 @@ module _ {N W : Type 0} (K : Naming N W) (E : Ground N W) (a : ℕ) where
 
   read_now : {B : Type 0} {C : Fact N} (k : ℕ) (v : Value N) {m : Act N B} {H : B → Fact N} → Gets C (IsSlot k) → Gets C (WasPut k v) → Fine (Also C (IsValue v)) m H → Fine C (tell (SlotRead a k v) >> m) H
   unfolding uses by tells open_after itself
-  read_now k v g p h = then_line (SlotRead a k v) refl refl refl (λ so. tt) (λ s. refl) (λ s i c. ((inl (g.at s c), tt), tt)) (λ s c. p.at s c) (λ s c. is_told s (SlotRead a k v) (AValue v) (inl refl)) h
+  read_now k v g p h = then_line (SlotRead a k v) refl refl refl (λ so. tt) tt (λ s. refl) (λ s i c. ((inl (g.at s c), tt), tt)) (λ s c. p.at s c) (λ s c. is_told s (SlotRead a k v) (AValue v) (inl refl)) h
 
   pub then_read : {B : Type 0} {C : Fact N} (act : ℕ) (k : ℕ) (v : Value N) {m : Act N B} {H : B → Fact N} → Gets C (IsAct act) → Gets C (IsSlot k) → Gets C (WasPut k v) → Fine (Also C (IsValue v)) m H → Fine C (tell (SlotRead act k v) >> m) H
   then_read act k v {m = m} i g p h = act_is act (λ b. tell (SlotRead b k v) >> m) i (read_now k v g p h)
@@ -620,15 +628,15 @@ module _ {N W : Type 0} (K : Naming N W) (E : Ground N W) (a : ℕ) where
   new_resolver s x e f i p (inr q) = inr (subst (λ k. IsResolver K E.start (s.happened ++ e ∷ []) k p) (sym q.0) (f p q.1))
 
   -- a thing is made, and its line told
-  pub thing_block : {B : Type 0} {C : Fact N} (x : Thing N) → IsInert x → (e : ℕ → Happened N) → ((n : ℕ) → thing_made K (e n) ≡ Some n) → ((n : ℕ) → slot_made (e n) ≡ None) → ((n : ℕ) → list_made (e n) ≡ None) → ((so : List (Happened N)) (n : ℕ) → ReadTold E.slots so (e n)) → ((so : List (Happened N)) (n : ℕ) → IsCaused K E.start so (e n)) → ((so : List (Happened N)) (n : ℕ) (p : N) → x ≡ Resolver p → IsResolver K E.start (so ++ e n ∷ []) n p) → (D : ℕ → Fact N) → {f : ℕ → Act N B} {H : B → Fact N}
+  pub thing_block : {B : Type 0} {C : Fact N} (x : Thing N) → IsInert x → (e : ℕ → Happened N) → ((n : ℕ) → thing_made K (e n) ≡ Some n) → ((n : ℕ) → slot_made (e n) ≡ None) → ((n : ℕ) → list_made (e n) ≡ None) → ((n : ℕ) → MakesOwn K (first K E) (e n)) → ((so : List (Happened N)) (n : ℕ) → ReadTold E.slots so (e n)) → ((so : List (Happened N)) (n : ℕ) → IsCaused K E.start so (e n)) → ((so : List (Happened N)) (n : ℕ) (p : N) → x ≡ Resolver p → IsResolver K E.start (so ++ e n ∷ []) n p) → (D : ℕ → Fact N) → {f : ℕ → Act N B} {H : B → Fact N}
       → ((s : Vat N) (n : ℕ) → open_after (opens s) (e n) ≡ opens s) → ((s : Vat N) (n : ℕ) → LineWell K (held K E s) s.happened (e n)) → ((s : Vat N) (n : ℕ) → Holds (with_line s (e n)) (D n))
       → ((n : ℕ) → Fine (Also C (D n)) (f n) H) → Fine C (new_thing x >>= (λ n. tell (e n) >> f n)) H
   unfolding new_thing ◌>>=◌ tell ◌>>◌ and_then
-  thing_block {C = C} x inert e some none new rd cz rt D {f = f} {H = H} o l d h = record {
+  thing_block {C = C} x inert e some none new mk rd cz rt D {f = f} {H = H} o l d h = record {
     after = λ s g c. let n = length s.things in let u : Vat N = record s { things = s.things ++ x ∷ [] } in let t : Vat N = with_line u (e n) in
         let r : Grows K E s t = grows_trans K E s u t (grows_thing s x) (grows_line K E u (e n)) in
         let p : Passes s t = (r, opens_last u (e n) ∙ o u n) in
-        let good : Good K E t = good_block K E s t (e n) refl (refl, refl, refl, refl, refl) (cz s.happened n) (grown_thing s x) (l u n) (rd s.happened n)
+        let good : Good K E t = good_block K E s t (e n) refl (refl, refl, refl, refl, refl) (cz s.happened n) (grown_thing s x) (l u n) (rd s.happened n) (then_of K E s (e n) (mk n) (o s n) (l s n))
         (λ i view q. inl (old_thing s.things x (Audition true view) i (no_audition x view inert) (get_or_last s.things x (Audition true view) i q)))
         (λ i p q. new_resolver s x (e n) (rt s.happened n) i p (get_or_last s.things x (Resolver p) i q))
         (λ i node caught stamps q. inl (old_thing s.things x (Made node caught stamps) i (no_object x node caught stamps inert) (get_or_last s.things x (Made node caught stamps) i q)))
@@ -676,7 +684,7 @@ module _ {N W : Type 0} (K : Naming N W) (E : Ground N W) (a : ℕ) where
         let r : Grows K E s t = grows_trans K E s u t w (grows_line K E u e) in
         let p : Passes s t = (r, opens_last u e) in
         let good : Good K E t = good_block K E s t e refl (refl, refl, refl, refl, refl) tt (grown_slot s x) ((inl (has_up K E s u w a (AValue v) (j.at s c)), tt), (x, get_end s.slots x, has_up K E s u w a (AValue g) (i.at s c)))
-        tt (λ n view f. inl f) (λ n p f. inl f) (λ n node caught stamps f. inl f) (λ n y f. slot_told s v g n y (get_or_last s.slots x y n f))
+        tt ((inl (j.at s c), tt), tt, tt, tt) (λ n view f. inl f) (λ n p f. inl f) (λ n node caught stamps f. inl f) (λ n y f. slot_told s v g n y (get_or_last s.slots x y n f))
         (rises_line (thing_made K) (length E.things) (length s.things) s.happened e refl)
         (λ y. subst (λ m. Rises (length E.slots) (map slot_made (s.happened ++ e ∷ [])) m) (sym (length_end s.slots x)) (rises_new slot_made (length E.slots) k s.happened e refl y)) (adds_line list_made E.lists s.lists s.happened e refl) q in
         widen H s t (m k t) p ((h k).after t good (still_holds s t p C c, is_told u e (ASlot k) (inl refl)));
@@ -701,7 +709,7 @@ module _ {N W : Type 0} (K : Naming N W) (E : Ground N W) (a : ℕ) where
         let r : Grows K E s t = grows_trans K E s u t w (grows_line K E u e) in
         let p : Passes s t = (r, opens_last u e) in
         let good : Good K E t = good_block K E s t e refl (refl, refl, refl, refl, refl) tt (grown_write s n v) ((inl (has_up K E s u w a (ASlot n) (i.at s c)), (inl (has_up K E s u w a (AValue v) (j.at s c)), tt)), tt)
-        tt (λ l view f. inl f) (λ l p f. inl f) (λ l node caught stamps f. inl f) (λ l y f. write_told s n v l y (written_cells s.slots n l v y f))
+        tt ((inl (i.at s c), (inl (j.at s c), tt)), tt, tt, tt) (λ l view f. inl f) (λ l p f. inl f) (λ l node caught stamps f. inl f) (λ l y f. write_told s n v l y (written_cells s.slots n l v y f))
         (rises_line (thing_made K) (length E.things) (length s.things) s.happened e refl)
         (λ y. subst (λ m. Rises (length E.slots) (map slot_made (s.happened ++ e ∷ [])) m) (sym (written_length s.slots n v)) (rises_line slot_made (length E.slots) (length s.slots) s.happened e refl y)) (adds_line list_made E.lists s.lists s.happened e refl) q in
         widen H s t (m t) p (h.after t good (still_holds s t p C c));
@@ -722,7 +730,7 @@ module _ {N W : Type 0} (K : Naming N W) (E : Ground N W) (a : ℕ) where
         let r : Grows K E s t = grows_trans K E s u t w (grows_line K E u e) in
         let p : Passes s t = (r, opens_last u e) in
         let good : Good K E t = good_block K E s t e refl (refl, refl, refl, refl, refl) tt (grown_list s vs) (uses_values u [] vs (holds_up s u w (AreValues vs) tt (i.at s c)), tt)
-        tt (λ n view f. inl f) (λ n p f. inl f) (λ n node caught stamps f. inl f) (λ n y f. inl f)
+        tt (uses_values s [] vs (i.at s c), tt, tt, tt) (λ n view f. inl f) (λ n p f. inl f) (λ n node caught stamps f. inl f) (λ n y f. inl f)
         (rises_line (thing_made K) (length E.things) (length s.things) s.happened e refl)
         (rises_line slot_made (length E.slots) (length s.slots) s.happened e refl)
         (adds_new list_made E.lists s.lists vs s.happened e refl) q in

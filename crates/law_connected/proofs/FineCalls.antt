@@ -20,10 +20,10 @@ use Rattle.law_connected.specs.Activations.{Rises}
 use Rattle.law_connected.specs.News.{own_number, thing_made, slot_made, list_made}
 use Rattle.law_connected.proofs.Rising.{rises_line, rises_new, length_end}
 use Rattle.law_connected.proofs.Adding.{adds_line}
-use Rattle.law_connected.proofs.Ground.{Ground, opens, with_line, opens_last, held, Has, Knew, Judged, Grows, Good, has_up, thing_up, judges_up, view_up, judged_up, grows_line, grows_trans, grows_by, grows_same, makes_none, good_block, good_line, good_by}
-use Rattle.law_connected.proofs.Fine.{Fact, Also, IsAct, IsValue, IsGuard, IsCallee, AreValues, AreLists, IsSlot, IsScope, MayBound, MayCell, WasPut, Leads, IsReply, IsAsked, IsAuditionAsk, MadeEjector, WasHanded, MayHand, WasCalled, IsAt, IsJudging, IsJudged, MayGive, MayThing, answer, nothing, NounKnown, Judging, Holds, Gets, Passes, Ends, Fine, get_or_last, old_thing, ResolverOf, HandedTo, MayAsk, GivenTo, MaySettle, grows_thing, holds_up, still_holds, passes_same, widen, fine_bind, fine_less, fine_ending, fine_more, fine_left, fine_give, fine_throw, fine_eject, fine_stop, fine_look, act_is, is_told}
+use Rattle.law_connected.proofs.Ground.{Ground, opens, with_line, opens_last, held, Has, Knew, Judged, Grows, Good, has_up, thing_up, judges_up, judges_told, view_up, judged_up, grows_line, grows_trans, grows_by, grows_same, makes_none, good_block, good_line, good_by}
+use Rattle.law_connected.proofs.Fine.{Fact, Nothing, Also, IsAct, IsValue, IsGuard, IsCallee, AreValues, AreLists, IsSlot, IsScope, MayBound, MayCell, WasPut, Leads, IsReply, IsAsked, IsAuditionAsk, MadeEjector, WasHanded, MayHand, WasCalled, IsAt, AskedOf, IsJudging, IsJudged, MayGive, MayThing, answer, nothing, NounKnown, Judging, Holds, Gets, Passes, Ends, Fine, get_or_last, old_thing, ResolverOf, HandedTo, MayAsk, GivenTo, MaySettle, grows_thing, holds_up, still_holds, passes_same, widen, fine_bind, fine_less, fine_ending, fine_more, fine_left, fine_give, fine_throw, fine_eject, fine_stop, fine_look, act_is, is_told}
 use Rattle.law_connected.proofs.Looks.{look_cell, got, got_left, got_itself, got_flag, got_text, got_no_lists, got_lists, got_literal, got_asked, got_audition_ask, got_hand, got_may_ask, look_lead, got_may_give, got_item, got_judged, got_callee, got_coercer, look_thing, look_leads, look_coerce, GuardReply, guard_asked_known}
-use Rattle.law_connected.proofs.Rules.{fine, bind_flag, bind_resolver, fine_promise, fine_send, fine_react, if_same, then_got, called_well, CallEnds, ended_ends, fine_with_lines, nouns_from, fine_send_only, bind_standing, fine_settle, fine_resolve}
+use Rattle.law_connected.proofs.Rules.{fine, bind_flag, bind_resolver, own_promise, fine_send, fine_react, if_same, then_got, called_well, CallEnds, ended_ends, fine_with_lines, nouns_from, fine_send_only, bind_standing, fine_settle, fine_resolve}
 
 -- a call by the activation, whatever is called
 abbrev pub GoodCaller : {N W : Type 0} (K : Naming N W) → Ground N W → ℕ → Caller N → Type 0
@@ -145,7 +145,7 @@ module _ {N W : Type 0} (K : Naming N W) (E : Ground N W) (spots : (i : ℕ) →
 
   pub fine_make_promise : {a : ℕ} {C : Fact N} → (act : ℕ) → Gets K E a C (IsAct act) → Fine K E a C (perform.make_promise K tree act) IsValue
   unfolding perform.make_promise
-  fine_make_promise {a = a} {C = C} act g_act = fine_less K E a nothing (fine_promise K E a) (λ p. bind_resolver K E a spots act p g_act (λ r. let D : Fact N = Also (IsValue (Ref p)) (IsValue (Ref (K.object r))) in
+  fine_make_promise {a = a} {C = C} act g_act = own_promise K E a (λ p o. bind_resolver K E a spots act p o g_act (λ r. let D : Fact N = Also (IsValue (Ref p)) (IsValue (Ref (K.object r))) in
       fine_make_list {C = Also C D} act (got_left K E a C D (IsAct act) g_act) (Ref p ∷ Ref (K.object r) ∷ []) (record { at = λ s h. (h.1.0, (h.1.1, tt)) })))
 
   pub fine_react_near : {a : ℕ} {C : Fact N} → (act : ℕ) → Gets K E a C (IsAct act) → (x : Value N) → Gets K E a C (IsValue x) → (o : Value N) → Gets K E a C (IsValue o) → (y : Value N) → Gets K E a C (Leads o y) → (p : Place N) → Fine K E a C (perform.react_near K tree act x o y p) IsValue
@@ -230,7 +230,7 @@ module _ {N W : Type 0} (K : Naming N W) (E : Ground N W) (spots : (i : ℕ) →
     after = λ s g c. let n = length s.things in let e : Happened N = AuditionMade a (K.object n) in let u : Vat N = record s { things = s.things ++ Audition true view ∷ [] } in let t : Vat N = with_line u e in
         let r : Grows K E s t = grows_trans K E s u t (grows_thing K E a s (Audition true view)) (grows_line K E u e) in
         let p : Passes K E a s t = (r, opens_last u e) in
-        let good : Good K E t = good_block K E s t e refl (refl, refl, refl, refl, refl) tt r.grown (tt, tt) tt
+        let good : Good K E t = good_block K E s t e refl (refl, refl, refl, refl, refl) tt r.grown (tt, tt) tt (tt, tt, tt, tt)
         (λ k w q. inr (new_judged a s view g r (judges_new a s view (i.at s c) r) k w (get_or_last s.things (Audition true view) (Audition true w) k q)))
         (λ k p q. inl (old_thing K E a s.things (Audition true view) (Resolver p) k (no_resolver view p) (get_or_last s.things (Audition true view) (Resolver p) k q)))
         (λ k node caught stamps q. inl (old_object view s.things k node caught stamps (get_or_last s.things (Audition true view) (Made node caught stamps) k q)))
@@ -285,7 +285,7 @@ module _ {N W : Type 0} (K : Naming N W) (E : Ground N W) (spots : (i : ℕ) →
   reply_map a P Q f (Iterates o vs) h = absurd h
 
   -- the guard that an audition tells is known as a guard to who evaluates what it judges
-  guard_given : {a : ℕ} {C : Fact N} (again : Caller N) (act : ℕ) (view : View N) (x : Value N) (verb : Words) (y : Value N) (i : ℕ) → ((s : Vat N) → Holds K E a s C → same_words (codes "getGuard") verb ≡ true) → Gets K E a C (IsAt x i) → Gets K E a C (IsJudged i view)
+  guard_given : {a : ℕ} {C : Fact N} (again : Caller N) (act : ℕ) (view : View N) (x : Value N) (verb : Words) (y : Value N) (i : ℕ) → ((s : Vat N) → Holds K E a s C → same_words (codes "getGuard") verb ≡ true) → Gets K E a C (AskedOf x verb i) → Gets K E a C (IsJudged i view)
       → Fine K E a C (look (λ s. scopes.guard_asked view.free (follow K s y)) >>= (λ r. perform.reply K tree again act r)) (MayGive x verb)
   unfolding ◌>>=◌ look and_then
   guard_given {a = a} again act view x verb y i q g j = record {
@@ -298,20 +298,20 @@ module _ {N W : Type 0} (K : Naming N W) (E : Ground N W) (spots : (i : ℕ) →
 
   -- an audition that is called
   audition_live : {a : ℕ} {C : Fact N} (again : Caller N) → GoodCaller K E a again → (act : ℕ) → Gets K E a C (IsAct act) → (view : View N) (verb : Words) (q : AuditionAsk N) → Gets K E a C (IsAuditionAsk verb q)
-      → (x : Value N) (args : List (Value N)) (i : ℕ) → Gets K E a C (WasCalled x verb args) → Gets K E a C (IsAt x i) → Gets K E a C (IsJudged i view) → Fine K E a C (calls.audition_live K tree again act view q) (MayGive x verb)
+      → (x : Value N) (args : List (Value N)) (i : ℕ) → Gets K E a C (WasCalled x verb args) → Gets K E a C (AskedOf x verb i) → Gets K E a C (IsAt x i) → Gets K E a C (IsJudged i view) → Fine K E a C (calls.audition_live K tree again act view q) (MayGive x verb)
   unfolding calls.audition_live
-  audition_live {a = a} {C = C} again g act k view verb GetsForm h x args i c t j = given_of x verb (fine_build act k _ [] (got_no_lists K E a C))
-  audition_live {a = a} {C = C} again g act k view verb (GetsGuard y) h x args i c t j = guard_given again act view x verb y i (λ s b. h.at s b) t j
-  audition_live {a = a} {C = C} again g act k view verb (Asks y) h x args i c t j = let d : Gets K E a C (IsValue y) = record { at = λ s b. h.at s b } in let w : Gets K E a C (IsJudging view) = got_judged K E a tree C view x verb args i c t j in given_of x verb (search (fine, fine_verdict) depth 30)
-  audition_live {a = a} {C = C} again g act k view verb NoAuditionAsk h x args i c t j = fine_throw K E a _
+  audition_live {a = a} {C = C} again g act k view verb GetsForm h x args i c u t j = given_of x verb (fine_build act k _ [] (got_no_lists K E a C))
+  audition_live {a = a} {C = C} again g act k view verb (GetsGuard y) h x args i c u t j = guard_given again act view x verb y i (λ s b. h.at s b) u j
+  audition_live {a = a} {C = C} again g act k view verb (Asks y) h x args i c u t j = let d : Gets K E a C (IsValue y) = record { at = λ s b. h.at s b } in let w : Gets K E a C (IsJudging view) = got_judged K E a tree C view x verb args i c t j in given_of x verb (search (fine, fine_verdict) depth 30)
+  audition_live {a = a} {C = C} again g act k view verb NoAuditionAsk h x args i c u t j = fine_throw K E a _
 
   audition_called : {a : ℕ} {C : Fact N} (again : Caller N) → GoodCaller K E a again → (act : ℕ) → Gets K E a C (IsAct act) → (view : View N) (verb : Words) (q : AuditionAsk N) → Gets K E a C (IsAuditionAsk verb q)
-      → (x : Value N) (args : List (Value N)) (i : ℕ) → Gets K E a C (WasCalled x verb args) → Gets K E a C (IsAt x i) → Gets K E a C (IsJudged i view) → Fine K E a C (calls.audition_answer K tree again act true view q) (MayGive x verb)
+      → (x : Value N) (args : List (Value N)) (i : ℕ) → Gets K E a C (WasCalled x verb args) → Gets K E a C (AskedOf x verb i) → Gets K E a C (IsAt x i) → Gets K E a C (IsJudged i view) → Fine K E a C (calls.audition_answer K tree again act true view q) (MayGive x verb)
   unfolding calls.audition_answer
-  audition_called {a = a} again g act k view verb GetsForm h x args i c t j = audition_live again g act k view verb GetsForm h x args i c t j
-  audition_called {a = a} again g act k view verb (GetsGuard y) h x args i c t j = audition_live again g act k view verb (GetsGuard y) h x args i c t j
-  audition_called {a = a} again g act k view verb (Asks y) h x args i c t j = audition_live again g act k view verb (Asks y) h x args i c t j
-  audition_called {a = a} again g act k view verb NoAuditionAsk h x args i c t j = fine_throw K E a _
+  audition_called {a = a} again g act k view verb GetsForm h x args i c u t j = audition_live again g act k view verb GetsForm h x args i c u t j
+  audition_called {a = a} again g act k view verb (GetsGuard y) h x args i c u t j = audition_live again g act k view verb (GetsGuard y) h x args i c u t j
+  audition_called {a = a} again g act k view verb (Asks y) h x args i c u t j = audition_live again g act k view verb (Asks y) h x args i c u t j
+  audition_called {a = a} again g act k view verb NoAuditionAsk h x args i c u t j = fine_throw K E a _
 
   pub audition_dead : {a : ℕ} {C : Fact N} {H : Value N → Fact N} (again : Caller N) (act : ℕ) (view : View N) (q : AuditionAsk N) → Fine K E a C (calls.audition_answer K tree again act false view q) H
   unfolding calls.audition_answer
@@ -384,25 +384,42 @@ module _ {N W : Type 0} (K : Naming N W) (E : Ground N W) (spots : (i : ℕ) →
   unfolding calls.run_object
   fine_run_object {a = a} {C = C} rec g_rec ms verb args g_args here g_here = search (fine, fine_run_body) depth 30
 
+  -- what held of a thing before it was called
+  abbrev asked_of : Value N → Words → ℕ → Thing N → Fact N
+  asked_of x verb i (Audition true view) = AskedOf x verb i
+  asked_of x verb i (Audition false view) = Nothing
+  asked_of x verb i (Made node caught stamps) = Nothing
+  asked_of x verb i (Ejector live) = Nothing
+  asked_of x verb i (Resolver q) = Nothing
+
+  asked_now : (a : ℕ) (s : Vat N) (x : Value N) (verb : Words) (args : List (Value N)) (i : ℕ) (t : Thing N) → Holds K E a s (MayThing i (Some t)) → Holds K E a s (IsAt x i) → Holds K E a (with_line s (Called a x verb args None)) (asked_of x verb i t)
+  unfolding open_after
+  asked_now a s x verb args i (Audition true view) j p = let m = judges_told K (held K E s) s.happened j.0 i j.1 in (args, s.happened, [], refl, opens_last s (Called a x verb args None), p, m.0, m.1, m.2, m.3)
+  asked_now a s x verb args i (Audition false view) j p = tt
+  asked_now a s x verb args i (Made node caught stamps) j p = tt
+  asked_now a s x verb args i (Ejector live) j p = tt
+  asked_now a s x verb args i (Resolver q) j p = tt
+
   -- what an ejector, an audition or a resolver answers to a call
   thing_called : {a : ℕ} {C : Fact N} (again : Caller N) → GoodCaller K E a again → (act : ℕ) → Gets K E a C (IsAct act) → (i : ℕ) (t : Thing N) → Gets K E a C (MayThing i (Some t)) → (x : Value N) (verb : Words) (args : List (Value N)) → Gets K E a C (AreValues args)
-      → Gets K E a C (WasCalled x verb args) → Gets K E a C (IsAt x i) → Fine K E a C (calls.thing_answer K tree again act i t verb args) (MayGive x verb)
+      → Gets K E a C (WasCalled x verb args) → Gets K E a C (asked_of x verb i t) → Gets K E a C (IsAt x i) → Fine K E a C (calls.thing_answer K tree again act i t verb args) (MayGive x verb)
   unfolding calls.thing_answer
-  thing_called {a = a} {C = C} again good act k i (Ejector live) g x verb args h c p = ejector_called i live _ (got_hand K E a C i x verb args c p)
-  thing_called {a = a} {C = C} again good act k i (Audition true view) g x verb args h c p = audition_called again good act k view verb _ (got_audition_ask K E a C verb args h) x args i c p (record { at = λ s b. g.at s b })
-  thing_called {a = a} {C = C} again good act k i (Audition false view) g x verb args h c p = audition_dead again act view _
-  thing_called {a = a} {C = C} again good act k i (Resolver q) g x verb args h c p = given_of x verb (fine_resolver_answer i q (record { at = λ s b. g.at s b }) _ (got_may_ask K E a C i x verb args c p))
-  thing_called {a = a} {C = C} again good act k i (Made node caught stamps) g x verb args h c p = fine_stop K E a _
+  thing_called {a = a} {C = C} again good act k i (Ejector live) g x verb args h c u p = ejector_called i live _ (got_hand K E a C i x verb args c p)
+  thing_called {a = a} {C = C} again good act k i (Audition true view) g x verb args h c u p = audition_called again good act k view verb _ (got_audition_ask K E a C verb args h) x args i c (record { at = λ s b. u.at s b }) p (record { at = λ s b. g.at s b })
+  thing_called {a = a} {C = C} again good act k i (Audition false view) g x verb args h c u p = audition_dead again act view _
+  thing_called {a = a} {C = C} again good act k i (Resolver q) g x verb args h c u p = given_of x verb (fine_resolver_answer i q (record { at = λ s b. g.at s b }) _ (got_may_ask K E a C i x verb args c p))
+  thing_called {a = a} {C = C} again good act k i (Made node caught stamps) g x verb args h c u p = fine_stop K E a _
 
   lines_thing : {a : ℕ} {C : Fact N} (again : Caller N) → GoodCaller K E a again → (act : ℕ) → Gets K E a C (IsAct act) → (x : Value N) (i : ℕ) (t : Thing N) → Gets K E a C (MayThing i (Some t)) → (verb : Words) (args : List (Value N)) → Gets K E a C (IsCallee x verb args) → Gets K E a C (AreValues args)
       → Gets K E a C (IsAt x i) → Fine K E a C (scopes.with_lines act x verb args (calls.thing_answer K tree again act i t verb args)) IsValue
-  lines_thing {a = a} {C = C} again good act k x i t g verb args v h p = fine_with_lines K E a (Also (Also (IsAct act) (MayThing i (Some t))) (Also (AreValues args) (IsAt x i))) act x verb args (calls.thing_answer K tree again act i t verb args) (λ s u. ((tt, tt), (tt, tt))) (record { at = λ s b. ((k.at s b, g.at s b), (h.at s b, p.at s b)) }) k v h
-      (thing_called again good act (record { at = λ s b. b.0.0.0 }) i t (record { at = λ s b. b.0.0.1 }) x verb args (record { at = λ s b. b.0.1.0 }) (record { at = λ s b. b.1 }) (record { at = λ s b. b.0.1.1 }))
+  lines_thing {a = a} {C = C} again good act k x i t g verb args v h p = fine_with_lines K E a (Also (Also (IsAct act) (MayThing i (Some t))) (Also (AreValues args) (IsAt x i))) (asked_of x verb i t) act x verb args (calls.thing_answer K tree again act i t verb args) (λ s u. ((tt, tt), (tt, tt))) (record { at = λ s b. ((k.at s b, g.at s b), (h.at s b, p.at s b)) })
+      (λ s b. asked_now a s x verb args i t (g.at s b) (p.at s b)) k v h
+      (thing_called again good act (record { at = λ s b. b.0.0.0.0 }) i t (record { at = λ s b. b.0.0.0.1 }) x verb args (record { at = λ s b. b.0.0.1.0 }) (record { at = λ s b. b.1 }) (record { at = λ s b. b.0.1 }) (record { at = λ s b. b.0.0.1.1 }))
 
   lines_data : {a : ℕ} {C : Fact N} (again : Caller N) → GoodCaller K E a again → (act : ℕ) → Gets K E a C (IsAct act) → (x : Value N) → Gets K E a C (IsValue x) → (y : Value N) → Gets K E a C (IsValue y) → (verb : Words) (args : List (Value N)) → Gets K E a C (AreValues args)
       → Fine K E a C (scopes.with_lines act x verb args (perform.data_answer K tree again act y verb args)) IsValue
-  lines_data {a = a} {C = C} again good act k x v y g verb args h = fine_with_lines K E a (Also (Also (IsAct act) (IsValue y)) (AreValues args)) act x verb args (perform.data_answer K tree again act y verb args) (λ s u. ((tt, tt), tt)) (record { at = λ s b. ((k.at s b, g.at s b), h.at s b) }) k (got_callee K E a C x verb args v) h
-      (given_of x verb (fine_data_answer again good act (record { at = λ s b. b.0.0.0 }) y (record { at = λ s b. b.0.0.1 }) verb args (record { at = λ s b. b.0.1 })))
+  lines_data {a = a} {C = C} again good act k x v y g verb args h = fine_with_lines K E a (Also (Also (IsAct act) (IsValue y)) (AreValues args)) Nothing act x verb args (perform.data_answer K tree again act y verb args) (λ s u. ((tt, tt), tt)) (record { at = λ s b. ((k.at s b, g.at s b), h.at s b) }) (λ s b. tt) k (got_callee K E a C x verb args v) h
+      (given_of x verb (fine_data_answer again good act (record { at = λ s b. b.0.0.0.0 }) y (record { at = λ s b. b.0.0.0.1 }) verb args (record { at = λ s b. b.0.0.1 })))
 
   -- from what the new activation did since the call began
   run_ends : (a b : ℕ) (s t : Vat N) (x : Value N) (verb : Words) (d : Done N (Value N)) → Grows K E s t → opens t ≡ record { caller = a; receiver = x; verb = verb; begun = Some b } ∷ opens s → Ends K E b IsValue t d → CallEnds K E a s x verb (Some b) d
@@ -435,7 +452,7 @@ module _ {N W : Type 0} (K : Naming N W) (E : Ground N W) (spots : (i : ℕ) →
         let o : opens t ≡ record { caller = a; receiver = x; verb = verb; begun = Some b } ∷ opens s = opens_last r e in
         let here : Scope N = record { act = b; nouns = caught } in
         let good_r : Good K E r = good_by K E s r refl (refl, refl, refl, refl, refl) (grows_same K E s).grown (makes_none K E s r refl refl) refl q in
-        let good_t : Good K E t = good_line K E r e refl refl refl tt good_r (called_well K E a r x verb args (Some b) (has_up K E s r z a (callee x verb args) (v.at s c)) (holds_up K E a s r z (AreValues args) tt (h.at s c))) tt in
+        let good_t : Good K E t = good_line K E r e refl refl refl tt good_r (called_well K E a r x verb args (Some b) (has_up K E s r z a (callee x verb args) (v.at s c)) (holds_up K E a s r z (AreValues args) tt (h.at s c))) tt tt (i, node, caught, stamps, p.at s c, g.at s c) in
         let runs : Runs K (held K E t) t.happened b i = called a x verb args (among_last r.happened e) (thing_up K E s t w x i (p.at s c)) in
         let nouns : AllOf (NounKnown K E b t) caught = nouns_from K E b t caught (λ k m. endowed i node caught stamps runs (g.at s c) m) in
         let body : Act N (Value N) = calls.run_object K tree rec ms verb args here in
@@ -502,8 +519,8 @@ module _ {N W : Type 0} (K : Naming N W) (E : Ground N W) (spots : (i : ℕ) →
   coerce_data : {a : ℕ} {C : Fact N} (again : Caller N) → GoodCaller K E a again → (act : ℕ) → Gets K E a C (IsAct act) → (g : Value N) → Gets K E a C (IsGuard g) → (y x : Value N) → Gets K E a C (IsValue x) → (j : Value N) → Gets K E a C (IsValue j)
       → Fine K E a C (scopes.with_lines act g (codes "coerce") (x ∷ j ∷ []) (perform.data_answer K tree again act y (codes "coerce") (x ∷ j ∷ []))) IsValue
   unfolding perform.data_answer
-  coerce_data {a = a} {C = C} again good act k g v y x h j i = fine_with_lines K E a (IsAct act) act g (codes "coerce") (x ∷ j ∷ []) _ (λ s u. tt) k k (got_coercer K E a C g x j v) (record { at = λ s b. (h.at s b, (i.at s b, tt)) })
-      (given_of g (codes "coerce") (fine_bind K E a IsReply (look_coerce K E a y x j) (λ r. fine_reply again good act (record { at = λ s b. b.0.0 }) r (record { at = λ s b. b.1 }))))
+  coerce_data {a = a} {C = C} again good act k g v y x h j i = fine_with_lines K E a (IsAct act) Nothing act g (codes "coerce") (x ∷ j ∷ []) _ (λ s u. tt) k (λ s b. tt) k (got_coercer K E a C g x j v) (record { at = λ s b. (h.at s b, (i.at s b, tt)) })
+      (given_of g (codes "coerce") (fine_bind K E a IsReply (look_coerce K E a y x j) (λ r. fine_reply again good act (record { at = λ s b. b.0.0.0 }) r (record { at = λ s b. b.1 }))))
 
   coerce_value : {a : ℕ} {C : Fact N} (rec : Evaluator N) → GoodEvaluator K E rec → (again : Caller N) → GoodCaller K E a again → (act : ℕ) → Gets K E a C (IsAct act) → (g : Value N) → Gets K E a C (IsGuard g) → (y : Value N) → Gets K E a C (Leads g y) → (x : Value N) → Gets K E a C (IsValue x) → (j : Value N) → Gets K E a C (IsValue j)
       → Fine K E a C (calls.call_value K tree rec again act g y (codes "coerce") (x ∷ j ∷ [])) IsValue

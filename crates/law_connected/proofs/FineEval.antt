@@ -18,7 +18,7 @@ use Rattle.law_connected.specs.News.{own_number, thing_made, slot_made, list_mad
 use Rattle.law_connected.proofs.Rising.{rises_line, rises_new, length_end}
 use Rattle.law_connected.proofs.Adding.{adds_line}
 use Rattle.law_connected.proofs.Idle.{joined}
-use Rattle.law_connected.proofs.Ground.{Ground, all_map, opens, with_line, opens_last, held, Has, Knew, Grows, Good, ObjectTold, has_up, grows_line, good_block}
+use Rattle.law_connected.proofs.Ground.{Ground, all_map, opens, with_line, opens_last, held, Has, Knew, Grows, Good, Then, ObjectTold, has_up, grows_line, good_block}
 use Rattle.law_connected.proofs.Fine.{MayBe, Fact, Also, IsAct, IsValue, IsGuard, AreValues, IsSlot, IsBound, IsScope, MayBound, MayCell, MadeEjector, WasHanded, answer, answers, BoundKnown, NounKnown, Gets, Passes, Ends, Fine, holds_up, widen, grows_thing, get_or_last, old_thing, uses_values, is_told, fine_bind, fine_give, fine_eject, fine_stop, fine_spend}
 use Rattle.law_connected.proofs.Looks.{look_cell, got, got_left, got_act, got_with, got_judging}
 use Rattle.law_connected.proofs.Rules.{fine, then_unit, if_same, then_got}
@@ -99,6 +99,11 @@ module _ {N W : Type 0} (K : Naming N W) (E : Ground N W) (spots : (i : ℕ) →
       slot (inr (inl e)) = subst (λ j. Has K E t a j) (sym e) k
       slot (inr (inr e)) = absurd e
 
+  -- what it is made with was known before it was there
+  made_then : (a i : ℕ) (x : Words) (caught : List (Binding N)) (stamps : List (Value N)) (s : Vat N) → AllOf (NounOwn a s (K.object i)) caught → AllOf (Knew K E s a) stamps → Then K E s (ObjectMade a (K.object i) x (map (λ b. b.bound) caught) stamps)
+  unfolding uses itself
+  made_then a i x caught stamps s own h = (uses_caught a s (K.object i) caught (values stamps) own (uses_values K E a s (AValue (Ref (K.object i)) ∷ []) stamps h), tt, tt, (i, refl))
+
   made_now : (a : ℕ) (me : N) (x : Words) (caught : List (Binding N)) (stamps : List (Value N)) (after : Scope N) (u : Vat N) → after.act ≡ a → (LineWell K (held K E u) u.happened (ObjectMade a me x (map (λ b. b.bound) caught) stamps) → Good K E (with_line u (ObjectMade a me x (map (λ b. b.bound) caught) stamps))) → AllOf (NounOwn a u me) after.nouns → AllOf (NounOwn a u me) caught → served (opens u) ≡ None → AllOf (Knew K E u a) stamps
       → Ends K E a answer u ((tell (ObjectMade a me x (map (λ b. b.bound) caught) stamps) >> scopes.answered after (Ref me)) u)
   unfolding tell ◌>>◌ and_then scopes.answered give uses itself by values tells open_after
@@ -138,10 +143,10 @@ module _ {N W : Type 0} (K : Naming N W) (E : Ground N W) (spots : (i : ℕ) →
       ))
 
   object_good : (a node : ℕ) (x : Words) (caught : List (Binding N)) (stamps : List (Value N)) (s : Vat N) → Good K E s → let u : Vat N = record s { things = s.things ++ Made node caught stamps ∷ [] } in let l : Happened N = ObjectMade a (K.object (length s.things)) x (map (λ b. b.bound) caught) stamps in
-      LineWell K (held K E u) u.happened l → Good K E (with_line u l)
+      Then K E s l → LineWell K (held K E u) u.happened l → Good K E (with_line u l)
   unfolding tell
-  object_good a node x caught stamps s g w = let u : Vat N = record s { things = s.things ++ Made node caught stamps ∷ [] } in let l : Happened N = ObjectMade a (K.object (length s.things)) x (map (λ b. b.bound) caught) stamps in
-      good_block K E s (with_line u l) l refl (refl, refl, refl, refl, refl) tt (grows_thing K E a s (Made node caught stamps)).grown w tt
+  object_good a node x caught stamps s g tw w = let u : Vat N = record s { things = s.things ++ Made node caught stamps ∷ [] } in let l : Happened N = ObjectMade a (K.object (length s.things)) x (map (λ b. b.bound) caught) stamps in
+      good_block K E s (with_line u l) l refl (refl, refl, refl, refl, refl) tt (grows_thing K E a s (Made node caught stamps)).grown w tt tw
       (λ i view q. inl (old_audition s.things i node caught stamps view (get_or_last s.things (Made node caught stamps) (Audition true view) i q)))
       (λ i p q. inl (old_thing K E a s.things (Made node caught stamps) (Resolver p) i (no_resolver node caught stamps p) (get_or_last s.things (Made node caught stamps) (Resolver p) i q)))
       (λ i m cs ys q. object_told a node x caught stamps s i m cs ys (get_or_last s.things (Made node caught stamps) (Made m cs ys) i q)) (λ i c q. inl q)
@@ -154,7 +159,8 @@ module _ {N W : Type 0} (K : Naming N W) (E : Ground N W) (spots : (i : ℕ) →
   object_ends a node p xs stamps here s g e nouns o h = let me : N = K.object (length s.things) in let after : Scope N = scopes.named p (Ref me) here in let caught : List (Binding N) = scopes.captures after xs in
       let u : Vat N = record s { things = s.things ++ Made node caught stamps ∷ [] } in let r : Grows K E s u = grows_thing K E a s (Made node caught stamps) in let q : Passes K E a s u = (r, refl) in
       let owned : AllOf (NounOwn a u me) after.nouns = named_own a u me p here (all_map (NounKnown K E a s) (NounOwn a u me) (λ b k. own_known a u me b.bound (holds_up K E a s u r (IsBound b.bound) tt k)) here.nouns nouns) in
-      widen K E a answer s u _ q (made_ends a me (scopes.name_of p) caught stamps after u here.act (named_act p (Ref me) here ∙ e) e (object_good a node (scopes.name_of p) caught stamps s g) owned (caught_own a u me after xs owned) o (holds_up K E a s u r (AreValues stamps) tt h))
+      let then_owned : AllOf (NounOwn a s me) after.nouns = named_own a s me p here (all_map (NounKnown K E a s) (NounOwn a s me) (λ b k. own_known a s me b.bound k) here.nouns nouns) in
+      widen K E a answer s u _ q (made_ends a me (scopes.name_of p) caught stamps after u here.act (named_act p (Ref me) here ∙ e) e (object_good a node (scopes.name_of p) caught stamps s g (made_then a (length s.things) (scopes.name_of p) caught stamps s (caught_own a s me after xs then_owned) h)) owned (caught_own a u me after xs owned) o (holds_up K E a s u r (AreValues stamps) tt h))
 
   object_after : {a : ℕ} {C : Fact N} (node : ℕ) (p : Option Node) (xs : List Words) (stamps : List (Value N)) (here : Scope N) → Gets K E a C (IsScope here) → Gets K E a C (AreValues stamps)
       → Fine K E a C (look (λ s. length s.things) >>= (λ n. calls.object_as K tree node p xs stamps (K.object n) here)) answer

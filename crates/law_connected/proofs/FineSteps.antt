@@ -23,9 +23,10 @@ use Rattle.law_connected.proofs.ArriveCauses.{arrives_well, notices_well}
 use Rattle.law_connected.specs.Activations.{Rises}
 use Rattle.law_connected.specs.News.{thing_made, slot_made, list_made, Adds, MadeNew, StepsMakeNew}
 use Rattle.law_connected.specs.UseLaws.{StepsConnect}
+use Rattle.law_connected.specs.InTime.{AllInTime, StepsInTime}
 use Rattle.law_connected.specs.Told.{ObjectsTold, SlotsTold, ReadsTold, ResolversTold, WaitsTold, StepsTell}
 use Rattle.law_connected.proofs.ArriveIdle.{idle_arrive, idle_notice}
-use Rattle.law_connected.proofs.Ground.{Ground, opens, with_line, opens_last, held, Has, Knew, Good, grows_same, makes_none, good_line, good_by}
+use Rattle.law_connected.proofs.Ground.{Ground, opens, with_line, opens_last, held, first, Has, Knew, Good, grows_same, makes_none, good_line, good_by}
 use Rattle.law_connected.proofs.Fine.{Fact, Nothing, Also, IsAct, IsValue, AreValues, IsScope, answer, nothing, Gets, Ends, Fine, passes_same, widen, fine_bind, fine_give, IsLine, ResolverOf, MayAsk, then_line, idle_ends}
 use Rattle.law_connected.proofs.Looks.{got_itself, got_asked, resolver_asked}
 use Rattle.law_connected.proofs.Rules.{fine_settle, fine_resolve, nouns_from}
@@ -80,12 +81,12 @@ module _ {N W : Type 0} (K : Naming N W) (E : Ground N W) (spots : (i : ℕ) →
 
   finished : {C : Fact N} (o : Option N) → OwesAll o → (v : Value N) → Gets K E a C (IsValue v) → Fine K E a C (tell (Finished a v) >> for_some o (λ p. resolve K p v) (give tt)) nothing
   unfolding uses by open_after
-  finished o w v g = then_line K E a {D = IsLine (Finished a v)} (Finished a v) refl refl refl (λ so. tt) (λ s. refl) (λ s i c. ((inl (g.at s c), tt), tt)) (λ s c. tt) (λ s c. among_last s.happened (Finished a v))
+  finished o w v g = then_line K E a {D = IsLine (Finished a v)} (Finished a v) refl refl refl (λ so. tt) tt (λ s. refl) (λ s i c. ((inl (g.at s c), tt), tt)) (λ s c. tt) (λ s c. among_last s.happened (Finished a v))
       (if_owed o (λ p e. fine_resolve K E a p v (record { at = λ s c. gave a c.1 (w p e) })))
 
   threw : {C : Fact N} (o : Option N) → OwesAll o → (t : Words) → Fine K E a C (tell (Threw a t) >> for_some o (λ p. settle K p (Broken t)) (give tt)) nothing
   unfolding uses by open_after
-  threw o w t = then_line K E a {D = IsLine (Threw a t)} (Threw a t) refl refl refl (λ so. tt) (λ s. refl) (λ s i c. (tt, tt)) (λ s c. tt) (λ s c. among_last s.happened (Threw a t))
+  threw o w t = then_line K E a {D = IsLine (Threw a t)} (Threw a t) refl refl refl (λ so. tt) tt (λ s. refl) (λ s i c. (tt, tt)) (λ s c. tt) (λ s c. among_last s.happened (Threw a t))
       (if_owed o (λ p e. fine_settle K E a p (Broken t) (record { at = λ s c. inl (Broken t, threw_by a c.1 (w p e), inl (inl at_itself)) })))
 
   closes_ends : (o : Option N) → OwesAll o → (s : Vat N) (d : Done N (Value N)) → Ends K E a IsValue s d → Ends K E a nothing s (end_by (λ v. tell (Finished a v) >> for_some o (λ p. resolve K p v) (give tt)) (λ t. tell (Threw a t) >> for_some o (λ p. settle K p (Broken t)) (give tt)) (λ n v. stop Astray) d)
@@ -157,7 +158,7 @@ module _ {N W : Type 0} (K : Naming N W) (E : Ground N W) (spots : (i : ℕ) →
 
   took_good : (r : Vat N) (m : Message N) → Good K E r → Good K E (with_line r (Took a m))
   unfolding uses
-  took_good r m g = good_line K E r (Took a m) refl refl refl tt g (tt, tt) tt
+  took_good r m g = good_line K E r (Took a m) refl refl refl tt g (tt, tt) tt tt tt
 
   took_none : (r : Vat N) (m : Message N) → served (opens r) ≡ None → served (opens (with_line r (Took a m))) ≡ None
   unfolding open_after
@@ -209,6 +210,7 @@ module _ {N W : Type 0} (K : Naming N W) (spots : (i : ℕ) → K.spot (K.object
   good_first given step s e still = record {
     causes = first_causes K step s e;
     lines = subst (λ es. Connected K (held K (first_ground given step s) s) es) (sym e) tt;
+    timely = subst (λ es. AllInTime K (first K (first_ground given step s)) [] es) (sym e) tt;
     resolvers = λ i p f. inl f;
     judged = λ i view f. absurd (true_false (sym (live_found s.things i (Audition true view) f) ∙ still i));
     made = λ i node caught stamps f. inl f;
@@ -267,6 +269,16 @@ module _ {N W : Type 0} (K : Naming N W) (spots : (i : ℕ) → K.spot (K.object
   good_new step s (Ejects n v t) h = (h.things_rise, h.slots_rise, h.lists_told)
   good_new step s (Stops c t) h = (h.things_rise, h.slots_rise, h.lists_told)
 
+  good_timely : (step : Step N W) (s : Vat N) (d : Done N (Unit {0})) → After (λ r t. Good K (ground step s) t) s d → After (λ s t. AllInTime K (held_from step s s) [] t.happened) s d
+  unfolding held_from
+  good_timely step s (Gives x t) h = h.timely
+  good_timely step s (Throws p t) h = h.timely
+  good_timely step s (Ejects n v t) h = h.timely
+  good_timely step s (Stops c t) h = h.timely
+
+  pub steps_in_time : StepsInTime K
+  steps_in_time step s e still = good_timely step s (does K step s) (steps_good step s e still)
+
   pub steps_make_new : StepsMakeNew K
   steps_make_new step s e still = good_new step s (does K step s) (steps_good step s e still)
 
@@ -289,6 +301,12 @@ named_connect word v step s e still = steps_connect (naming word v) (named_spots
 
 pub numbered_connect : (word : ℕ → ℕ) → StepsConnect (numbering {W = Name} word)
 numbered_connect word step s e still = steps_connect (numbering {W = Name} word) (numbered_spots word) step s e still
+
+pub named_in_time : (word : ℕ → ℕ) (v : ℕ) → StepsInTime (naming word v)
+named_in_time word v step s e still = steps_in_time (naming word v) (named_spots word v) step s e still
+
+pub numbered_in_time : (word : ℕ → ℕ) → StepsInTime (numbering {W = Name} word)
+numbered_in_time word step s e still = steps_in_time (numbering {W = Name} word) (numbered_spots word) step s e still
 
 pub named_tell : (word : ℕ → ℕ) (v : ℕ) → StepsTell (naming word v)
 named_tell word v step s e still = steps_tell (naming word v) (named_spots word v) step s e still

@@ -1,16 +1,17 @@
 -- A connected history so far: what is known in it stays known, and how it grows by one line.
-use Rattle.std.proofs.Common.{◌≡◌, ℕ, true, List, [], ◌∷◌, ◌++◌, Option, Some, None, refl, sym, ap, ◌∙◌, subst, length, map, ◌⊎◌, inl, inr}
+use Rattle.std.proofs.Common.{◌≡◌, ℕ, suc, arith, true, List, [], ◌∷◌, ◌++◌, Option, Some, None, refl, sym, ap, ◌∙◌, subst, length, map, ◌⊎◌, inl, inr}
 use Rattle.std.specs.Prelude.{slice_get}
-use Rattle.def_machine.specs.Values.{Words, Value, Ref, Naming}
+use Rattle.def_machine.specs.Values.{Words, Value, Ref, Naming, Own}
 use Rattle.def_machine.specs.State.{Thing, Made, Resolver, Binding, Cell, Freedom, IsSafe, IsItself, IsFinal, IsVar, View, Audition, Happened, Took, Called, Back, Thrown, Left, Got, SlotMade, SlotRead, SlotWrote, ListMade, ListCame, EjectorMade, AuditionMade, PromiseMade, ObjectMade, Sends, Reacts, Finished, Threw, Settles, Waits, Views, Lost, Posted, Vat}
 use Rattle.law_connected.specs.Known.{Item, AValue, AGuard, IsAmong, AllOf, Start, Holdings, Reaches, IsThing, Knows}
-use Rattle.law_connected.specs.Connected.{Open, open_after, open_from, Judges, evaluates, asks, GivenBack, BackWell, ComesWell, LineWell, ConnectedAfter, Connected, uses, itself}
+use Rattle.law_connected.specs.Connected.{Open, open_after, open_from, Judges, evaluates, asks, AskedThen, GivenBack, BackWell, ComesWell, LineWell, ConnectedAfter, Connected, uses, itself}
 use Rattle.law_connected.specs.ConnectedLaws as laws
-use Rattle.law_connected.proofs.Knowing.{among_more, reaches_more, thing_more, knows_more, knows_later}
+use Rattle.law_connected.proofs.Knowing.{among_mid, among_more, reaches_more, thing_more, knows_more, knows_later}
 use Rattle.law_connected.specs.Settlings.{IsResolver, IsCaused, Follows}
 use Rattle.law_connected.proofs.Causes.{Causes, CausedAfter, caused_rest, resolver_more, SameNames, causes_same, causes_block}
 use Rattle.law_connected.specs.Activations.{Rises}
 use Rattle.law_connected.specs.Told.{ReadTold, ReadsTold}
+use Rattle.law_connected.specs.InTime.{UsesThen, GivesThen, CallsThen, MakesOwn, WellThen, InTime, AllInTime}
 use Rattle.law_connected.specs.News.{thing_made, slot_made, list_made, Adds}
 use Rattle.law_connected.proofs.Rising.{rises_line}
 use Rattle.law_connected.proofs.Adding.{adds_line}
@@ -77,10 +78,13 @@ module _ {N W : Type 0} (K : Naming N W) (h later : Holdings N W) (grown : laws.
   judges_later so a i (evaluates n front rest e f g) = evaluates n front rest e f g
   judges_later so a i (asks b j x n front rest e f g t k) = asks b j x n front rest e f g (thing_later so x j t) (judges_later so a j k)
 
+  asked_later : (so : List (Happened N)) (a : ℕ) (x : Value N) (verb : Words) (i : ℕ) → AskedThen K h so a x verb i → AskedThen K later so a x verb i
+  asked_later so a x verb i k = (k.0, k.1, k.2, k.3, k.4, thing_later k.1 x i k.5, k.6, k.7, k.8, k.9)
+
   given_later : (so : List (Happened N)) (a : ℕ) (x : Value N) (verb : Words) (o : Option ℕ) (v : Value N) → GivenBack K h so a x verb o v → GivenBack K later so a x verb o v
   given_later so a x verb (Some b) v k = knows_later K h later grown so b (AValue v) k
   given_later so a x verb None v (inl k) = inl (knows_later K h later grown so a (AValue v) k)
-  given_later so a x verb None v (inr k) = inr (k.0, k.1, k.2, thing_later so x k.2 k.3, judges_later so k.1 k.2 k.4, knows_later K h later grown so k.1 (AGuard v) k.5)
+  given_later so a x verb None v (inr k) = inr (k.0, k.1, k.2, asked_later so a x verb k.2 k.3, judges_later so k.1 k.2 k.4, knows_later K h later grown so k.1 (AGuard v) k.5)
 
   back_later : (so : List (Happened N)) (a : ℕ) (v : Value N) (cs : List (Open N)) → BackWell K h so a v cs → BackWell K later so a v cs
   back_later so a v [] k = k
@@ -131,6 +135,11 @@ module _ {N W : Type 0} (K : Naming N W) (h : Holdings N W) where
   judges_more : (so more : List (Happened N)) (a i : ℕ) → Judges K h so a i → Judges K h (so ++ more) a i
   judges_more so more a i (evaluates n front rest e f g) = evaluates n front (rest ++ more) (ap (λ xs. xs ++ more) e ∙ joined front (AuditionMade a n ∷ rest) more) f g
   judges_more so more a i (asks b j x n front rest e f g t k) = asks b j x n front (rest ++ more) (ap (λ xs. xs ++ more) e ∙ joined front (AuditionMade b n ∷ rest) more) f g (thing_more K h.before so more x j t) (judges_more so more a j k)
+
+  -- who judges does so by an audition that lines tell of
+  pub judges_told : (so : List (Happened N)) (a i : ℕ) → Judges K h so a i → (b : ℕ) × (n : N) × IsAmong (AuditionMade b n) so × (K.spot n ≡ Own i)
+  judges_told so a i (evaluates n front rest e f g) = (a, n, subst (λ xs. IsAmong (AuditionMade a n) xs) (sym e) (among_mid (AuditionMade a n) front rest), f)
+  judges_told so a i (asks b j x n front rest e f g t k) = (b, n, subst (λ xs. IsAmong (AuditionMade b n) xs) (sym e) (among_mid (AuditionMade b n) front rest), f)
 
   -- a line of no activation
   idle_well : (so : List (Happened N)) (e : Happened N) → IsIdle e → IsCaused K h.start so e → LineWell K h so e
@@ -261,10 +270,15 @@ module _ {N W : Type 0} (K : Naming N W) (E : Ground N W) where
   abbrev pub CellTold : Vat N → ℕ → Cell N → Type 0
   CellTold s k c = PutTold s k c.value
 
+  -- what there was before the step
+  abbrev pub first : Holdings N W
+  first = record { things = E.things; lists = E.lists; slots = E.slots; before = E.start.vat.known; given = E.given; start = E.start }
+
   -- what holds so far
   pub record Good (s : Vat N) : Type 0 where
     pub causes : Causes K E.start s
     pub lines : Connected K (held s) s.happened
+    pub timely : AllInTime K first [] s.happened
     pub judged : (i : ℕ) (view : View N) → slice_get s.things i ≡ Some (Audition true view) → Judged s i view
     pub resolvers : (i : ℕ) (p : N) → slice_get s.things i ≡ Some (Resolver p) → IsResolver K E.start s.happened i p
     pub made : (i node : ℕ) (caught : List (Binding N)) (stamps : List (Value N)) → slice_get s.things i ≡ Some (Made node caught stamps) → ObjectTold s i node caught stamps
@@ -273,6 +287,67 @@ module _ {N W : Type 0} (K : Naming N W) (E : Ground N W) where
     pub things_rise : Rises (length E.things) (map (thing_made K) s.happened) (length s.things)
     pub slots_rise : Rises (length E.slots) (map slot_made s.happened) (length s.slots)
     pub lists_told : Adds E.lists (map list_made s.happened) s.lists
+
+  -- what a line uses, gives back and calls, was there in this state
+  abbrev pub Then : Vat N → Happened N → Type 0
+  Then s e = UsesThen K first s.happened s e × GivesThen K first s.happened s e × CallsThen K first s.happened s e × MakesOwn K first e
+
+  well_then : (so : List (Happened N)) (e : Happened N) → WellThen K first so e → InTime K first so e
+  well_then so (Settles p y) w = tt
+  well_then so (Waits p q) w = tt
+  well_then so (Views p q) w = tt
+  well_then so (Lost m) w = tt
+  well_then so (Posted u m) w = tt
+  well_then so (ListCame n vs) w = tt
+  well_then so _ w = w
+
+  in_time : (s : Vat N) (e : Happened N) → Good s → Then s e → InTime K first s.happened e
+  in_time s e g w = well_then s.happened e (s, record { lines = refl; lists = g.lists_told; objects = g.made }, w.0, w.1, w.2, w.3)
+
+  timely_end : (so es : List (Happened N)) (e : Happened N) → AllInTime K first so es → InTime K first (so ++ es) e → AllInTime K first so (es ++ e ∷ [])
+  timely_end so [] e k l = (subst (λ xs. InTime K first xs e) (sym (no_more so)) l, tt)
+  timely_end so (x ∷ es) e k l = (k.0, timely_end (so ++ x ∷ []) es e k.1 (subst (λ xs. InTime K first xs e) (sym (joined so (x ∷ []) es)) l))
+
+  timely_join : (so es more : List (Happened N)) → AllInTime K first so es → AllInTime K first (so ++ es) more → AllInTime K first so (es ++ more)
+  timely_join so [] more k l = subst (λ xs. AllInTime K first xs more) (sym (no_more so)) l
+  timely_join so (x ∷ es) more k l = (k.0, timely_join (so ++ x ∷ []) es more k.1 (subst (λ xs. AllInTime K first xs more) (sym (joined so (x ∷ []) es)) l))
+
+  idle_timely : (so : List (Happened N)) (e : Happened N) → IsIdle e → InTime K first so e
+  idle_timely so (Settles p y) k = tt
+  idle_timely so (Waits p q) k = tt
+  idle_timely so (Views p q) k = tt
+  idle_timely so (Lost m) k = tt
+  idle_timely so (Posted w m) k = tt
+  idle_timely so (ListCame n vs) k = tt
+  idle_timely so _ k = absurd k
+
+  idles_timely : (so es : List (Happened N)) → AllOf IsIdle es → AllInTime K first so es
+  idles_timely so [] k = tt
+  idles_timely so (e ∷ es) k = (idle_timely so e k.0, idles_timely (so ++ e ∷ []) es k.1)
+
+  -- what a line that is connected gives back
+  gives_then : (s : Vat N) (e : Happened N) → ComesWell K (held s) s.happened e → GivesThen K first s.happened s e
+  gives_then s (Back a v) w = w
+  gives_then s _ w = tt
+
+  longer_not : {A : Type 0} (x : A) (xs : List A) → x ∷ xs ≡ xs → ⊥
+  longer_not x xs e = let n = ap length e in more (length xs) n
+    where
+      more : (n : ℕ) → suc n ≡ n → ⊥
+      more n q = omega arith
+
+  -- a line that begins no call
+  calls_none : (s : Vat N) (e : Happened N) → open_after (opens s) e ≡ opens s → CallsThen K first s.happened s e
+  unfolding open_after
+  calls_none s (Called a x verb args b) q = absurd (longer_not _ (opens s) q)
+  calls_none s _ q = tt
+
+  -- a line that is connected and begins no call
+  pub then_of : (s : Vat N) (e : Happened N) → MakesOwn K first e → open_after (opens s) e ≡ opens s → LineWell K (held s) s.happened e → Then s e
+  then_of s e m q w = (w.0, gives_then s e w.1, calls_none s e q, m)
+
+  pub then_line : (s : Vat N) (e : Happened N) → MakesOwn K first e → CallsThen K first s.happened s e → LineWell K (held s) s.happened e → Then s e
+  then_line s e m c w = (w.0, gives_then s e w.1, c, m)
 
   -- no audition is made live, no object is made, and nothing is put in a slot
   pub record MakesNone (s t : Vat N) : Type 0 where
@@ -339,10 +414,13 @@ module _ {N W : Type 0} (K : Naming N W) (E : Ground N W) where
     pub cell_up : (k : ℕ) (c : Cell N) → CellTold s k c → CellTold t k c
     cell_up k c h = put_up k c.value h
 
-    pub given_up : (a : ℕ) (x : Value N) (verb : Words) (o : Option ℕ) (v : Value N) → GivenBack K (held s) s.happened a x verb o v → GivenBack K (held t) t.happened a x verb o v
-    given_up a x verb (Some b) v k = has_up b (AValue v) k
-    given_up a x verb None v (inl k) = inl (has_up a (AValue v) k)
-    given_up a x verb None v (inr k) = inr (k.0, k.1, k.2, thing_up x k.2 k.3, judges_up k.1 k.2 k.4, has_up k.1 (AGuard v) k.5)
+    pub asked_of_up : (a : ℕ) (x : Value N) (verb : Words) (i : ℕ) → opens t ≡ opens s → AskedThen K (held s) s.happened a x verb i → AskedThen K (held t) t.happened a x verb i
+    asked_of_up a x verb i e k = (k.0, k.1, k.2 ++ g.more, g.lines ∙ (ap (λ xs. xs ++ g.more) k.3 ∙ joined k.1 (Called a x verb k.0 None ∷ k.2) g.more), e ∙ k.4, k.5, k.6, k.7, k.8, k.9)
+
+    pub given_up : (a : ℕ) (x : Value N) (verb : Words) (o : Option ℕ) (v : Value N) → opens t ≡ opens s → GivenBack K (held s) s.happened a x verb o v → GivenBack K (held t) t.happened a x verb o v
+    given_up a x verb (Some b) v e k = has_up b (AValue v) k
+    given_up a x verb None v e (inl k) = inl (has_up a (AValue v) k)
+    given_up a x verb None v e (inr k) = inr (k.0, k.1, k.2, asked_of_up a x verb k.2 e k.3, judges_up k.1 k.2 k.4, has_up k.1 (AGuard v) k.5)
 
   same_grown : (h : Holdings N W) → laws.Grown h h
   same_grown h = record { objects = λ i node caught stamps e. e; lists = λ k vs e. e; guards = λ k c e. (c, e, refl); before = refl; given = refl }
@@ -374,7 +452,7 @@ module _ {N W : Type 0} (K : Naming N W) (E : Ground N W) where
   grows_by s t e g = record { more = []; lines = e ∙ no_more s.happened; grown = g }
 
   -- one more line, and what is made with it
-  pub good_block : (s t : Vat N) (e : Happened N) → t.happened ≡ s.happened ++ e ∷ [] → SameNames K E.start s t → IsCaused K E.start s.happened e → laws.Grown (held s) (held t) → LineWell K (held t) s.happened e → ReadTold E.slots s.happened e
+  pub good_block : (s t : Vat N) (e : Happened N) → t.happened ≡ s.happened ++ e ∷ [] → SameNames K E.start s t → IsCaused K E.start s.happened e → laws.Grown (held s) (held t) → LineWell K (held t) s.happened e → ReadTold E.slots s.happened e → Then s e
       → ((i : ℕ) (view : View N) → slice_get t.things i ≡ Some (Audition true view) → (slice_get s.things i ≡ Some (Audition true view)) ⊎ Judged t i view)
       → ((i : ℕ) (p : N) → slice_get t.things i ≡ Some (Resolver p) → (slice_get s.things i ≡ Some (Resolver p)) ⊎ IsResolver K E.start t.happened i p)
       → ((i node : ℕ) (caught : List (Binding N)) (stamps : List (Value N)) → slice_get t.things i ≡ Some (Made node caught stamps) → (slice_get s.things i ≡ Some (Made node caught stamps)) ⊎ ObjectTold t i node caught stamps)
@@ -382,9 +460,10 @@ module _ {N W : Type 0} (K : Naming N W) (E : Ground N W) where
       → (Rises (length E.things) (map (thing_made K) s.happened) (length s.things) → Rises (length E.things) (map (thing_made K) (s.happened ++ e ∷ [])) (length t.things))
       → (Rises (length E.slots) (map slot_made s.happened) (length s.slots) → Rises (length E.slots) (map slot_made (s.happened ++ e ∷ [])) (length t.slots))
       → (Adds E.lists (map list_made s.happened) s.lists → Adds E.lists (map list_made (s.happened ++ e ∷ [])) t.lists) → Good s → Good t
-  good_block s t e f n r g l rd au re ob ce tr sr lr h = let grows : Grows s t = record { more = e ∷ []; lines = f; grown = g } in record {
+  good_block s t e f n r g l rd tw au re ob ce tr sr lr h = let grows : Grows s t = record { more = e ∷ []; lines = f; grown = g } in record {
     causes = causes_block K E.start s t e f n r h.causes;
     lines = subst (λ es. Connected K (held t) es) (sym f) (connected_end K (held t) [] s.happened e (connected_later K (held s) (held t) g refl [] s.happened h.lines) l);
+    timely = subst (λ es. AllInTime K first [] es) (sym f) (timely_end [] s.happened e h.timely (in_time s e h tw));
     resolvers = λ i p k. by_resolver grows i p (re i p k);
     judged = λ i view k. by_audition grows i view (au i view k);
     made = λ i node caught stamps k. by_object grows i node caught stamps (ob i node caught stamps k);
@@ -412,8 +491,8 @@ module _ {N W : Type 0} (K : Naming N W) (E : Ground N W) where
       by_cell w k c (inr n) = n
 
   -- a line that is connected
-  pub good_line : (s : Vat N) (e : Happened N) → thing_made K e ≡ None → slot_made e ≡ None → list_made e ≡ None → IsCaused K E.start s.happened e → Good s → LineWell K (held s) s.happened e → ReadTold E.slots s.happened e → Good (with_line s e)
-  good_line s e nil none new r g l rd = good_block s (with_line s e) e refl (refl, refl, refl, refl, refl) r (same_grown (held s)) l rd (λ i view k. inl k) (λ i p k. inl k) (λ i node caught stamps k. inl k) (λ i c k. inl k)
+  pub good_line : (s : Vat N) (e : Happened N) → thing_made K e ≡ None → slot_made e ≡ None → list_made e ≡ None → IsCaused K E.start s.happened e → Good s → LineWell K (held s) s.happened e → ReadTold E.slots s.happened e → MakesOwn K first e → CallsThen K first s.happened s e → Good (with_line s e)
+  good_line s e nil none new r g l rd mk cw = good_block s (with_line s e) e refl (refl, refl, refl, refl, refl) r (same_grown (held s)) l rd (then_line s e mk cw l) (λ i view k. inl k) (λ i p k. inl k) (λ i node caught stamps k. inl k) (λ i c k. inl k)
       (rises_line (thing_made K) (length E.things) (length s.things) s.happened e nil) (rises_line slot_made (length E.slots) (length s.slots) s.happened e none) (adds_line list_made E.lists s.lists s.happened e new) g
 
   -- a change that tells nothing, and makes none of these
@@ -421,6 +500,7 @@ module _ {N W : Type 0} (K : Naming N W) (E : Ground N W) where
   good_by s t e f g m q k = let grows : Grows s t = grows_by s t e g in record {
     causes = causes_same K E.start s t e f k.causes;
     lines = subst (λ es. Connected K (held t) es) (sym e) (connected_later K (held s) (held t) g refl [] s.happened k.lines);
+    timely = subst (λ es. AllInTime K first [] es) (sym e) k.timely;
     resolvers = λ i p j. resolver_up s t grows i p (k.resolvers i p (m.resolvers i p j));
     judged = λ i view j. judged_up s t grows i view (k.judged i view (m.auditions i view j));
     made = λ i node caught stamps j. object_up s t grows i node caught stamps (k.made i node caught stamps (m.objects i node caught stamps j));
@@ -500,6 +580,7 @@ module _ {N W : Type 0} (K : Naming N W) (E : Ground N W) where
     causes = r;
     lines = subst (λ es. Connected K (held t) es) (sym i.lines) (connected_join K (held t) [] s.happened i.more (connected_later K (held s) (held t) (idles_grown s t i) refl [] s.happened g.lines)
         (idles_connected K (held t) s.happened i.more i.idle (caused_rest K E.start [] s.happened i.more (subst (λ es. CausedAfter K E.start [] es) i.lines r.lines))));
+    timely = subst (λ es. AllInTime K first [] es) (sym i.lines) (timely_join [] s.happened i.more g.timely (idles_timely s.happened i.more i.idle));
     resolvers = λ n p e. resolver_up s t (idles_grows s t i) n p (g.resolvers n p ((makes_none s t i.things i.slots).resolvers n p e));
     judged = λ n view e. judged_up s t (idles_grows s t i) n view (g.judged n view ((makes_none s t i.things i.slots).auditions n view e));
     made = λ n node caught stamps e. object_up s t (idles_grows s t i) n node caught stamps (g.made n node caught stamps ((makes_none s t i.things i.slots).objects n node caught stamps e));

@@ -1,9 +1,13 @@
 -- What is known is the least, and stays known.
-use Rattle.std.proofs.Common.{ℕ, List, [], ◌∷◌, ◌++◌, sym, subst, inl, inr}
+use Rattle.std.proofs.Common.{ℕ, List, [], ◌∷◌, ◌++◌, refl, sym, subst, inl, inr}
 use Rattle.def_machine.specs.Values.{Value, Ref, Naming}
 use Rattle.def_machine.specs.State.{Known, Happened}
 use Rattle.law_connected.specs.Known.{Item, AGuard, IsAmong, Holdings, Leads, settled, viewed, settles, views, Reaches, itself, onward, IsThing, Runs, called, took, Knows, plain, initial, endowed, told, member, followed, serves, guard}
 use Rattle.law_connected.specs.ConnectedLaws.{IsClosed, Grown}
+
+pub among_mid : {A : Type 0} (x : A) (front rest : List A) → IsAmong x (front ++ x ∷ rest)
+among_mid x [] rest = inl refl
+among_mid x (y ∷ front) rest = inr (among_mid x front rest)
 
 pub among_more : {A : Type 0} (x : A) (xs ys : List A) → IsAmong x xs → IsAmong x (xs ++ ys)
 among_more x [] ys i = absurd i

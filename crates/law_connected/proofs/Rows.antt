@@ -324,7 +324,7 @@ module _ (word : ℕ → ℕ) where
                       (
                         ((inl (told _ (inr (inr (inr (inr (inr (inr (inr (inr (inr (inl refl)))))))))) (inl refl)), (inl (plain tt), tt)), tt),
                         (
-                          (tt, (refl, inr (refl, 0, 4, (Object 0 4, itself, refl), asks 2 3 (Ref (Object 0 3)) (Object 0 4) (take 8 audited) (drop 9 (take 11 audited)) refl refl refl (Object 0 3, itself, refl) (evaluates (Object 0 3) (take 5 audited) (drop 6 (take 11 audited)) refl refl refl), serves (told _ (inr (inr (inl refl))) (inl refl))))),
+                          (tt, (refl, inr (refl, 0, 4, (Text (codes "k") ∷ [], take 10 audited, [], refl, refl, (Object 0 4, itself, refl), 2, Object 0 4, inr (inr (inr (inr (inr (inr (inr (inr (inl refl)))))))), refl), asks 2 3 (Ref (Object 0 3)) (Object 0 4) (take 8 audited) (drop 9 (take 11 audited)) refl refl refl (Object 0 3, itself, refl) (evaluates (Object 0 3) (take 5 audited) (drop 6 (take 11 audited)) refl refl refl), serves (told _ (inr (inr (inl refl))) (inl refl))))),
                           (
                             (tt, (refl, told _ (inr (inr (inr (inr (inr (inr (inr (inr (inr (inr (inr (inl refl)))))))))))) (inl refl))),
                             (

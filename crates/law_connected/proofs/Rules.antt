@@ -1,8 +1,8 @@
 -- The rules by which evaluation is gone over.
-use Rattle.std.proofs.Common.{◌≡◌, ℕ, Bool, true, false, List, [], ◌∷◌, ◌++◌, Option, None, if◌then◌else◌, refl, ap, ◌∙◌, subst, map, inl, inr, ◌==◌, Some}
+use Rattle.std.proofs.Common.{◌≡◌, ℕ, Bool, true, false, List, [], ◌∷◌, ◌++◌, Option, None, if◌then◌else◌, refl, ap, ◌∙◌, subst, map, inl, inr, suc, length, ◌==◌, Some}
 use Rattle.std.proofs.lemmas.Bool.{eqb-true}
-use Rattle.def_machine.specs.Values.{Words, Value, Ref, Naming, Own, Null}
-use Rattle.def_machine.specs.State.{Bound, Fixed, Slot, Binding, Scope, Thing, Ejector, Resolver, Message, Standing, Happened, Called, Back, Thrown, Left, Got, EjectorMade, PromiseMade, Sends, Reacts, Vat, Done, Gives, Throws, Ejects, Stops, Act, ◌>>=◌, ◌>>◌, and_then, end_by, ending, give, throw, eject, tell, new_thing, new_promise}
+use Rattle.def_machine.specs.Values.{Words, Value, Ref, Naming, Own, Null, IsOwn}
+use Rattle.def_machine.specs.State.{Bound, Fixed, Slot, Binding, Scope, Thing, Ejector, Resolver, Message, Standing, Happened, Called, Back, Thrown, Left, Got, EjectorMade, PromiseMade, Sends, Reacts, Vat, Done, Gives, Throws, Ejects, Stops, Act, ◌>>=◌, ◌>>◌, and_then, end_by, ending, give, throw, eject, tell, new_thing, new_promise, begun}
 use Rattle.def_machine.specs.Refs as refs
 use Rattle.def_machine.specs.Refs.{Place, follow, settle, resolve}
 use Rattle.def_machine.specs.Native.{Reply}
@@ -94,13 +94,21 @@ module _ {N W : Type 0} (K : Naming N W) (E : Ground N W) (a : ℕ) where
   pub fine_promise : {C : Fact N} → Fine K E a C (new_promise K) nothing
   fine_promise = fine_steady K E a (idle_promise K) (steady_promise K E.start)
 
+  -- the promise that a vat makes is its own
+  pub own_promise : {B : Type 0} {C : Fact N} {f : N → Act N B} {H : B → Fact N} → ((p : N) → ((i k : ℕ) × (p ≡ K.made (IsOwn i) k)) → Fine K E a C (f p) H) → Fine K E a C (new_promise K >>= f) H
+  unfolding new_promise ◌>>=◌ and_then
+  own_promise {C = C} {f = f} {H = H} h = record {
+    after = λ s g c. let p : N = K.made (IsOwn s.promises) (length s.known) in let t : Vat N = record s { promises = suc s.promises; known = s.known ++ begun p s.number ∷ [] } in let made = (fine_promise {C = C}).after s g c in
+        widen K E a H s t (f p t) made.0 ((h p (s.promises, length s.known, refl)).after t made.1 (still_holds K E a s t made.0 C c));
+  }
+
   sends_now : {B : Type 0} {C : Fact N} (m : Message N) (n : N) → m.answer ≡ Some n → {k : Act N B} {H : B → Fact N} → Gets K E a C (IsValue m.target) → Gets K E a C (AreValues m.args) → Fine K E a (Also C (Also (IsValue (Ref n)) (IsLine (Sends a m)))) k H → Fine K E a C (tell (Sends a m) >> k) H
   unfolding uses by tells known.answers open_after itself
-  sends_now m n e g i h = then_line K E a (Sends a m) refl refl refl (λ so. tt) (λ s. refl) (λ s o c. (uses_values K E a s [] (m.target ∷ m.args) (g.at s c, i.at s c), tt)) (λ s c. tt) (λ s c. (is_told K E a s (Sends a m) (AValue (Ref n)) (rw e (inl refl)), among_last s.happened (Sends a m))) h
+  sends_now m n e g i h = then_line K E a (Sends a m) refl refl refl (λ so. tt) tt (λ s. refl) (λ s o c. (uses_values K E a s [] (m.target ∷ m.args) (g.at s c, i.at s c), tt)) (λ s c. tt) (λ s c. (is_told K E a s (Sends a m) (AValue (Ref n)) (rw e (inl refl)), among_last s.happened (Sends a m))) h
 
   sends_lone : {B : Type 0} {C : Fact N} (m : Message N) {k : Act N B} {H : B → Fact N} → Gets K E a C (IsValue m.target) → Gets K E a C (AreValues m.args) → Fine K E a C k H → Fine K E a C (tell (Sends a m) >> k) H
   unfolding uses by open_after itself
-  sends_lone m g i h = then_line K E a {D = Nothing} (Sends a m) refl refl refl (λ so. tt) (λ s. refl) (λ s o c. (uses_values K E a s [] (m.target ∷ m.args) (g.at s c, i.at s c), tt)) (λ s c. tt) (λ s c. tt) (fine_left K E a h)
+  sends_lone m g i h = then_line K E a {D = Nothing} (Sends a m) refl refl refl (λ so. tt) tt (λ s. refl) (λ s o c. (uses_values K E a s [] (m.target ∷ m.args) (g.at s c, i.at s c), tt)) (λ s c. tt) (λ s c. tt) (fine_left K E a h)
 
   then_sends_lone : {B : Type 0} {C : Fact N} (act : ℕ) (m : Message N) {k : Act N B} {H : B → Fact N} → Gets K E a C (IsAct act) → Gets K E a C (IsValue m.target) → Gets K E a C (AreValues m.args) → Fine K E a C k H → Fine K E a C (tell (Sends act m) >> k) H
   then_sends_lone act m {k = k} i g j h = act_is K E a act (λ b. tell (Sends b m) >> k) i (sends_lone m g j h)
@@ -128,7 +136,7 @@ module _ {N W : Type 0} (K : Naming N W) (E : Ground N W) (a : ℕ) where
 
   reacts_now : {B : Type 0} {C : Fact N} (x o : Value N) (m : Message N) (n : N) → m.answer ≡ Some n → {k : Act N B} {H : B → Fact N} → Gets K E a C (IsValue x) → Gets K E a C (IsValue o) → Gets K E a C (Leads o m.target) → Fine K E a (Also C (IsValue (Ref n))) k H → Fine K E a C (tell (Reacts a x o m) >> k) H
   unfolding uses by tells known.answers open_after itself
-  reacts_now x o m n e g i l h = then_line K E a (Reacts a x o m) refl refl refl (λ so. tt) (λ s. refl) (λ s q c. (uses_values K E a s [] (x ∷ o ∷ []) (g.at s c, (i.at s c, tt)), l.at s c)) (λ s c. tt) (λ s c. is_told K E a s (Reacts a x o m) (AValue (Ref n)) (rw e (inl refl))) h
+  reacts_now x o m n e g i l h = then_line K E a (Reacts a x o m) refl refl refl (λ so. tt) tt (λ s. refl) (λ s q c. (uses_values K E a s [] (x ∷ o ∷ []) (g.at s c, (i.at s c, tt)), l.at s c)) (λ s c. tt) (λ s c. is_told K E a s (Reacts a x o m) (AValue (Ref n)) (rw e (inl refl))) h
 
   then_reacts : {B : Type 0} {C : Fact N} (act : ℕ) (x o : Value N) (m : Message N) (n : N) → m.answer ≡ Some n → {k : Act N B} {H : B → Fact N} → Gets K E a C (IsAct act) → Gets K E a C (IsValue x) → Gets K E a C (IsValue o) → Gets K E a C (Leads o m.target) → Fine K E a (Also C (IsValue (Ref n))) k H → Fine K E a C (tell (Reacts act x o m) >> k) H
   then_reacts act x o m n e {k = k} i g j l h = act_is K E a act (λ b. tell (Reacts b x o m) >> k) i (reacts_now x o m n e g j l h)
@@ -151,7 +159,7 @@ module _ {N W : Type 0} (K : Naming N W) (E : Ground N W) (a : ℕ) where
   module _ (spots : (i : ℕ) → K.spot (K.object i) ≡ Own i) where
     got_now : {B : Type 0} {C : Fact N} (j : ℕ) (v : Value N) {m : Act N B} {H : B → Fact N} → Gets K E a C (MadeEjector j) → Gets K E a C (WasHanded j v) → Fine K E a (Also C (IsValue v)) m H → Fine K E a C (tell (Got a v) >> m) H
     unfolding uses by tells open_after
-    got_now j v g i h = then_line K E a (Got a v) refl refl refl (λ so. tt) (λ s. refl) (λ s q c. let w = i.at s c in (tt, (w.0, j, w.1, w.2, w.3, K.object j, w.4, w.5, g.at s c, spots j, w.6))) (λ s c. tt) (λ s c. is_told K E a s (Got a v) (AValue v) (inl refl)) h
+    got_now j v g i h = then_line K E a (Got a v) refl refl refl (λ so. tt) tt (λ s. refl) (λ s q c. let w = i.at s c in (tt, (w.0, j, w.1, w.2, w.3, K.object j, w.4, w.5, g.at s c, spots j, w.6))) (λ s c. tt) (λ s c. is_told K E a s (Got a v) (AValue v) (inl refl)) h
 
     -- what an activation gets was handed to an ejector that it made
     pub then_got : {B : Type 0} {C : Fact N} (act j n : ℕ) (v : Value N) {m : Act N B} {H : B → Fact N} → Gets K E a C (IsAct act) → n ≡ j → Gets K E a C (MadeEjector j) → Gets K E a C (WasHanded n v) → Fine K E a (Also C (IsValue v)) m H → Fine K E a C (tell (Got act v) >> m) H
@@ -167,19 +175,19 @@ module _ {N W : Type 0} (K : Naming N W) (E : Ground N W) (a : ℕ) where
     fine_ejector : (tree : List Node) {C : Fact N} (act : ℕ) → Gets K E a C (IsAct act) → Fine K E a C (calls.new_ejector K tree act) (λ j. Also (IsValue (Ref (K.object j))) (MadeEjector j))
     unfolding calls.new_ejector uses by tells open_after itself
     fine_ejector tree {C = C} act i = act_is K E a act (λ b. new_thing (Ejector true) >>= (λ j. tell (EjectorMade b (K.object j)) >> give j)) i
-        (thing_block K E a (Ejector true) tt (λ j. EjectorMade a (K.object j)) (λ n. ap own_number (spots n)) (λ n. refl) (λ n. refl) (λ so n. tt) (λ so n. tt) (λ so n p e. absurd (no_resolver p e)) (λ j. Also (IsValue (Ref (K.object j))) (MadeEjector j)) (λ s n. refl) (λ s n. (tt, tt))
+        (thing_block K E a (Ejector true) tt (λ j. EjectorMade a (K.object j)) (λ n. ap own_number (spots n)) (λ n. refl) (λ n. refl) (λ n. tt) (λ so n. tt) (λ so n. tt) (λ so n p e. absurd (no_resolver p e)) (λ j. Also (IsValue (Ref (K.object j))) (MadeEjector j)) (λ s n. refl) (λ s n. (tt, tt))
         (λ s j. (is_told K E a s (EjectorMade a (K.object j)) (AValue (Ref (K.object j))) (inl refl), among_last s.happened (EjectorMade a (K.object j)))) (λ j. fine_give K E a j (got K E a C (Also (IsValue (Ref (K.object j))) (MadeEjector j)))))
 
     pub bind_ejector : {B : Type 0} (tree : List Node) {C : Fact N} (act : ℕ) {f : ℕ → Act N B} {H : B → Fact N} → Gets K E a C (IsAct act) → ((j : ℕ) → Fine K E a (Also C (Also (IsValue (Ref (K.object j))) (MadeEjector j))) (f j) H) → Fine K E a C (calls.new_ejector K tree act >>= f) H
     bind_ejector tree act i h = fine_bind K E a (λ j. Also (IsValue (Ref (K.object j))) (MadeEjector j)) (fine_ejector tree act i) h
 
-    resolver_now : {B : Type 0} {C : Fact N} (p : N) {f : ℕ → Act N B} {H : B → Fact N} → ((r : ℕ) → Fine K E a (Also C (Also (IsValue (Ref p)) (IsValue (Ref (K.object r))))) (f r) H) → Fine K E a C (new_thing (Resolver p) >>= (λ r. tell (PromiseMade a p (K.object r)) >> f r)) H
+    resolver_now : {B : Type 0} {C : Fact N} (p : N) → ((i k : ℕ) × (p ≡ K.made (IsOwn i) k)) → {f : ℕ → Act N B} {H : B → Fact N} → ((r : ℕ) → Fine K E a (Also C (Also (IsValue (Ref p)) (IsValue (Ref (K.object r))))) (f r) H) → Fine K E a C (new_thing (Resolver p) >>= (λ r. tell (PromiseMade a p (K.object r)) >> f r)) H
     unfolding uses by tells open_after
-    resolver_now p h = thing_block K E a (Resolver p) tt (λ r. PromiseMade a p (K.object r)) (λ n. ap own_number (spots n)) (λ n. refl) (λ n. refl) (λ so n. tt) (λ so n. tt) (λ so n q e. inr (a, K.object n, subst (λ z. IsAmong (PromiseMade a z (K.object n)) (so ++ PromiseMade a p (K.object n) ∷ [])) (same_promise p q e) (among_last so _), spots n)) (λ r. Also (IsValue (Ref p)) (IsValue (Ref (K.object r)))) (λ s n. refl) (λ s n. (tt, tt))
+    resolver_now p o h = thing_block K E a (Resolver p) tt (λ r. PromiseMade a p (K.object r)) (λ n. ap own_number (spots n)) (λ n. refl) (λ n. refl) (λ n. o) (λ so n. tt) (λ so n. tt) (λ so n q e. inr (a, K.object n, subst (λ z. IsAmong (PromiseMade a z (K.object n)) (so ++ PromiseMade a p (K.object n) ∷ [])) (same_promise p q e) (among_last so _), spots n)) (λ r. Also (IsValue (Ref p)) (IsValue (Ref (K.object r)))) (λ s n. refl) (λ s n. (tt, tt))
         (λ s r. (is_told K E a s (PromiseMade a p (K.object r)) (AValue (Ref p)) (inl refl), is_told K E a s (PromiseMade a p (K.object r)) (AValue (Ref (K.object r))) (inr (inl refl)))) h
 
-    pub bind_resolver : {B : Type 0} {C : Fact N} (act : ℕ) (p : N) {f : ℕ → Act N B} {H : B → Fact N} → Gets K E a C (IsAct act) → ((r : ℕ) → Fine K E a (Also C (Also (IsValue (Ref p)) (IsValue (Ref (K.object r))))) (f r) H) → Fine K E a C (new_thing (Resolver p) >>= (λ r. tell (PromiseMade act p (K.object r)) >> f r)) H
-    bind_resolver act p {f = f} i h = act_is K E a act (λ b. new_thing (Resolver p) >>= (λ r. tell (PromiseMade b p (K.object r)) >> f r)) i (resolver_now p h)
+    pub bind_resolver : {B : Type 0} {C : Fact N} (act : ℕ) (p : N) → ((i k : ℕ) × (p ≡ K.made (IsOwn i) k)) → {f : ℕ → Act N B} {H : B → Fact N} → Gets K E a C (IsAct act) → ((r : ℕ) → Fine K E a (Also C (Also (IsValue (Ref p)) (IsValue (Ref (K.object r))))) (f r) H) → Fine K E a C (new_thing (Resolver p) >>= (λ r. tell (PromiseMade act p (K.object r)) >> f r)) H
+    bind_resolver act p o {f = f} i h = act_is K E a act (λ b. new_thing (Resolver p) >>= (λ r. tell (PromiseMade b p (K.object r)) >> f r)) i (resolver_now p o h)
 
   -- ---- a call, with its lines
 
@@ -209,9 +217,9 @@ module _ {N W : Type 0} (K : Naming N W) (E : Ground N W) (a : ℕ) where
 
   pub ended_ends : (s : Vat N) (x : Value N) (verb : Words) (o : Option ℕ) (d : Done N (Value N)) → CallEnds s x verb o d → Ends K E a IsValue s (end_by (λ v. tell (Back a v) >> give v) (λ p. tell (Thrown a p) >> throw p) (λ n v. tell (Left a) >> eject n v) d)
   unfolding end_by tell ◌>>◌ and_then give throw eject open_after tells by uses
-  ended_ends s x verb o (Gives v t) h = (after_call s t x verb o (Back a v) h.0 refl, good_line K E t (Back a v) refl refl refl tt h.1 (back_well t x verb v o (opens s) h.0.1 h.2) tt, is_told K E a t (Back a v) (AValue v) (inl refl))
-  ended_ends s x verb o (Throws p t) h = (after_call s t x verb o (Thrown a p) h.0 refl, good_line K E t (Thrown a p) refl refl refl tt h.1 (tt, tt) tt)
-  ended_ends s x verb o (Ejects n v t) h = (after_call s t x verb o (Left a) h.0 refl, good_line K E t (Left a) refl refl refl tt h.1 (tt, tt) tt, handed_up K E a t (with_line t (Left a)) (grows_line K E t (Left a)) n v h.2)
+  ended_ends s x verb o (Gives v t) h = (after_call s t x verb o (Back a v) h.0 refl, good_line K E t (Back a v) refl refl refl tt h.1 (back_well t x verb v o (opens s) h.0.1 h.2) tt tt tt, is_told K E a t (Back a v) (AValue v) (inl refl))
+  ended_ends s x verb o (Throws p t) h = (after_call s t x verb o (Thrown a p) h.0 refl, good_line K E t (Thrown a p) refl refl refl tt h.1 (tt, tt) tt tt tt)
+  ended_ends s x verb o (Ejects n v t) h = (after_call s t x verb o (Left a) h.0 refl, good_line K E t (Left a) refl refl refl tt h.1 (tt, tt) tt tt tt, handed_up K E a t (with_line t (Left a)) (grows_line K E t (Left a)) n v h.2)
   ended_ends s x verb o (Stops c t) h = h
 
   pub begins : (s : Vat N) (x : Value N) (verb : Words) (args : List (Value N)) (o : Option ℕ) → Begun s (with_line s (Called a x verb args o)) x verb o
@@ -225,19 +233,19 @@ module _ {N W : Type 0} (K : Naming N W) (E : Ground N W) (a : ℕ) where
   given_ends s t x verb (Ejects n v u) b h = ((grows_trans K E s t u b.0 h.0.0, h.0.1 ∙ b.1), h.1, h.2)
   given_ends s t x verb (Stops c u) b h = h
 
-  lines_now : {C : Fact N} (D : Fact N) (x : Value N) (verb : Words) (args : List (Value N)) (m : Act N (Value N)) → ((s t : Vat N) → Keeps K E a s t D) → Gets K E a C D → Gets K E a C (IsCallee x verb args) → Gets K E a C (AreValues args)
-      → Fine K E a (Also D (WasCalled x verb args)) m (MayGive x verb) → Fine K E a C (scopes.with_lines a x verb args m) IsValue
+  lines_now : {C : Fact N} (D F : Fact N) (x : Value N) (verb : Words) (args : List (Value N)) (m : Act N (Value N)) → ((s t : Vat N) → Keeps K E a s t D) → Gets K E a C D → ((s : Vat N) → Holds K E a s C → Holds K E a (with_line s (Called a x verb args None)) F) → Gets K E a C (IsCallee x verb args) → Gets K E a C (AreValues args)
+      → Fine K E a (Also (Also D F) (WasCalled x verb args)) m (MayGive x verb) → Fine K E a C (scopes.with_lines a x verb args m) IsValue
   unfolding scopes.with_lines scopes.ended ending tell ◌>>◌ and_then served unless_begun
-  lines_now D x verb args m k d g h f = record {
+  lines_now D F x verb args m k d u g h f = record {
     after = λ s i c. let t : Vat N = with_line s (Called a x verb args None) in let b : Begun s t x verb None = begins s x verb args None in
-        ended_ends s x verb None (m t) (given_ends s t x verb (m t) b (f.after t (good_line K E s (Called a x verb args None) refl refl refl tt i (called_well s x verb args None (g.at s c) (h.at s c)) tt)
-        (holds_up K E a s t b.0 D (k s t) (d.at s c), (a, among_last s.happened (Called a x verb args None), ap served b.1))));
+        ended_ends s x verb None (m t) (given_ends s t x verb (m t) b (f.after t (good_line K E s (Called a x verb args None) refl refl refl tt i (called_well s x verb args None (g.at s c) (h.at s c)) tt tt tt)
+        ((holds_up K E a s t b.0 D (k s t) (d.at s c), u s c), (a, among_last s.happened (Called a x verb args None), ap served b.1))));
   }
 
-  -- a call that begins no activation, under facts that do not speak of open calls
-  pub fine_with_lines : {C : Fact N} (D : Fact N) (act : ℕ) (x : Value N) (verb : Words) (args : List (Value N)) (m : Act N (Value N)) → ((s t : Vat N) → Keeps K E a s t D) → Gets K E a C D → Gets K E a C (IsAct act) → Gets K E a C (IsCallee x verb args) → Gets K E a C (AreValues args)
-      → Fine K E a (Also D (WasCalled x verb args)) m (MayGive x verb) → Fine K E a C (scopes.with_lines act x verb args m) IsValue
-  fine_with_lines D act x verb args m k d i g h f = act_is K E a act (λ b. scopes.with_lines b x verb args m) i (lines_now D x verb args m k d g h f)
+  -- a call that begins no activation, under facts that do not speak of open calls, and one on the moment before it
+  pub fine_with_lines : {C : Fact N} (D F : Fact N) (act : ℕ) (x : Value N) (verb : Words) (args : List (Value N)) (m : Act N (Value N)) → ((s t : Vat N) → Keeps K E a s t D) → Gets K E a C D → ((s : Vat N) → Holds K E a s C → Holds K E a (with_line s (Called a x verb args None)) F)
+      → Gets K E a C (IsAct act) → Gets K E a C (IsCallee x verb args) → Gets K E a C (AreValues args) → Fine K E a (Also (Also D F) (WasCalled x verb args)) m (MayGive x verb) → Fine K E a C (scopes.with_lines act x verb args m) IsValue
+  fine_with_lines D F act x verb args m k d u i g h f = act_is K E a act (λ b. scopes.with_lines b x verb args m) i (lines_now D F x verb args m k d u g h f)
 
   -- ---- captures
 

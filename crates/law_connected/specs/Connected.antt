@@ -79,11 +79,16 @@ module _ {N W : Type 0} (K : Naming N W) (h : Holdings N W) where
     asks : {a i : ℕ} (b j : ℕ) (x : Value N) (n : N) (front rest : List (Happened N)) → so ≡ front ++ AuditionMade b n ∷ rest → K.spot n ≡ Own i
         → served (open_from [] front) ≡ Some x → IsThing K h.before so x j → Judges so a j → Judges so a i
 
+  -- By the lines before the innermost call that is open, what it calls leads to an audition of that number, which they tell of.
+  abbrev pub AskedThen : List (Happened N) → ℕ → Value N → Words → ℕ → Type 0
+  AskedThen so a x verb i = (args : List (Value N)) × (front rest : List (Happened N)) × (so ≡ front ++ Called a x verb args None ∷ rest) × (open_from [] so ≡ record { caller = a; receiver = x; verb = verb; begun = None } ∷ open_from [] front)
+      × IsThing K h.before front x i × (b : ℕ) × (n : N) × IsAmong (AuditionMade b n) front × (K.spot n ≡ Own i)
+
   -- Of what gives a value back: an activation gives what it knows. Data gives what its caller knows anyhow, such as its members or lists that the caller makes of them.
   -- An audition gives that, or, where it is asked for a guard, one that the activation knows as a guard which evaluates the object that is judged.
   abbrev pub GivenBack : List (Happened N) → ℕ → Value N → Words → Option ℕ → Value N → Type 0
   GivenBack so a x verb (Some b) v = Knows K h so b (AValue v)
-  GivenBack so a x verb None v = Knows K h so a (AValue v) ⊎ ((same_words (codes "getGuard") verb ≡ true) × (b i : ℕ) × IsThing K h.before so x i × Judges so b i × Knows K h so b (AGuard v))
+  GivenBack so a x verb None v = Knows K h so a (AValue v) ⊎ ((same_words (codes "getGuard") verb ≡ true) × (b i : ℕ) × AskedThen so a x verb i × Judges so b i × Knows K h so b (AGuard v))
 
   abbrev pub BackWell : List (Happened N) → ℕ → Value N → List (Open N) → Type 0
   BackWell so a v [] = ⊥

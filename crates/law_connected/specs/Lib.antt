@@ -16,3 +16,4 @@ pub mod News
 pub mod Stems
 pub mod MessageLaws
 pub mod Begotten
+pub mod InTime

@@ -3,6 +3,7 @@
 ghost use Rattle.law_connected.specs.Shortening.{ShorteningsOpenWhatIsAsked};
 ghost use Rattle.law_connected.specs.UseLaws.{StepsAreConnected};
 ghost use Rattle.law_connected.specs.UseLaws.{RunsAreConnected};
+ghost use Rattle.law_connected.specs.InTime.{StepsAreInTime};
 ghost use Rattle.law_connected.specs.Told.{StepsTellWhatTheyMake};
 ghost use Rattle.law_connected.specs.Told.{RunsTellWhatIsHeld};
 ghost use Rattle.law_connected.specs.News.{WhatIsMadeIsNew};
@@ -15,6 +16,14 @@ ghost use Rattle.law_connected.specs.News.{WhatIsMadeIsNew};
 /// happened in the step before, and that no ejector and no audition is live.
 pub fn steps_are_connected()
     ensures { StepsAreConnected }
+{}
+
+/// The lines of every step are connected as they are told, however it ends: what a line uses and gives
+/// back was known by the lists and objects that were there then, each from before the step or told by a
+/// line before it, and not by what came to be later in the step. What a call that begins an activation
+/// calls was followed then to an object that was there. It asks what `steps_are_connected` asks.
+pub fn steps_are_connected_in_time()
+    ensures { StepsAreInTime }
 {}
 
 /// Where a note arrives that asks a vat to open a gift for what a name settled to, each note that the

@@ -59,7 +59,7 @@ few_entries n l = omega (arith, l)
 
 -- ---- the whole
 
-of_vats : (depth : ℕ) (tree : ℕ → List Node) (script : Script) → IsAdmitted script → HasTrees script tree → IsOfVats (machine_script depth tree script)
+pub of_vats : (depth : ℕ) (tree : ℕ → List Node) (script : Script) → IsAdmitted script → HasTrees script tree → IsOfVats (machine_script depth tree script)
 of_vats depth tree script h t = let same = sym (vats_count tree zero script.vats) in let count = length script.vats in record {
   trees = trees_of tree zero script.vats (λ i l m. t i (omega (arith, m)));
   knows = subst (λ n. AllOf (λ (p : Program). AllOf (λ (k : ℕ). k < n) p.knows) (machine_vats tree zero script.vats)) same

@@ -63,7 +63,7 @@ are_small bytes script e tree are place h =
     let found = vat_at script.vats place h (sources_are_texts bytes script e) admitted.vats.2 in
     small script.vats found.vat (tree place) found.utf8 found.size (are place found.vat found.there)
 
-trees : (bytes : List ℕ) (script : Script) → read bytes ≡ Ok script → (tree : ℕ → List Node) → AreReadTo script tree → HasTrees script tree
+pub trees : (bytes : List ℕ) (script : Script) → read bytes ≡ Ok script → (tree : ℕ → List Node) → AreReadTo script tree → HasTrees script tree
 trees bytes script e tree are place h = let s = are_small bytes script e tree are place h in (s.is_tree, s.short)
 
 few : (bytes : List ℕ) (script : Script) → read bytes ≡ Ok script → (tree : ℕ → List Node) → AreReadTo script tree → HasFewNodes script tree

@@ -85,7 +85,7 @@ one_by ns v w false false i j h l m e = neither v w i j
 
 -- ---- the machine's script
 
-names_are : (tree : ℕ → List Node) (place : ℕ) (vats : List VatScript) → map (λ (p : Program). p.name) (machine_vats tree place vats) ≡ names vats
+pub names_are : (tree : ℕ → List Node) (place : ℕ) (vats : List VatScript) → map (λ (p : Program). p.name) (machine_vats tree place vats) ≡ names vats
 names_are tree place [] = refl
 names_are tree place (v ∷ vats) = ap (λ (ns : List (List ℕ)). v.name ∷ ns) (names_are tree (suc place) vats)
 

@@ -1,14 +1,14 @@
 -- What holds of the link between two vats, through the changes of links.
 use Rattle.std.proofs.Common.{◌≡◌, ℕ, Bool, true, false, List, [], ◌∷◌, ◌++◌, Option, Some, refl, sym, ◌∙◌, ◌⊎◌, inl, inr, ◌==◌}
 use Rattle.std.proofs.lemmas.Bool.{eqb-true, eq-eqb}
-use Rattle.def_machine.specs.Values.{Name, Answer, Msg}
+use Rattle.def_machine.specs.Values.{Name, Msg}
 use Rattle.def_machine.specs.State.{Note, Put}
 use Rattle.def_run.specs.World.{Link, link_at, is_link, with_link, pushed, push_all}
 use Rattle.law_name.specs.Names.{AllOf}
 use Rattle.law_name.proofs.Facts.{all_end}
 use Rattle.law_reference.proofs.LinksCut.{Fits, fits_pushed}
 use Rattle.law_reference.specs.Behind.{NamesNot, Bears, ComesFirst}
-use Rattle.law_reference.proofs.First.{PutsFirst}
+use Rattle.law_reference.proofs.First.{PutsAhead}
 
 true_false : true ≡ false → ⊥
 true_false e = cc
@@ -118,8 +118,43 @@ module _ (R : Note Name → Type 0) where
   unfolding pushed
   pushed_all l n r h = pushed_either l.cut n l r h
 
+-- what is ahead of all that names x, among the notes under way, where more notes leave it so, and B says what comes to be so as the last
+module _ (B : Note Name → Type 0) (x : Name) (Ahead : List (Note Name) → Type 0) (more : (ns : List (Note Name)) (n : Note Name) → Ahead ns → Ahead (ns ++ n ∷ [])) (last : (ns : List (Note Name)) (n : Note Name) → AllOf (NamesNot x) ns → B n → Ahead (ns ++ n ∷ [])) where
+  -- or the link is cut
+  abbrev pub CutOr : Link → Type 0
+  CutOr l = (l.cut ≡ true) ⊎ Ahead l.notes
+
+  more_either : (c : Bool) (n : Note Name) (l : Link) → CutOr l → CutOr (elim c [ true ↦ record l { log = l.log ++ n ∷ [] } | false ↦ record l { notes = l.notes ++ n ∷ []; log = l.log ++ n ∷ [] } ])
+  more_either true n l (inl e) = inl e
+  more_either true n l (inr h) = inr h
+  more_either false n l (inl e) = inl e
+  more_either false n l (inr h) = inr (more l.notes n h)
+
+  pub pushed_ahead : (l : Link) (n : Note Name) → CutOr l → CutOr (pushed n l)
+  unfolding pushed
+  pushed_ahead l n h = more_either l.cut n l h
+
+  last_either : (c : Bool) (n : Note Name) (l : Link) → l.cut ≡ c → AllOf (NamesNot x) l.notes → B n → CutOr (elim c [ true ↦ record l { log = l.log ++ n ∷ [] } | false ↦ record l { notes = l.notes ++ n ∷ []; log = l.log ++ n ∷ [] } ])
+  last_either true n l e h b = inl e
+  last_either false n l e h b = inr (last l.notes n h b)
+
+  pushed_last : (l : Link) (n : Note Name) → AllOf (NamesNot x) l.notes → B n → CutOr (pushed n l)
+  unfolding pushed
+  pushed_last l n h b = last_either l.cut n l refl h b
+
+  -- what is put ahead is under way ahead, where nothing on the link names x yet
+  pub push_ahead : (g v : ℕ) (ps : List (Put Name)) (ls : List Link) → PutsAhead B x g ps → AtLink v g (λ l. AllOf (NamesNot x) l.notes) ls → AtLink v g CutOr (push_all v ps ls)
+  unfolding push_all
+  push_ahead g v [] ls h k = absurd h
+  push_ahead g v (p ∷ ps) ls (inl b) k = push_keeps v g v CutOr pushed_ahead ps (with_link (pushed p.note) v p.to ls)
+      (with_any v g v p.to CutOr (pushed p.note) (fits_pushed v g p.note) ls (λ l e i j. pushed_last l p.note (k l e) b.1) (λ l e f. absurd (f (refl, sym b.0))))
+  push_ahead g v (p ∷ ps) ls (inr h) k = push_ahead g v ps (with_link (pushed p.note) v p.to ls) h.1
+      (with_any v g v p.to (λ l. AllOf (NamesNot x) l.notes) (pushed p.note) (fits_pushed v g p.note) ls (λ l e i j. pushed_all (NamesNot x) l p.note h.0 (k l e)) (λ l e f. k l e))
+
+-- ---- the message of an answer
+
 module _ (m : Msg) (x : Name) where
-  pub comes_more : (ns : List (Note Name)) (n : Note Name) → ComesFirst m x ns → ComesFirst m x (ns ++ n ∷ [])
+  comes_more : (ns : List (Note Name)) (n : Note Name) → ComesFirst m x ns → ComesFirst m x (ns ++ n ∷ [])
   comes_more [] n h = absurd h
   comes_more (k ∷ ns) n (inl h) = inl h
   comes_more (k ∷ ns) n (inr h) = inr (h.0, comes_more ns n h.1)
@@ -132,33 +167,8 @@ module _ (m : Msg) (x : Name) where
   abbrev pub CutOrFirst : Link → Type 0
   CutOrFirst l = (l.cut ≡ true) ⊎ ComesFirst m x l.notes
 
-  more_either : (c : Bool) (n : Note Name) (l : Link) → CutOrFirst l → CutOrFirst (elim c [ true ↦ record l { log = l.log ++ n ∷ [] } | false ↦ record l { notes = l.notes ++ n ∷ []; log = l.log ++ n ∷ [] } ])
-  more_either true n l (inl e) = inl e
-  more_either true n l (inr h) = inr h
-  more_either false n l (inl e) = inl e
-  more_either false n l (inr h) = inr (comes_more l.notes n h)
-
   pub pushed_more : (l : Link) (n : Note Name) → CutOrFirst l → CutOrFirst (pushed n l)
-  unfolding pushed
-  pushed_more l n h = more_either l.cut n l h
+  pushed_more l n h = pushed_ahead (Bears m x) x (ComesFirst m x) comes_more comes_last l n h
 
-  last_either : (c : Bool) (n : Note Name) (l : Link) → l.cut ≡ c → AllOf (NamesNot x) l.notes → Bears m x n → CutOrFirst (elim c [ true ↦ record l { log = l.log ++ n ∷ [] } | false ↦ record l { notes = l.notes ++ n ∷ []; log = l.log ++ n ∷ [] } ])
-  last_either true n l e h b = inl e
-  last_either false n l e h b = inr (comes_last l.notes n h b)
-
-  pushed_last : (l : Link) (n : Note Name) → AllOf (NamesNot x) l.notes → Bears m x n → CutOrFirst (pushed n l)
-  unfolding pushed
-  pushed_last l n h b = last_either l.cut n l refl h b
-
--- the message that is put first is under way first, where nothing on the link names the answer yet
-module _ (g : ℕ) (m : Msg) (v : ℕ) where
-  abbrev X : Name
-  X = Answer g m
-
-  pub push_first : (ps : List (Put Name)) (ls : List Link) → PutsFirst g m ps → AtLink v g (λ l. AllOf (NamesNot X) l.notes) ls → AtLink v g (CutOrFirst m X) (push_all v ps ls)
-  unfolding push_all
-  push_first [] ls h k = absurd h
-  push_first (p ∷ ps) ls (inl b) k = push_keeps v g v (CutOrFirst m X) (pushed_more m X) ps (with_link (pushed p.note) v p.to ls)
-      (with_any v g v p.to (CutOrFirst m X) (pushed p.note) (fits_pushed v g p.note) ls (λ l e i j. pushed_last m X l p.note (k l e) b.1) (λ l e f. absurd (f (refl, sym b.0))))
-  push_first (p ∷ ps) ls (inr h) k = push_first ps (with_link (pushed p.note) v p.to ls) h.1
-      (with_any v g v p.to (λ l. AllOf (NamesNot X) l.notes) (pushed p.note) (fits_pushed v g p.note) ls (λ l e i j. pushed_all (NamesNot X) l p.note h.0 (k l e)) (λ l e f. k l e))
+  pub push_first : (g v : ℕ) (ps : List (Put Name)) (ls : List Link) → PutsAhead (Bears m x) x g ps → AtLink v g (λ l. AllOf (NamesNot x) l.notes) ls → AtLink v g CutOrFirst (push_all v ps ls)
+  push_first g v ps ls h k = push_ahead (Bears m x) x (ComesFirst m x) comes_more comes_last g v ps ls h k

@@ -43,16 +43,16 @@ module _ (script : Script) where
   unfolding does
   step_carries w v s q t (Starts tree depth root given) g i d = let b = d.begins in
       let e : opening (names script v) b.0.tree script.depth (Root v) (world.given script.vats b.0.knows) (readied w s) ≡ Gives tt t = rw (b.2, b.3, b.4, b.5, b.6) at d.gives in
-      gives_carries v t _ (opening_carries script w v b.0 s g b.1 d.there) e
+      gives_carries v t _ (opening_carries script w v s g d.there b.0 b.1) e
   step_carries w v s q t (Takes tree depth m) g i d = let b = d.begins in
       let e : taking (names script v) (world.tree_at script.vats v) script.depth m (readied w (record s { queue = b.0 })) ≡ Gives tt t = rw (b.2, b.3, b.4) at d.gives in
-      gives_carries v t _ (turn_carries script w v s m b.0 g d.there b.1) e
+      gives_carries v t _ (turn_carries script w v s g d.there m b.0 b.1) e
   step_carries w v s q t (Receives from m) g i d =
       let e : arrive (names script v) from (read_note (names_of s) i.1) (readied w s) ≡ Gives tt t = rw (d.begins, i.4) at d.gives in
       let told : AllOf (NoteOk (Told script w)) i.0.notes = at_link (λ (l : Link). AllOf (NoteOk (Told script w)) l.notes) (link_at from v w.links) i.0 i.2 (link_holds (NoteOk (Told script w)) from v w.links g.links) in
-      gives_carries v t _ (note_carries script w from v s i.1 g d.there (all_among (NoteOk (Told script w)) i.0.notes i.1 told i.3)) e
+      gives_carries v t _ (note_carries script w v s g d.there from i.1 (all_among (NoteOk (Told script w)) i.0.notes i.1 told i.3)) e
   step_carries w v s q t (Notices u) g i d = let e : notice (names script v) u (readied w s) ≡ Gives tt t = rw d.begins at d.gives in
-      gives_carries v t _ (notice_carries script w v u s g d.there) e
+      gives_carries v t _ (notice_carries script w v s g d.there u) e
 
   all_named : (w : World) → lift.All script (Its script) (OfNotes script) (Ever script) (Any script) w → NamesAnswers script w
   all_named w h = let both = h.2 in (

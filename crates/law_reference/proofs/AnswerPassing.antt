@@ -1,145 +1,19 @@
 -- What passes in notes that a vat puts names nothing to which no standing and no list leads.
-use Rattle.std.proofs.Common.{◌≡◌, ℕ, zero, suc, Bool, true, false, List, [], ◌∷◌, ◌++◌, Option, Some, None, refl, sym, ap, ◌∙◌, append_assoc, append-nil, if◌then◌else◌, length}
+use Rattle.std.proofs.Common.{◌≡◌, ℕ, Bool, true, false, List, [], ◌∷◌, ◌++◌, Option, Some, None, refl, sym, ap, ◌∙◌, append_assoc, append-nil, if◌then◌else◌}
 use Rattle.std.specs.Prelude.{nat_le, ◌==◌}
-use Rattle.def_machine.specs.Values.{Words, Value, Null, Flag, Number, Letter, Text, Prim, Broken, Items, Ref, Name, Naming, naming, Spot, Own, Foreign, NoObject}
-use Rattle.def_machine.specs.State.{Standing, Unsettled, WaitsOn, Viewed, Settled, Known, ToTell, Passed, Passeds, Plain, AGift, Many, NoMore, More, Note, Open, SettledTo, Elsewhere, Put, Happened, Vat, Done, Gives, Throws, Ejects, Stops, Act, ◌>>=◌, ◌>>◌, and_then, give, look, tell, spend, spent, draws, draw, send_out, alter, with_change, changed, changed_to, unless_settled, is_in}
+use Rattle.def_machine.specs.Values.{Value, Name, Naming, naming, Spot, Own, Foreign, NoObject}
+use Rattle.def_machine.specs.State.{ToTell, Passed, Passeds, Plain, AGift, Many, NoMore, More, Note, Open, SettledTo, Elsewhere, Put, Happened, Vat, Done, Gives, Throws, Ejects, Stops, Act, ◌>>=◌, ◌>>◌, and_then, give, look, tell, spend, spent, draws, draw, send_out, alter}
 use Rattle.def_machine.specs.Refs as refs
 use Rattle.def_machine.specs.Refs.{Place, Near, Mine, Away, Gone, Parcel}
-use Rattle.def_machine.specs.Native.{list_at}
-use Rattle.law_name.specs.Names.{Bit, Named, AllOf, ValueOk, ValuesOk, StandingOk, PassedOk, PassedsOk, NoteOk, names_in}
+use Rattle.law_name.specs.Names.{Bit, Named, AllOf, ValueOk, ValuesOk, KnownOk, PassedOk, PassedsOk, NoteOk, names_in}
 use Rattle.law_name.proofs.Facts.{all_append, PlaceOk}
-use Rattle.law_name.proofs.Looks.{list_at_ok, place_ok}
+use Rattle.law_name.proofs.Care.{Care, Under, changes_ok}
+use Rattle.law_name.proofs.Looks.{parcel_ok, place_ok}
+use Rattle.law_name.proofs.SameNames.{reference_is}
 use Rattle.law_name.proofs.Tracked.{names_change}
 use Rattle.law_reference.specs.Behind.{Avoids}
 
--- ---- what is followed, where standings and lists alone are looked at
-
-module _ {N W : Type 0} (K : Naming N W) (P : Bit N → Type 0) where
-  abbrev pub Stand : List (Known N) → Type 0
-  Stand ks = AllOf (λ (k : Known N). StandingOk P k.standing) ks
-
-  either_stand : (b : Bool) (k : Known N) (o : Option (Known N)) → StandingOk P k.standing → StandingOk P (refs.standing_in o) → StandingOk P (refs.standing_in (elim b [ true ↦ Some k | false ↦ o ]))
-  unfolding refs.standing_in
-  either_stand true k o h i = h
-  either_stand false k o h i = i
-
-  stands_at : (ks : List (Known N)) (n : N) → Stand ks → StandingOk P (refs.standing_of K ks n)
-  unfolding refs.standing_of refs.entry_of refs.standing_in
-  stands_at [] n h = tt
-  stands_at (k ∷ ks) n h = either_stand (K.same k.name n) k (refs.entry_of K ks n) h.0 (stands_at ks n h.1)
-
-  led_ok : (on : Value N → Value N) (n : N) (x : Standing N) → ((y : Value N) → ValueOk P y → ValueOk P (on y)) → P (Named n) → StandingOk P x → ValueOk P (refs.led K on n x)
-  unfolding refs.led
-  led_ok on n (Settled y) f g h = f y h
-  led_ok on n (Viewed q) f g h = f (Ref q) h
-  led_ok on n (WaitsOn q) f g h = g
-  led_ok on n Unsettled f g h = g
-
-  follow_at_ok : (d : ℕ) (ks : List (Known N)) (x : Value N) → Stand ks → ValueOk P x → ValueOk P (refs.follow_at K d ks x)
-  unfolding refs.follow_at
-  follow_at_ok zero ks x h i = i
-  follow_at_ok (suc d) ks (Ref n) h i = led_ok (λ y. refs.follow_at K d ks y) n (refs.standing_of K ks n) (λ y j. follow_at_ok d ks y h j) i (stands_at ks n h)
-  follow_at_ok (suc d) ks Null h i = tt
-  follow_at_ok (suc d) ks (Flag b) h i = tt
-  follow_at_ok (suc d) ks (Number z) h i = tt
-  follow_at_ok (suc d) ks (Letter c) h i = tt
-  follow_at_ok (suc d) ks (Text t) h i = tt
-  follow_at_ok (suc d) ks (Prim p) h i = tt
-  follow_at_ok (suc d) ks (Broken p) h i = tt
-  follow_at_ok (suc d) ks (Items k) h i = tt
-
-  by_ok : (n : N) (b : Bool) (t : Words) → P (Named n) → ValueOk P (elim b [ true ↦ Broken t | false ↦ Ref n ])
-  by_ok n true t h = tt
-  by_ok n false t h = h
-
-  at_ok : (s : Vat N) (n : N) (p : Spot) → P (Named n) → ValueOk P (refs.severed_at K s n p)
-  unfolding refs.severed_at refs.severed_by
-  at_ok s n (Own i) h = h
-  at_ok s n (Foreign w) h = by_ok n (is_in w s.noticed) _ h
-  at_ok s n NoObject h = by_ok n (is_in (refs.host_at K s.number s.known n) s.noticed) _ h
-
-  severed_ok : (s : Vat N) (x : Value N) → ValueOk P x → ValueOk P (refs.severed K s x)
-  unfolding refs.severed
-  severed_ok s Null h = tt
-  severed_ok s (Flag b) h = tt
-  severed_ok s (Number z) h = tt
-  severed_ok s (Letter c) h = tt
-  severed_ok s (Text t) h = tt
-  severed_ok s (Prim p) h = tt
-  severed_ok s (Broken p) h = tt
-  severed_ok s (Items k) h = tt
-  severed_ok s (Ref n) h = at_ok s n (K.spot n) h
-
-  pub follows : (s : Vat N) → Stand s.known → (x : Value N) → ValueOk P x → ValueOk P (refs.follow K s x)
-  unfolding refs.follow
-  follows s h x i = severed_ok s (refs.follow_at K (suc (length s.known)) s.known x) (follow_at_ok (suc (length s.known)) s.known x h i)
-
-  module _ (s : Vat N) (known : Stand s.known) (lists : AllOf (ValuesOk P) s.lists) where
-    shape_by_ok : (f : List (Value N) → Passed N) (y : Value N) → ValueOk P y → ((vs : List (Value N)) → ValuesOk P vs → PassedOk P (f vs)) → PassedOk P (refs.shape_by K f s.lists y)
-    unfolding refs.shape_by
-    shape_by_ok f Null i h = tt
-    shape_by_ok f (Flag b) i h = tt
-    shape_by_ok f (Number z) i h = tt
-    shape_by_ok f (Letter c) i h = tt
-    shape_by_ok f (Text t) i h = tt
-    shape_by_ok f (Prim p) i h = tt
-    shape_by_ok f (Broken p) i h = tt
-    shape_by_ok f (Items k) i h = h (list_at s.lists k) (list_at_ok P s.lists k lists)
-    shape_by_ok f (Ref n) i h = i
-
-    shapes_ok : (f : Value N → Passed N) (vs : List (Value N)) → ValuesOk P vs → ((v : Value N) → ValueOk P v → PassedOk P (f v)) → PassedsOk P (refs.shapes K f vs)
-    unfolding refs.shapes
-    shapes_ok f [] i h = tt
-    shapes_ok f (v ∷ vs) i h = (h v i.0, shapes_ok f vs i.1 h)
-
-    shape_ok : (d : ℕ) (x : Value N) → ValueOk P x → PassedOk P (refs.shape K d s x)
-    unfolding refs.shape
-    shape_ok zero x i = shape_by_ok _ (refs.follow K s x) (follows s known x i) (λ vs h. tt)
-    shape_ok (suc d) x i = shape_by_ok _ (refs.follow K s x) (follows s known x i) (λ vs h. shapes_ok (λ v. refs.shape K d s v) vs h (λ v k. shape_ok d v k))
-
-    of_list_ok : (x : Value N) (o : Option ℕ) → ValueOk P x → PassedOk P (refs.parcel_of_list K s x o).value
-    unfolding refs.parcel_of_list refs.too_heavy
-    of_list_ok x (Some left) i = shape_ok refs.highest x i
-    of_list_ok x None i = tt
-
-    parcel_at_ok : (y : Value N) → ValueOk P y → PassedOk P (refs.parcel_at K s y).value
-    unfolding refs.parcel_at
-    parcel_at_ok Null i = tt
-    parcel_at_ok (Flag b) i = tt
-    parcel_at_ok (Number z) i = tt
-    parcel_at_ok (Letter c) i = tt
-    parcel_at_ok (Text t) i = tt
-    parcel_at_ok (Prim p) i = tt
-    parcel_at_ok (Broken p) i = tt
-    parcel_at_ok (Items k) i = of_list_ok (Items k) _ tt
-    parcel_at_ok (Ref n) i = i
-
-    pub parcels : (x : Value N) → ValueOk P x → PassedOk P (refs.parcel K s x).value
-    unfolding refs.parcel
-    parcels x i = parcel_at_ok (refs.follow K s x) (follows s known x i)
-
-  -- ---- a vat is to be told of a name: nothing else changes
-
-  told_standing : (w : ℕ) (k : Known N) (x : Standing N) → k.standing ≡ x → (unless_settled x k (changed_to (ToTell w) k)).standing ≡ k.standing
-  unfolding unless_settled changed_to
-  told_standing w k (Settled y) e = refl
-  told_standing w k Unsettled e = refl
-  told_standing w k (WaitsOn q) e = refl
-  told_standing w k (Viewed q) e = refl
-
-  told_either : (b : Bool) (w : ℕ) (k : Known N) (ks js : List (Known N)) → StandingOk P k.standing → Stand ks → Stand js → Stand (elim b [ true ↦ changed (ToTell w) k ∷ ks | false ↦ k ∷ js ])
-  unfolding changed
-  told_either true w k ks js h i j = (rw (told_standing w k k.standing refl) h, i)
-  told_either false w k ks js h i j = (h, j)
-
-  pub told_stand : (w : ℕ) (n : N) (ks : List (Known N)) → Stand ks → Stand (with_change K (ToTell w) n ks)
-  unfolding with_change
-  told_stand w n [] h = tt
-  told_stand w n (k ∷ ks) h = told_either (K.same k.name n) w k ks (with_change K (ToTell w) n ks) h.0 h.1 (told_stand w n ks h.1)
-
--- ---- passing
-
-module _ (word : ℕ → ℕ) (v : ℕ) (x : Name) where
+module _ (word : ℕ → ℕ) (v : ℕ) (x : Name) (S : Care Name) (law : Under (naming word v) S) where
   abbrev K : Naming Name Name
   K = naming word v
 
@@ -148,7 +22,7 @@ module _ (word : ℕ → ℕ) (v : ℕ) (x : Name) where
 
   -- nothing leads to x
   abbrev pub Clean : Vat Name → Type 0
-  Clean s = Stand K P s.known × AllOf (ValuesOk P) s.lists
+  Clean s = AllOf (KnownOk P) s.known × AllOf (ValuesOk P) s.lists
 
   abbrev pub Spares : List (Put Name) → Type 0
   Spares ps = AllOf (λ (p : Put Name). NoteOk P p.note) ps
@@ -230,9 +104,9 @@ module _ (word : ℕ → ℕ) (v : ℕ) (x : Name) where
   unfolding send_out
   passes_out to n g = record { after = λ s c. ((refl, (record { to = to; note = n } ∷ [], refl, (g, tt))), c, tt) }
 
-  passes_to_tell : (w : ℕ) (n : Name) → Passes (alter K (ToTell w) n) Any
-  unfolding alter
-  passes_to_tell w n = record { after = λ s c. ((names_change K (ToTell w) n s.known, ([], sym (append-nil s.outbox), tt)), (told_stand K P w n s.known c.0, c.1), tt) }
+  passes_to_tell : (w : ℕ) (n : Name) → P (Named n) → Passes (alter K (ToTell w) n) Any
+  unfolding alter naming
+  passes_to_tell w n g = record { after = λ s c. ((names_change K (ToTell w) n s.known, ([], sym (append-nil s.outbox), tt)), (changes_ok K S law P (ToTell w) n s.known tt (λ a e. rw (sym (reference_is a n e)) at g) c.0, c.1), tt) }
 
   hosted_ok : (n : Name) (h : ℕ) (b : Bool) → P (Named n) → PlaceOk P (elim b [ true ↦ Mine n | false ↦ Away h n false ])
   hosted_ok n h true g = g
@@ -254,7 +128,7 @@ module _ (word : ℕ → ℕ) (v : ℕ) (x : Name) where
   passes_plain : (w : ℕ) (y : Value Name) (p : Place Name) → ValueOk P y → PlaceOk P p → Passes (refs.address_plain K w y p) (PassedOk P)
   unfolding refs.address_plain
   passes_plain w y (Away h n o) g k = away_passes w h n y (h == w) g k.0
-  passes_plain w y (Mine n) g k = passes_then (PassedOk P) (passes_to_tell w n) (passes_give (Plain y) (PassedOk P) g)
+  passes_plain w y (Mine n) g k = passes_then (PassedOk P) (passes_to_tell w n k) (passes_give (Plain y) (PassedOk P) g)
   passes_plain w y Near g k = passes_give (Plain y) (PassedOk P) g
   passes_plain w y (Gone t) g k = passes_give (Plain y) (PassedOk P) g
 
@@ -272,7 +146,7 @@ module _ (word : ℕ → ℕ) (v : ℕ) (x : Name) where
 
   pub passes_pass : (w : ℕ) (y : Value Name) → ValueOk P y → Passes (refs.pass K w y) (PassedOk P)
   unfolding refs.pass
-  passes_pass w y g = passes_bind (λ (z : Parcel Name). PassedOk P z.value) (PassedOk P) (passes_sees (λ s. refs.parcel K s y) (λ (z : Parcel Name). PassedOk P z.value) (λ s c. parcels K P s c.0 c.1 y g))
+  passes_pass w y g = passes_bind (λ (z : Parcel Name). PassedOk P z.value) (PassedOk P) (passes_sees (λ s. refs.parcel K s y) (λ (z : Parcel Name). PassedOk P z.value) (λ s c. parcel_ok K P s c.0 c.1 y g))
       (λ z k. passes_then (PassedOk P) (passes_spend z.weight) (passes_address w z.value k))
 
   pub passes_all : (w : ℕ) (ys : List (Value Name)) → ValuesOk P ys → Passes (refs.pass_all K w ys) (PassedsOk P)

@@ -6,7 +6,7 @@ use Rattle.def_machine.specs.Arrive as arrive
 use Rattle.def_machine.specs.Arrive.{Old, New}
 use Rattle.def_run.specs.World as world
 use Rattle.def_run.specs.World.{is_old, read_name, known_after}
-use Rattle.law_name.specs.Names.{Named, Drew, Gave, At, IsMessageName}
+use Rattle.law_name.specs.Names.{Bit, Named, Drew, Gave, At, IsMessageName, ValueOk}
 use Rattle.law_name.proofs.Facts.{Fact, Nothing, Also, IsName, IsMail, IsVat, IsValue, AreValues, nothing, Holds}
 use Rattle.law_name.proofs.Care.{Care, Under, Gets, Fine, fine_bind, fine_give, fine_under, fine_with}
 use Rattle.law_name.proofs.CareArrive.{Gifts, fine_make_list, fine_arrive_ask, fine_delivered, fine_opened, fine_went, fine_shortened}
@@ -24,6 +24,17 @@ module _ (T : Name → Type 0) (G : ℕ → ℕ → Type 0) (Q : ℕ → Type 0)
   ValueTells (Prim k) = Unit {0}
   ValueTells (Broken t) = Unit {0}
   ValueTells (Items k) = Unit {0}
+
+  pub value_tells : (P : Bit Name → Type 0) → ((n : Name) → P (Named n) → T n) → (y : Value Name) → ValueOk P y → ValueTells y
+  value_tells P told (Ref n) f = told n f
+  value_tells P told Null f = tt
+  value_tells P told (Flag b) f = tt
+  value_tells P told (Number z) f = tt
+  value_tells P told (Letter c) f = tt
+  value_tells P told (Text t) f = tt
+  value_tells P told (Prim k) f = tt
+  value_tells P told (Broken t) f = tt
+  value_tells P told (Items k) f = tt
 
   abbrev mutual
     pub PassedTells : Passed Name → Type 0

@@ -19,8 +19,8 @@ use Rattle.law_name.proofs.Among.{among_more, among_last, among_or, all_among, n
 use Rattle.law_name.proofs.SameNames.{reference_is, old_known}
 use Rattle.law_name.proofs.Tracked.{known_among, names_change}
 use Rattle.law_reference.specs.Standing.{IsEntered}
-use Rattle.law_reference.specs.Behind.{Avoids, NamesNot}
-use Rattle.law_reference.proofs.First.{among_dec}
+use Rattle.law_reference.specs.Behind.{Avoids}
+use Rattle.law_reference.proofs.First.{among_dec, PutsAhead, ahead_more, ahead_last}
 use Rattle.law_reference.specs.ApartAsking.{AsksFor}
 use Rattle.law_reference.proofs.Arrivals.{NoteTells, note_read}
 
@@ -112,23 +112,9 @@ module _ (g i : ℕ) where
   abbrev pub X : Name
   X = Gift g i
 
-  -- a note put to g that asks for the gift
-  abbrev pub BearsTo : Put Name → Type 0
-  BearsTo p = (p.to ≡ g) × AsksFor i p.note
-
   -- the gift is asked for among the notes put, and no note in front names it
   abbrev pub PutsFirst : List (Put Name) → Type 0
-  PutsFirst [] = ⊥
-  PutsFirst (p ∷ ps) = BearsTo p ⊎ (NamesNot X p.note × PutsFirst ps)
-
-  first_more : (ps : List (Put Name)) (p : Put Name) → PutsFirst ps → PutsFirst (ps ++ p ∷ [])
-  first_more [] p h = absurd h
-  first_more (r ∷ ps) p (inl h) = inl h
-  first_more (r ∷ ps) p (inr h) = inr (h.0, first_more ps p h.1)
-
-  first_last : (ps : List (Put Name)) (p : Put Name) → AllOf (λ (r : Put Name). NamesNot X r.note) ps → BearsTo p → PutsFirst (ps ++ p ∷ [])
-  first_last [] p h b = inl b
-  first_last (r ∷ ps) p h b = inr (h.0, first_last ps p h.1 b)
+  PutsFirst ps = PutsAhead (AsksFor i) X g ps
 
   no_answer : (h : ℕ) (m : Name) → IsMessageName m → X ≡ answer_of h m → ⊥
   unfolding answer_of
@@ -193,7 +179,7 @@ module _ (g i : ℕ) where
     why_put : (s : Vat Name) (p : Put Name) → Why s → Why (record s { outbox = s.outbox ++ p ∷ [] })
     why_put s p (inl h) = inl h
     why_put s p (inr (inl e)) = inr (inl e)
-    why_put s p (inr (inr (f, inl h))) = inr (inr (f, inl (first_more s.outbox p h)))
+    why_put s p (inr (inr (f, inl h))) = inr (inr (f, inl (ahead_more (AsksFor i) X g s.outbox p h)))
     why_put s p (inr (inr (f, inr e))) = inr (inr (f, inr e))
 
     why_opened : (s : Vat Name) (p j : ℕ) → Why s → Why (record s { gifts = with_opened p j s.gifts })
@@ -317,7 +303,7 @@ module _ (g i : ℕ) where
           either (inr x) (inl b) = why_put s (record { to = h; note = Ask p j (Gift h j) }) (o b)
           either (inr x) (inr n) = let same = same_gift h j x in inr (inr (
             (λ y. f (sym same.0 ∙ y)),
-            inl (first_last s.outbox (record { to = h; note = Ask p j (Gift h j) })
+            inl (ahead_last (AsksFor i) X g s.outbox (record { to = h; note = Ask p j (Gift h j) })
                 (all_map (λ r k. note_up (Has (names_in s.known)) (Avoids X) (avoids (names_in s.known) n) r.note k.0) s.outbox sound.parts.outbox) (sym same.0, sym same.1)),
           ))
 

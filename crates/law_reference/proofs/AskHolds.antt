@@ -1,8 +1,8 @@
 -- In every world of a run in which notices stand behind their cuts, gifts of others follow the asking, and a vat's own stand.
-use Rattle.std.proofs.Common.{◌≡◌, ℕ, zero, suc, ◌+◌, false, List, [], ◌∷◌, ◌++◌, Option, Some, None, refl, sym, ◌∙◌, inl, inr, length, map, arith, subst, append_assoc, append-nil}
+use Rattle.std.proofs.Common.{◌≡◌, ℕ, zero, suc, ◌+◌, false, List, [], ◌∷◌, ◌++◌, Option, Some, None, refl, sym, ◌∙◌, length, arith, subst, append_assoc, append-nil}
 use Rattle.std.specs.Prelude.{slice_get}
 use Rattle.def_machine.specs.Values.{Name, Root, Gift}
-use Rattle.def_machine.specs.State.{Note, Vat, Done, Gives, Throws, Ejects, Stops, begun}
+use Rattle.def_machine.specs.State.{Note, Vat, Done, Gives, Throws, Ejects, Stops}
 use Rattle.def_machine.specs.Eval.{opening}
 use Rattle.law_machine.specs.Steps.{Step, Opens as Starts, Receives, does}
 use Rattle.def_run.specs.World as world
@@ -13,7 +13,7 @@ use Rattle.law_name.proofs.Among.{length_end}
 use Rattle.law_reference.specs.Cuts.{NoticesFollow, NoticesFollowCuts}
 use Rattle.law_reference.proofs.NoticedRuns.{noticed_links_cut}
 use Rattle.law_reference.proofs.Follow.{NotesKnown}
-use Rattle.law_reference.proofs.FollowRuns.{taken_known}
+use Rattle.law_reference.proofs.FollowRuns.{taken_known, not_at_first}
 use Rattle.law_reference.proofs.LegRuns.{Before, stands_of}
 use Rattle.law_reference.proofs.LegMoves.{LegsOf, legs_on, begins_legs, opened_before, stepped_before}
 use Rattle.law_reference.proofs.Moves.{Moved, Still, Severs, Drops, Steps, Arrives, IsAlone, Does, waiting, entry_moves, opens_end, steps_end, get_mid, going_is, opened_hold, stepped_hold}
@@ -69,37 +69,12 @@ module _ (script : Script) where
 
   -- ---- the start
 
-  no_gift : (g i : ℕ) (ws : List ℕ) → IsAmong (Gift g i) (names_in (map world.known_root ws)) → ⊥
-  unfolding world.known_root begun
-  no_gift g i [] h = h
-  no_gift g i (w ∷ ws) (inl e) = cc
-  no_gift g i (w ∷ ws) (inr h) = no_gift g i ws h
-
-  fresh_none : (g i v : ℕ) (ps : List Program) (n : ℕ) (s : Vat Name) → slice_get (world.fresh_from script v ps) n ≡ Some s → IsAmong (Gift g i) (names_in s.known) → ⊥
-  unfolding world.fresh_from world.fresh world.known_root begun
-  fresh_none g i v [] n s e a = absurd (nobody e)
-    where
-      nobody : {r : Vat Name} → ◌≡◌ {A = Option (Vat Name)} None (Some r) → ⊥
-      nobody e = cc
-  fresh_none g i v (p ∷ ps) zero s e a = of_one (some_is (world.fresh script v p) s e) a
-    where
-      some_is : (x y : Vat Name) → ◌≡◌ {A = Option (Vat Name)} (Some x) (Some y) → x ≡ y
-      some_is x y e = cc
-
-      own : (x : ℕ) → Gift g i ≡ Root x → ⊥
-      own x e = cc
-
-      here : IsAmong (Gift g i) (names_in (world.fresh script v p).known) → ⊥
-      here (inl e) = own v e
-      here (inr h) = no_gift g i p.knows h
-
-      of_one : world.fresh script v p ≡ s → IsAmong (Gift g i) (names_in s.known) → ⊥
-      of_one e h = here (rw (sym e) at h)
-  fresh_none g i v (p ∷ ps) (suc n) s e a = fresh_none g i (suc v) ps n s e a
+  not_root : (g i x : ℕ) → Gift g i ≡ Root x → ⊥
+  not_root g i x e = cc
 
   begins_holds : Holds (world.begins script)
   unfolding world.begins
-  begins_holds = (λ v i s e a. absurd (fresh_none v i zero script.vats v s e a), λ u g i s r e f k. absurd (fresh_none g i zero script.vats u s e k))
+  begins_holds = (λ v i s e a. absurd (not_at_first script (Gift v i) (λ x j. not_root v i x j) zero script.vats v s e a), λ u g i s r e f k. absurd (not_at_first script (Gift g i) (λ x j. not_root g i x j) zero script.vats u s e k))
 
   -- ---- entries, of which those before stand
 

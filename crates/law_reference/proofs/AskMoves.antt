@@ -1,16 +1,14 @@
 -- What each move of a world keeps of gifts that vats know: those of others follow the asking, and one's own stand.
 use Rattle.std.proofs.Common.{◌≡◌, ℕ, true, List, ◌∷◌, Option, Some, None, refl, sym, ap, ◌∙◌, ◌⊎◌, inl, inr, subst}
 use Rattle.std.specs.Prelude.{slice_get}
-use Rattle.def_machine.specs.Values.{Value, Null, Flag, Number, Letter, Text, Prim, Broken, Items, Ref, Name, Gift, host_of}
-use Rattle.def_machine.specs.State.{Passed, Passeds, Plain, AGift, Many, NoMore, More, Note, Deliver, Open, Ask, SettledTo, Elsewhere, Shorten, Vat, is_in}
+use Rattle.def_machine.specs.Values.{Name, Gift}
+use Rattle.def_machine.specs.State.{Note, Vat, is_in}
 use Rattle.def_run.specs.World.{Link, put_at, push_all, pushed, with_link, with_notes, severed_link, link_at}
-use Rattle.law_name.specs.Names.{Bit, Named, Mail, Drew, At, Off, Entered, Owns, Gave, AllOf, IsAmong, IsKnownIn, IsEventual, ValueOk, PassedOk, PassedsOk, NoteOk, names_in}
-use Rattle.law_name.proofs.Facts.{all_map, note_up}
+use Rattle.law_name.specs.Names.{IsAmong, names_in}
 use Rattle.law_name.proofs.Among.{get_put}
-use Rattle.law_reference.specs.Notes.{IsBetween, IsOfEither, PassesBetween, AllPassBetween, Carries}
 use Rattle.law_reference.proofs.LinksCut.{fits_notes, fits_severed}
-use Rattle.law_reference.specs.Behind.{Avoids, NamesNot, IsKnownTo as KnowsIn}
 use Rattle.law_reference.proofs.First.{among_dec}
+use Rattle.law_reference.proofs.Unnamed.{all_not}
 use Rattle.law_reference.proofs.AnswerLinks.{AtLink, push_keeps, push_others, with_any}
 use Rattle.law_reference.proofs.Follow.{put_cases, NotesKnown}
 use Rattle.law_reference.proofs.FollowRuns.{same_link}
@@ -18,68 +16,6 @@ use Rattle.law_reference.specs.Standing.{IsEntered}
 use Rattle.law_reference.specs.ApartAsking.{AsksFor, AskedFirst}
 use Rattle.law_reference.proofs.AskCare.{PutsFirst}
 use Rattle.law_reference.proofs.AskLinks.{CutOrAsked, pushed_asked, push_asked}
-
--- ---- a gift of a third vat
-
-module _ (g i : ℕ) where
-  abbrev pub X : Name
-  X = Gift g i
-
-  other_host : (n : Name) (u : ℕ) → host_of n ≡ u → (g ≡ u → ⊥) → n ≡ X → ⊥
-  unfolding host_of
-  other_host n u h f e = f (sym (ap host_of e) ∙ h)
-
-  is_eventual : (n : Name) → n ≡ X → IsEventual n
-  is_eventual n e = rw e tt
-
-  module _ (a b : ℕ) (not_a : g ≡ a → ⊥) (not_b : g ≡ b → ⊥) where
-    either_host : (n : Name) → (host_of n ≡ a) ⊎ (host_of n ≡ b) → n ≡ X → ⊥
-    either_host n (inl h) e = other_host n a h not_a e
-    either_host n (inr h) e = other_host n b h not_b e
-
-    value_not : (y : Value Name) → IsOfEither a b y → ValueOk (Avoids X) y
-    value_not (Ref n) h = either_host n h
-    value_not Null h = tt
-    value_not (Flag c) h = tt
-    value_not (Number z) h = tt
-    value_not (Letter c) h = tt
-    value_not (Text t) h = tt
-    value_not (Prim k) h = tt
-    value_not (Broken t) h = tt
-    value_not (Items k) h = tt
-
-    mutual
-      passed_not : (y : Passed Name) → PassesBetween a b y → PassedOk (Avoids X) y
-      passed_not (Plain y) h = value_not y h
-      passed_not (AGift c j) h = (tt, tt)
-      passed_not (Many ys) h = passeds_not ys h
-
-      passeds_not : (ys : Passeds Name) → AllPassBetween a b ys → PassedsOk (Avoids X) ys
-      passeds_not NoMore h = tt
-      passeds_not (More y ys) h = (passed_not y h.0, passeds_not ys h.1)
-
-    -- a note between two others does not name it
-    pub third_not : (n : Note Name) → IsBetween a b n → Carries a b n → NamesNot X n
-    third_not (Deliver id n verb ys) h k = (tt, other_host n b h not_b, passeds_not ys k.0)
-    third_not (Open j n) h k = (tt, other_host n b h not_b)
-    third_not (Ask p j n) h k = (tt, other_host n b h not_b)
-    third_not (SettledTo n y) h k = (other_host n a h not_a, passed_not y k)
-    third_not (Elsewhere n c) h k = (other_host n a h not_a, tt)
-    third_not (Shorten n c j) h k = ((λ e. other_host n b (h (is_eventual n e)) not_b e), tt)
-
-  -- what is not known is not named
-  pub knows_not : (s : Vat Name) → (IsAmong X (names_in s.known) → ⊥) → (b : Bit Name) → KnowsIn s b → Avoids X b
-  knows_not s f (Named n) h = λ e. let known : IsKnownIn (names_in s.known) X = rw e at h in f known
-  knows_not s f (Mail n) h = tt
-  knows_not s f (Drew j) h = tt
-  knows_not s f (At w) h = tt
-  knows_not s f (Off w) h = tt
-  knows_not s f (Entered n) h = tt
-  knows_not s f (Owns n j) h = tt
-  knows_not s f (Gave j) h = tt
-
-  pub all_not : (s : Vat Name) → (IsAmong X (names_in s.known) → ⊥) → (ns : List (Note Name)) → AllOf (NoteOk (KnowsIn s)) ns → AllOf (NamesNot X) ns
-  all_not s f ns h = all_map (λ n k. note_up (KnowsIn s) (Avoids X) (knows_not s f) n k) ns h
 
 -- each gift of its own that a vat knows stands there
 abbrev pub Owned : List (Vat Name) → Type 0
@@ -131,7 +67,7 @@ module _ (vs : List (Vat Name)) (v : ℕ) (s t : Vat Name) (there : slice_get vs
 
     new_followed : PutsFirst g i t.outbox → IsAmong (Gift g i) (names_in s.known) ⊎ (IsAmong (Gift g i) (names_in s.known) → ⊥) → AtLink v g (Followed g i t q) (push_all v t.outbox ls)
     new_followed p (inl a) = old_followed a
-    new_followed p (inr f) = λ l e. inr (inl (push_asked g i v t.outbox ls p (λ k j. all_not g i s f k.notes (known v g s there k j)) l e))
+    new_followed p (inr f) = λ l e. inr (inl (push_asked i (Gift g i) g v t.outbox ls p (λ k j. all_not (Gift g i) s f k.notes (known v g s there k j)) l e))
 
     by_first : (IsAmong (Gift g i) (names_in s.known) ⊎ IsEntered i q.gifts) ⊎ ((g ≡ v → ⊥) × (PutsFirst g i t.outbox ⊎ (is_in g t.noticed ≡ true))) → AtLink v g (Followed g i t q) (push_all v t.outbox ls)
     by_first (inl (inl a)) = old_followed a

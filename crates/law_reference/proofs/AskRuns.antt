@@ -1,7 +1,7 @@
 -- In every world of a run behind cuts, gifts of others that a vat knows follow the asking, and its own stand.
-use Rattle.std.proofs.Common.{◌≡◌, ℕ, true, false, List, [], ◌∷◌, Option, Some, refl, sym, ap, ◌∙◌, ◌⊎◌, inl, inr, subst, length}
+use Rattle.std.proofs.Common.{◌≡◌, ℕ, true, false, List, [], ◌∷◌, Option, Some, refl, sym, ap, ◌∙◌, ◌⊎◌, inl, inr, subst}
 use Rattle.std.specs.Prelude.{slice_get}
-use Rattle.def_machine.specs.Values.{Value, Null, Flag, Number, Letter, Text, Prim, Broken, Items, Ref, Name, Root, Gift}
+use Rattle.def_machine.specs.Values.{Name, Root, Gift}
 use Rattle.def_machine.specs.State.{Message, Passed, Passeds, Plain, AGift, Many, NoMore, More, Note, Deliver, Open, Ask, SettledTo, Elsewhere, Shorten, GiftEntry, Vat, Done, Gives, is_in}
 use Rattle.law_machine.specs.Steps.{Step, Opens as Starts, Takes, Receives, Notices, does, After}
 use Rattle.law_machine.specs.Laws.{NoticedStays}
@@ -9,7 +9,7 @@ use Rattle.law_machine.proofs.StepLaws.{kept_by_steps, noticed_law, noticed_name
 use Rattle.def_run.specs.Draws.{draw_word}
 use Rattle.def_run.specs.World as world
 use Rattle.def_run.specs.World.{Script, Program, Opens, Entry, Turn, Carry, CutLink, NoticeLink, Event, Link, World, Run, Goes as Going, Stopped, names, names_of, read_note, readied, put_at, push_all, with_link, with_notes, severed_link, link_at}
-use Rattle.law_name.specs.Names.{Bit, Named, Mail, Drew, At, Off, Entered, Owns, Gave, AllOf, IsAmong, IsMade, ValueOk, PassedOk, PassedsOk, NoteOk, NounOk, NameOk, names_in}
+use Rattle.law_name.specs.Names.{Bit, Named, Mail, Drew, At, Off, Entered, Owns, Gave, AllOf, IsAmong, IsMade, PassedOk, PassedsOk, NoteOk, NounOk, NameOk, names_in}
 use Rattle.law_name.proofs.Facts.{MayBe, note_up}
 use Rattle.law_name.proofs.Among.{get_put}
 use Rattle.law_name.proofs.Run.{Had, Told, low_at, inside_root, knows_low, Stands, given_ok, link_holds}
@@ -19,7 +19,8 @@ use Rattle.law_reference.specs.Cuts.{IsCutThere}
 use Rattle.law_reference.proofs.NotesLift as lift
 use Rattle.law_reference.proofs.NotesRuns.{OfNotes}
 use Rattle.law_reference.specs.Behind.{Avoids, NamesNot, IsKnownTo as KnowsIn}
-use Rattle.law_reference.proofs.First.{among_dec, made_message}
+use Rattle.law_reference.proofs.First.{among_dec}
+use Rattle.law_reference.proofs.CareBeside.{made_message}
 use Rattle.law_reference.proofs.Follow.{put_cases, eq_dec, NotesKnown}
 use Rattle.law_reference.proofs.FollowRuns.{tail_of}
 use Rattle.law_reference.proofs.LegRuns.{Before, stands_of, sender_of}
@@ -31,10 +32,11 @@ use Rattle.law_reference.proofs.Standing.{gifts_stay, what_is_opened_stands}
 use Rattle.law_reference.proofs.GiftLaws.{Fits}
 use Rattle.law_reference.proofs.GiftLinks.{found_tells}
 use Rattle.law_reference.specs.ApartAsking.{AsksFor, AskedFirst}
-use Rattle.law_reference.proofs.Arrivals.{ValueTells, PassedTells, PassedsTell}
+use Rattle.law_reference.proofs.Arrivals.{PassedTells, PassedsTell, value_tells}
 use Rattle.law_reference.proofs.AskCare.{Has, PutsFirst, Asks, Held, Tells, asks_under, asks_makes, note_asks}
 use Rattle.law_reference.proofs.ApartSteps.{does_sound, arrives_sound}
-use Rattle.law_reference.proofs.AskMoves.{third_not, knows_not, Owned, Followed, Follow}
+use Rattle.law_reference.proofs.AskMoves.{Owned, Followed, Follow}
+use Rattle.law_reference.proofs.Unnamed.{third_gift, not_named}
 
 -- ---- gifts at their host
 
@@ -157,21 +159,10 @@ module _ (script : Script) where
     abbrev Q : ℕ → Type 0
     Q j = Unit {0}
 
-    value_tells : (y : Value Name) → ValueOk (Avoids X) y → ValueTells T G Q y
-    value_tells (Ref n) f = f
-    value_tells Null f = tt
-    value_tells (Flag b) f = tt
-    value_tells (Number z) f = tt
-    value_tells (Letter c) f = tt
-    value_tells (Text x) f = tt
-    value_tells (Prim k) f = tt
-    value_tells (Broken x) f = tt
-    value_tells (Items k) f = tt
-
     module _ (P : ℕ → ℕ) (d : List ℕ) where
       mutual
         passed_tells : (y : Passed Name) → PassedOk (Avoids X) y → PassesFrom P d a v y → PassedTells T G Q y
-        passed_tells (Plain y) f h = value_tells y f
+        passed_tells (Plain y) f h = value_tells T G Q (Avoids X) (λ n i. i) y f
         passed_tells (AGift c j) f h = h.2
         passed_tells (Many ys) f h = passeds_tell ys f h
 
@@ -247,7 +238,7 @@ module _ (script : Script) where
       Cases = (NamesNot (Gift g i) n ⊎ AsksFor i n) ⊎ IsEntered i q.gifts
 
       unknown_not : (IsAmong (Gift g i) (names_in sender.0.known) → ⊥) → NamesNot (Gift g i) n
-      unknown_not f = note_up (KnowsIn sender.0) (Avoids (Gift g i)) (knows_not g i sender.0 f) n known_note
+      unknown_not f = not_named (Gift g i) sender.0 f n known_note
 
       not_cut : l.cut ≡ true → ⊥
       not_cut e = true_false (sym cut ∙ e)
@@ -279,7 +270,7 @@ module _ (script : Script) where
       by_host : (g ≡ v) ⊎ (g ≡ v → ⊥) → (g ≡ a) ⊎ (g ≡ a → ⊥) → Cases
       by_host (inl e) x = own e (among_dec (Gift g i) (names_in sender.0.known))
       by_host (inr f) (inl e) = theirs e f (among_dec (Gift g i) (names_in sender.0.known))
-      by_host (inr f) (inr k) = inl (inl (third_not g i a v k f n of_note.0 of_note.1))
+      by_host (inr f) (inr k) = inl (inl (third_gift g i a v k f n of_note.0 of_note.1))
 
       held_by : Cases → IsAmong (Gift g i) (names_in t.known) → (IsAmong (Gift g i) (names_in s.known) ⊎ IsEntered i q.gifts) ⊎ ((g ≡ v → ⊥) × (PutsFirst g i t.outbox ⊎ (is_in g t.noticed ≡ true)))
       held_by (inr k) x = inl (inr k)

@@ -1,20 +1,23 @@
 -- What passes in the notes that a vat puts names nothing of a third vat: a care for names, and for the notes put.
-use Rattle.std.proofs.Common.{◌≡◌, ℕ, Bool, true, false, List, [], ◌∷◌, Option, Some, None, refl, sym, ap, ◌∙◌, ◌⊎◌, inl, inr, if◌then◌else◌, ◌==◌}
+use Rattle.std.proofs.Common.{◌≡◌, ℕ, Bool, true, false, List, [], ◌∷◌, Option, Some, None, refl, sym, ap, subst, ◌∙◌, ◌⊎◌, inl, inr, if◌then◌else◌, ◌==◌}
 use Rattle.std.specs.Prelude.{slice_get, is_some}
 use Rattle.std.proofs.lemmas.Bool.{eqb-true}
-use Rattle.def_machine.specs.Values.{Value, Null, Flag, Number, Letter, Text, Prim, Broken, Items, Ref, Name, Root, Object, Promise, Answer, Gift, Sent, host_of, same_reference, Naming, naming, name_of, spot_of, Own as OwnThing, Foreign}
-use Rattle.def_machine.specs.State.{Message, Known, ToTell, Passed, Passeds, Plain, AGift, Many, NoMore, More, Note, Deliver, Open, Ask, SettledTo, Elsewhere, Put, Vat, Done, Gives, Throws, Ejects, Stops, Act, ◌>>=◌, ◌>>◌, and_then, give, look, tell, enqueue, send_out, new_gift, open_gift, mark, draws, draw, alter, come, new_message, new_promise, Posted, new_lone_message}
+use Rattle.def_machine.specs.Values.{Value, Null, Flag, Number, Letter, Text, Prim, Broken, Items, Ref, Name, Root, Object, Promise, Answer, Gift, Sent, host_of, same_reference, Naming, naming, name_of, answer_of, spot_of, Own as OwnThing, Foreign, IsAnswer}
+use Rattle.def_machine.specs.State.{Message, Known, Passed, Passeds, Plain, AGift, Many, NoMore, More, Note, Deliver, Open, Ask, SettledTo, Elsewhere, Shorten, Put, Happened, Vat, Act, ◌>>=◌, ◌>>◌, and_then, for_some, give, look, tell, send_out, draws, draw, come, new_message, Posted}
 use Rattle.def_machine.specs.Refs as refs
 use Rattle.def_machine.specs.Refs.{Place, Near, Mine, Away, Gone, entry_of, host_at, host_in, place, spotted, hosted}
 use Rattle.law_name.specs.Names.{Named, At, AllOf, IsAmong, IsEventual, ValueOk, HostIsTrue, names_in}
-use Rattle.law_name.proofs.Facts.{all_end, PlaceOk, Fact, Also, IsName, IsDraw, IsOff, IsValue, AreValues, IsMessage, IsPlace, DoesPass, DoAllPass, NoteDoes, NoteGoes, parcel, nothing}
-use Rattle.law_name.proofs.Care.{Care, Under, Giving, Makes, Sound, Ends, Gets, Fine, fine_spend, fine_tell, fine_enqueue, fine_out, fine_gift, fine_open, fine_mark, fine_draw, fine_hold, fine_wait, fine_waits_on, fine_reacts, fine_to_tell, fine_settles, come_answer, come_gift, fine_new_message, fine_promise, fine_lone_message}
-use Rattle.law_name.proofs.Looks.{look_parcel, place_ok, note_deliver, note_open, note_ask, note_settled, note_elsewhere, goes_deliver, goes_open, goes_ask, goes_settled, goes_elsewhere}
+use Rattle.law_name.proofs.Facts.{all_end, PlaceOk, Fact, Also, IsName, IsMail, IsDraw, IsVat, IsOff, IsValue, AreValues, IsMessage, IsPlace, DoesPass, DoAllPass, NoteDoes, NoteGoes, MayName, parcel, new_names, nothing}
+use Rattle.law_name.proofs.Care.{Care, Under, Sound, Gets, Fine, then_unit, got_vat, fine_spend, fine_out, fine_draw, come_answer, fine_new_message}
+use Rattle.law_name.proofs.Looks.{look_parcel, place_ok, note_deliver, note_open, note_settled, note_elsewhere, goes_deliver, goes_open, goes_settled, goes_elsewhere}
 use Rattle.law_name.proofs.SameNames.{reference_is, reference_self}
-use Rattle.law_name.proofs.Tracked.{Marked, tracked, tracked_under, tracked_gives, tracked_makes}
+use Rattle.law_name.proofs.Tracked.{Marked}
 use Rattle.law_reference.specs.Notes.{IsOfEither, PassesBetween, AllPassBetween, Carries, answer_due}
-use Rattle.law_reference.proofs.CareNotes.{Called, Puts}
-use Rattle.law_reference.proofs.CareYields.{Fits, Whatever, fits_bind, fits_fine, fits_give, fits_then, fine_fits}
+use Rattle.law_reference.proofs.Beside.{PassesNothing, Stays}
+use Rattle.law_reference.proofs.CareBeside.{T as Tracks, V as Cares, IsHere, quiet, under, makes, changes}
+use Rattle.law_reference.proofs.CareMore.{Leaves, without, lift}
+use Rattle.law_reference.proofs.CareBlocks.{Changes, Blocks, sent_by, sent_only_by, put_wait_on}
+use Rattle.law_reference.proofs.CareYields.{Fits, Whatever, fits_bind, fits_fine, fits_give, fits_then, fine_fits, bind_yielded}
 
 -- of that host, or data
 abbrev pub IsOf : ℕ → Value Name → Type 0
@@ -44,89 +47,65 @@ of_either v w h (Items k) e i = tt
 no_same : (b : Bool) → b ≡ true → b ≡ false → ⊥
 no_same b e f = cc
 
+-- what passes in each note put is of the two vats
+abbrev pub FitOut : ℕ → List (Known Name) → List (Put Name) → Type 0
+FitOut v ks ps = AllOf (λ (p : Put Name). Carries v p.to p.note) ps
+
+plain_carries : (v to : ℕ) (n : Note Name) → PassesNothing n → Carries v to n
+plain_carries v to (Deliver d n verb ys) h = absurd h
+plain_carries v to (SettledTo n y) h = absurd h
+plain_carries v to (Open i n) h = tt
+plain_carries v to (Ask p i n) h = tt
+plain_carries v to (Elsewhere n c) h = tt
+plain_carries v to (Shorten n c i) h = tt
+
+pub fit_stays : (word : ℕ → ℕ) (v : ℕ) → Stays word v (FitOut v)
+fit_stays word v = record {
+  altered = λ c n ks ps o. o;
+  knows = λ n h k ks ps o. o;
+  puts = λ p n ks ps o. all_end (λ (r : Put Name). Carries v r.to r.note) ps p o (plain_carries v p.to p.note n);
+}
+
 module _ (M : Marked) (vats : List (Vat Name)) (v : ℕ) (q : Vat Name) (there : slice_get vats v ≡ Some q) (here : M.mark (At v)) (word : ℕ → ℕ) where
-  abbrev pub T : Care Name
-  T = tracked true M vats v q there here
+  abbrev T : Care Name
+  T = Tracks M vats v q there here word (FitOut v)
 
   abbrev pub Names : Naming Name Name
   Names = naming word v
 
-  under : Under Names T
-  under = tracked_under true M vats v q there here word
+  abbrev IsFit : Vat Name → Type 0
+  IsFit s = FitOut v s.known s.outbox
 
-  gives : Giving Names T
-  gives = tracked_gives true M vats v q there here word
-
-  makes : Makes Names T
-  makes = tracked_makes M vats v q there here word
-
-  -- what passes in each note put is of the two vats
-  abbrev pub FitOut : Vat Name → Type 0
-  FitOut s = AllOf (λ (p : Put Name). Carries v p.to p.note) s.outbox
+  known_under : Under Names T
+  known_under = under M vats v q there here word (FitOut v)
 
   abbrev pub V : Care Name
-  V = record {
-    ok = T.ok;
-    more = λ s. T.more s × FitOut s;
-    rel = T.rel;
-    same = T.same;
-    trans = T.trans;
-    up = T.up;
-    here = λ s m. T.here s m.0;
-    near = T.near;
-    entered = T.entered;
-    owned = T.owned;
-    owner = T.owner;
-    drew = T.drew;
-    fuel = λ s n. let r = T.fuel s n in (r.0, λ m. (r.1 m.0, m.1));
-    told = λ s e n. let r = T.told s e n in (r.0, λ m. (r.1 m.0, m.1));
-    activations = λ s. let r = T.activations s in (r.0, λ m. (r.1 m.0, m.1));
-    thing = λ s z. let r = T.thing s z in (r.0, λ m. (r.1 m.0, m.1));
-    killed = λ s n. let r = T.killed s n in (r.0, λ m. (r.1 m.0, m.1));
-    slot = λ s c. let r = T.slot s c in (r.0, λ m. (r.1 m.0, m.1));
-    written = λ s n y. let r = T.written s n y in (r.0, λ m. (r.1 m.0, m.1));
-    list = λ s ys. let r = T.list s ys in (r.0, λ m. (r.1 m.0, m.1));
-  }
+  V = Cares M vats v q there here word (FitOut v)
 
-  pub fit_sound : (s : Vat Name) → Sound T s → FitOut s → Sound V s
-  fit_sound s h o = record { parts = h.parts; more = (h.more, o) }
+  sound_names : (s : Vat Name) → Sound V s → Sound T s
+  sound_names s h = without T IsFit (quiet M vats v q there here word (FitOut v)) s h
 
-  pub name_sound : (s : Vat Name) → Sound V s → Sound T s
-  name_sound s h = let m = h.more in record { parts = h.parts; more = m.0 }
+  lifted : {A : Type 0} {C : Fact Name} {m : Act Name A} {G : A → Fact Name} → Fine T C m G → ((s : Vat Name) → IsFit s → Leaves IsFit (m s)) → Fine V C m G
+  lifted f l = lift T IsFit (quiet M vats v q there here word (FitOut v)) f l
 
-  pub sound_fit : (s : Vat Name) → Sound V s → FitOut s
-  sound_fit s h = let m = h.more in m.1
+  gets : {C G : Fact Name} → Gets V C G → Gets T C G
+  gets g = record { at = g.at }
 
-  abbrev pub Leaves : {A : Type 0} → Done Name A → Type 0
-  Leaves (Gives a t) = FitOut t
-  Leaves (Throws p t) = FitOut t
-  Leaves (Ejects n y t) = FitOut t
-  Leaves (Stops c t) = Unit {0}
-
-  pub joined : {A : Type 0} (G : A → Fact Name) (s : Vat Name) (d : Done Name A) → Ends T G s d → Leaves d → Ends V G s d
-  joined G s (Gives a t) h l = (h.0, fit_sound t h.1 l, h.2)
-  joined G s (Throws p t) h l = (h.0, fit_sound t h.1 l)
-  joined G s (Ejects n y t) h l = (h.0, fit_sound t h.1 l, h.2)
-  joined G s (Stops c t) h l = tt
-
-  pub lift : {A : Type 0} {C : Fact Name} {m : Act Name A} {G : A → Fact Name} → Fine T C m G → ((s : Vat Name) → FitOut s → Leaves (m s)) → Fine V C m G
-  lift {m = m} {G = G} f l = record { after = λ s h c. joined G s (m s) (f.after s (name_sound s h) c) (l s (sound_fit s h)) }
-
-  gets_names : {C G : Fact Name} → Gets V C G → Gets T C G
-  gets_names g = record { at = g.at }
+  single : Changes Names V (IsHere M vats v q there here word (FitOut v))
+  single = changes M vats v q there here word (FitOut v) (fit_stays word v)
 
   fit_out : {C : Fact Name} (to : ℕ) (n : Note Name) → Carries v to n → Gets V C (NoteDoes n) → Gets V C (NoteGoes to n) → Fine V C (send_out to n) nothing
   unfolding send_out
-  fit_out to n i g k = lift (fine_out Names T under to n (gets_names g) (gets_names k)) (λ s o. all_end (λ (p : Put Name). Carries v p.to p.note) s.outbox (record { to = to; note = n }) o i)
+  fit_out to n i g k = lifted (fine_out Names T known_under to n (gets g) (gets k)) (λ s o. all_end (λ (p : Put Name). Carries v p.to p.note) s.outbox (record { to = to; note = n }) o i)
 
-  draws_leave : (s : Vat Name) (w : ℕ) (o : Option ℕ) → FitOut s → Leaves (draws w o s)
+  draws_leave : (s : Vat Name) (w : ℕ) (o : Option ℕ) → IsFit s → Leaves IsFit (draws w o s)
   unfolding draws
   draws_leave s w (Some i) h = tt
   draws_leave s w None h = h
 
   fit_draw : {C : Fact Name} → Fine V C (draw Names) IsDraw
   unfolding draw
-  fit_draw = lift (fine_draw Names T under) (λ s o. draws_leave s _ _ o)
+  fit_draw = lifted (fine_draw Names T known_under) (λ s o. draws_leave s _ _ o)
 
   -- ---- a name that is known has its own host
 
@@ -184,26 +163,22 @@ module _ (M : Marked) (vats : List (Vat Name)) (v : ℕ) (q : Vat Name) (there :
   -- ---- passing
 
   placed : (s : Vat Name) → Sound T s → (n : Name) → T.ok s (Named n) → PlaceOk (T.ok s) (spotted Names s n (Names.spot n))
-  placed s h n g = let spots = under.spots in spots.placed s h.more n g
+  placed s h n g = let spots = known_under.spots in spots.placed s h.more n g
 
   away_fits : {C : Fact Name} (w h : ℕ) (n : Name) (y : Value Name) (b : Bool) → (b ≡ true → h ≡ w) → Gets V C (IsValue y) → Gets V C (IsName n) → Gets V C (IsOff h) → IsOf h y → Fits V C (if b then give (Plain y) else (draw Names >>= (λ i. send_out h (Open i n) >> give (AGift h i)))) DoesPass (PassesBetween v w)
   away_fits w h n y true f g k z o = fits_give V (Plain y) (record { at = λ s c. g.at s c }) (of_either v w h y o (inr (f refl)))
   away_fits {C = C} w h n y false f g k z o = fits_bind V IsDraw (Whatever V) (fits_fine V fit_draw) (λ i u. fits_then V nothing (fit_out h (Open i n) tt (note_open V (Also C (IsDraw i)) i n (record { at = λ s c. c.1 }) (record { at = λ s c. k.at s c.0 })) (goes_open V (Also C (IsDraw i)) h i n)) (fits_give V (AGift h i) (record { at = λ s c. (V.near s h (z.at s c.0), c.1) }) tt))
 
-  told_leaves : (w : ℕ) (n : Name) (s : Vat Name) → FitOut s → Leaves (alter Names (ToTell w) n s)
-  unfolding alter
-  told_leaves w n s o = o
-
   fits_plain : {C : Fact Name} (w : ℕ) (y : Value Name) (p : Place Name) → Gets V C (IsValue y) → Gets V C (IsPlace p) → PlaceSays y p → Fits V C (refs.address_plain Names w y p) DoesPass (PassesBetween v w)
   unfolding refs.address_plain
   fits_plain w y (Away h n o) g k i = away_fits w h n y (h == w) (eqb-true h w) g (record { at = λ s c. (k.at s c).0 }) (record { at = λ s c. (k.at s c).1 }) i
-  fits_plain w y (Mine n) g k i = fits_then V nothing (lift (fine_to_tell Names T under w n (record { at = λ s c. k.at s c })) (told_leaves w n)) (fits_give V (Plain y) (record { at = λ s c. g.at s c }) (of_either v w v y i (inl refl)))
+  fits_plain w y (Mine n) g k i = fits_then V nothing (single.to_tell _ w n (record { at = λ s c. k.at s c })) (fits_give V (Plain y) (record { at = λ s c. g.at s c }) (of_either v w v y i (inl refl)))
   fits_plain w y Near g k i = fits_give V (Plain y) (record { at = λ s c. g.at s c }) (of_either v w v y i (inl refl))
   fits_plain w y (Gone t) g k i = fits_give V (Plain y) (record { at = λ s c. g.at s c }) (of_either v w v y i (inl refl))
 
   fits_value : {C : Fact Name} (w : ℕ) (y : Value Name) → Gets V C (IsValue y) → Fits V C (refs.address Names w (Plain y)) DoesPass (PassesBetween v w)
   unfolding refs.address ◌>>=◌ look and_then
-  fits_value {C = C} w y g = record { after = λ s h c. (fits_plain {C = Also C (IsPlace (place Names s y))} w y (place Names s y) (record { at = λ r d. g.at r d.0 }) (record { at = λ r d. d.1 }) (place_says s y (name_sound s h) (g.at s c))).after s h (c, place_ok Names (T.ok s) s (placed s (name_sound s h)) y (g.at s c)) }
+  fits_value {C = C} w y g = record { after = λ s h c. (fits_plain {C = Also C (IsPlace (place Names s y))} w y (place Names s y) (record { at = λ r d. g.at r d.0 }) (record { at = λ r d. d.1 }) (place_says s y (sound_names s h) (g.at s c))).after s h (c, place_ok Names (T.ok s) s (placed s (sound_names s h)) y (g.at s c)) }
 
   mutual
     unfolding refs.address refs.address_all
@@ -228,20 +203,13 @@ module _ (M : Marked) (vats : List (Vat Name)) (v : ℕ) (q : Vat Name) (there :
 
   -- ---- the notes with what passes in them
 
-  fit_tell : {C : Fact Name} (e : _) → Fine V C (tell e) nothing
-  unfolding tell
-  fit_tell e = lift (fine_tell Names T under e) (λ s o. o)
+  fit_tell : {C : Fact Name} (e : Happened Name) → Fine V C (tell e) nothing
+  fit_tell {C = C} e = single.tells C e
 
-  -- an answer is called by its name
-  answer_fits : (h : ℕ) (m : Name) (o : Option Name) → Called Names h m o → o ≡ answer_due h (is_some o) m
-  unfolding naming name_of
-  answer_fits h m (Some a) q = ap Some q.1
-  answer_fits h m None q = refl
-
-  fit_deliver : {C : Fact Name} (m : Message Name) → Gets V C (IsMessage m) → (h : ℕ) → Gets V C (IsOff h) → (n : Name) → Gets V C (IsName n) → Called Names h m.id m.answer → Fine V C (refs.deliver Names m h n) nothing
+  fit_deliver : {C : Fact Name} (m : Message Name) → Gets V C (IsMessage m) → (h : ℕ) → Gets V C (IsOff h) → (n : Name) → Gets V C (IsName n) → m.answer ≡ answer_due h (is_some m.answer) m.id → Fine V C (refs.deliver Names m h n) nothing
   unfolding refs.deliver
   fit_deliver {C = C} m g h o n k q = fine_fits V (fits_bind V {R = (Whatever V)} DoAllPass (AllPassBetween v h) (fits_pass_all h m.args (record { at = λ s c. (g.at s c).2 })) (λ ys b. fits_then V nothing (fit_tell (Posted h m.id))
-      (fits_fine V (fit_out h (Deliver (refs.delivery_of Names m) n m.verb ys) (b, answer_fits h m.id m.answer q) (note_deliver V (Also C (DoAllPass ys)) (refs.delivery_of Names m) n m.verb ys (record { at = λ s c. (g.at s c.0).0 }) (record { at = λ s c. k.at s c.0 }) (record { at = λ s c. c.1 })) (goes_deliver V (Also C (DoAllPass ys)) h (refs.delivery_of Names m) n m.verb ys (record { at = λ s c. o.at s c.0 }))))))
+      (fits_fine V (fit_out h (Deliver (refs.delivery_of Names m) n m.verb ys) (b, q) (note_deliver V (Also C (DoAllPass ys)) (refs.delivery_of Names m) n m.verb ys (record { at = λ s c. (g.at s c.0).0 }) (record { at = λ s c. k.at s c.0 }) (record { at = λ s c. c.1 })) (goes_deliver V (Also C (DoAllPass ys)) h (refs.delivery_of Names m) n m.verb ys (record { at = λ s c. o.at s c.0 }))))))
 
   fit_settled : {C : Fact Name} (p : Name) → Gets V C (IsName p) → (w : ℕ) (y : Value Name) → Gets V C (IsValue y) → Fine V C (refs.pass Names w y >>= (λ z. send_out w (SettledTo p z))) nothing
   fit_settled {C = C} p g w y k = fine_fits V (fits_bind V DoesPass (PassesBetween v w) (fits_pass w y k) (λ z b. fits_fine V (fit_out w (SettledTo p z) b (note_settled V (Also C (DoesPass z)) p z (record { at = λ s c. g.at s c.0 }) (record { at = λ s c. c.1 })) (goes_settled V (Also C (DoesPass z)) w p z))))
@@ -254,31 +222,33 @@ module _ (M : Marked) (vats : List (Vat Name)) (v : ℕ) (q : Vat Name) (there :
   fit_inform p g w y k (Mine n) l = fit_settled p g w y k
   fit_inform p g w y k (Gone t) l = fit_settled p g w y k
 
-  pub fit_puts : Puts Names V
-  unfolding enqueue alter come new_gift open_gift mark new_message new_lone_message new_promise
-  fit_puts = record {
-    spots = record { alike = λ a b e. let spots = under.spots in spots.alike a b e; placed = λ s m n g. let spots = under.spots in spots.placed s m.0 n g };
-    alike = record { named = λ s n h. h; owns = λ s n i h. h; gave = λ s i h. h };
-    object = λ s i l. under.object s i l;
-    tells = λ C e. fit_tell e;
-    queues = λ C m g. lift (fine_enqueue Names T under m (gets_names g)) (λ s o. o);
-    holds = λ C m n g. lift (fine_hold Names T under m n (gets_names g)) (λ s o. o);
-    waits = λ C p n g. lift (fine_wait Names T under p n (gets_names g)) (λ s o. o);
-    waits_on = λ C p n g. lift (fine_waits_on Names T under p n (gets_names g)) (λ s o. o);
-    reacts = λ C m n g. lift (fine_reacts Names T under m n (gets_names g)) (λ s o. o);
-    to_tell = λ C w n g. lift (fine_to_tell Names T under w n (gets_names g)) (λ s o. o);
-    settles = λ C y n g. lift (fine_settles Names T under y n (gets_names g)) (λ s o. o);
-    answers = λ C h m g k. lift (come_answer Names T under h m (gets_names g) (gets_names k)) (λ s o. o);
-    gifts = λ C h i g k. lift (come_gift Names T under gives h i (record { at = λ s c. g.at s c }) (gets_names k)) (λ s o. o);
-    gives = λ C n p i g k. lift (fine_gift Names T under gives n p i (record { at = λ s c. g.at s c }) (gets_names k)) (λ s o. o);
-    opened = λ C p i. lift (fine_open Names T under p i) (λ s o. o);
-    marks = λ C w. lift (fine_mark Names T under w) (λ s o. o);
-    draws = λ C. fit_draw;
-    messages = λ C h g. lift (fine_new_message Names T under makes h (gets_names g)) (λ s o. o);
-    lones = λ C. lift (fine_lone_message Names T under makes) (λ s o. o);
-    promises = λ C. lift (fine_promise Names T under makes) (λ s o. o);
-    delivers = λ C m g h o n k q. fit_deliver m g h o n k q;
+  -- ---- a message goes out, where its answer is called by its name
+
+  answer_called : {C : Fact Name} (h : ℕ) (m : Name) → Gets V C (IsMail m) → Gets V C (IsVat h) → Fits V C (come Names (IsAnswer h m) h) IsName (λ a. a ≡ answer_of h m)
+  unfolding come naming name_of
+  answer_called h m g k = record { after = λ s z c. ((lifted (come_answer Names T known_under h m (gets g) (gets k)) (λ s o. o)).after s z c, refl) }
+
+  message_called : {C : Fact Name} (h : ℕ) → Gets V C (IsVat h) → Fits V C (new_message Names h) new_names (λ new. new.1 ≡ answer_of h new.0)
+  unfolding new_message naming name_of
+  message_called h g = record { after = λ s z c. ((lifted (fine_new_message Names T known_under (makes M vats v q there here word (FitOut v)) h (gets g)) (λ s o. o)).after s z c, refl) }
+
+  pass_by : {C : Fact Name} (m : Message Name) → Gets V C (IsMessage m) → (h : ℕ) → Gets V C (IsOff h) → (n : Name) → Gets V C (IsName n) → (o : Option Name) → m.answer ≡ o → Gets V C (MayName o)
+      → Fine V C (for_some o (λ p. come Names (IsAnswer h m.id) h >>= (λ a. refs.deliver Names (record m { answer = Some a }) h n >> refs.wait_on Names p a)) (refs.deliver Names m h n)) nothing
+  unfolding for_some
+  pass_by {C = C} m g h o n k (Some p) e i = bind_yielded V IsName (λ a. a ≡ answer_of h m.id) (answer_called h m.id (record { at = λ s z. (g.at s z).0 }) (got_vat V C h o)) (λ a c.
+      then_unit V (fit_deliver (record m { answer = Some a }) (record { at = λ s z. let f = g.at s z.0 in (f.0, f.1, f.2, z.1) }) h (record { at = λ s z. o.at s z.0 }) n (record { at = λ s z. k.at s z.0 }) (ap Some c))
+      (put_wait_on Names V (IsHere M vats v q there here word (FitOut v)) single p (record { at = λ s z. i.at s z.0 }) a (record { at = λ s z. z.1 })))
+  pass_by m g h o n k None e i = fit_deliver m g h o n k (subst (λ (w : Option Name). w ≡ answer_due h (is_some w) m.id) (sym e) refl)
+
+  fit_pass_on : {C : Fact Name} (m : Message Name) → Gets V C (IsMessage m) → (h : ℕ) → Gets V C (IsOff h) → (n : Name) → Gets V C (IsName n) → Fine V C (refs.pass_on Names m h n) nothing
+  unfolding refs.pass_on
+  fit_pass_on m g h o n k = pass_by m g h o n k m.answer refl (record { at = λ s z. (g.at s z).3 })
+
+  pub fit_blocks : Blocks Names V
+  fit_blocks = record {
+    passes_on = λ C m g h o n k. fit_pass_on m g h o n k;
+    sends_away = λ C act x y g verb args k h o n l. sent_by Names V (λ D e. fit_tell e) (λ m. refs.deliver Names m h n) act x y g verb args k (λ id a. a ≡ answer_of h id) h (message_called h (got_vat V C h o))
+        (λ id a q i. fit_deliver _ i h (record { at = λ s c. o.at s c.0 }) n (record { at = λ s c. l.at s c.0 }) (ap Some q));
+    lone_away = λ C act x y g verb args k h o n l. sent_only_by Names V (λ D e. fit_tell e) (λ m. refs.deliver Names m h n) act x y g verb args k (single.lones C) (λ id i. fit_deliver _ i h (record { at = λ s c. o.at s c.0 }) n (record { at = λ s c. l.at s c.0 }) refl);
     informs = λ C p g w y k z l. fit_inform p g w y k z l;
-    asks = λ C to p i n g k. fit_out to (Ask p i n) tt (note_ask V C p i n (record { at = λ s c. g.at s c }) k) (goes_ask V C to p i n);
-    opens = λ C to i n g k. fit_out to (Open i n) tt (note_open V C i n g k) (goes_open V C to i n);
   }

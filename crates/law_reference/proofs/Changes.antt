@@ -1,6 +1,6 @@
 -- The changes of what is known that are kept, and what each leaves.
-use Rattle.std.proofs.Common.{◌≡◌, ℕ, suc, Bool, true, false, List, [], ◌∷◌, ◌++◌, Option, Some, None, refl, sym, ap, subst, ◌∙◌, ◌⊎◌, inl, inr, length, arith}
-use Rattle.def_machine.specs.Values.{Value, Null, Flag, Number, Letter, Text, Prim, Broken, Items, Ref, Name, Root, Object, Promise, Answer, Gift, Sent, Naming, Spot, Own, Foreign, NoObject, naming, host_of, spot_of, answer_of, word_of}
+use Rattle.std.proofs.Common.{◌≡◌, ℕ, suc, Bool, true, false, List, [], ◌∷◌, ◌++◌, Option, Some, None, refl, sym, ap, subst, ◌∙◌, ◌⊎◌, inl, inr, length}
+use Rattle.def_machine.specs.Values.{Words, Value, Null, Flag, Number, Letter, Text, Prim, Broken, Items, Ref, Name, Root, Object, Promise, Answer, Gift, Sent, Naming, Spot, Own, Foreign, NoObject, naming, host_of, spot_of, answer_of, word_of}
 use Rattle.def_machine.specs.State.{Message, Note, Put, GiftEntry, Standing, Unsettled, WaitsOn, Viewed, Settled, Known, Change, Hold, Wait, WaitOn, React, ToTell, Settle, Waits, Vat, ◌>>◌, and_then, tell, alter, enqueue, send_out, with_change, changed, changed_to, begun, is_in}
 use Rattle.def_machine.specs.Refs as refs
 use Rattle.def_machine.specs.Refs.{entry_of, standing_of, standing_in, host_at, host_in, follow_at, follow, severed, severed_at, severed_by, cut_cycle, target_of}
@@ -267,39 +267,29 @@ module _ (word : ℕ → ℕ) (v : ℕ) (heed : Bool) (D : ℕ → Type 0) (Seen
   no_promise_end : (s : Vat Name) (x : Value Name) → Kept word v heed D Seen s → NoPromise x → IsEnd N s x
   no_promise_end s x r not n e = end_at s n (entry_of N s.known n) r (λ i. not n e i) refl
 
-  cut_ref : (b : Bool) (k : ℕ) (n : Name) → cut_cycle N b (Items k) ≡ Ref n → Items k ≡ Ref n
+  cut_same : (b : Bool) (y z : Value Name) → ((t : Words) → z ≡ Broken t → ⊥) → cut_cycle N b y ≡ z → y ≡ z
   unfolding cut_cycle
-  cut_ref true k n e = cc
-  cut_ref false k n e = e
+  cut_same true y z f e = absurd (f _ (sym e))
+  cut_same false y z f e = e
+
+  -- what is cut is broken
+  target_same : (s : Vat Name) (p : Name) (x z : Value Name) → ((t : Words) → z ≡ Broken t → ⊥) → target_of N s p x ≡ z → x ≡ z
+  unfolding target_of
+  target_same s p (Items k) z f e = cut_same _ (Items k) z f e
+  target_same s p Null z f e = e
+  target_same s p (Flag b) z f e = e
+  target_same s p (Number y) z f e = e
+  target_same s p (Letter c) z f e = e
+  target_same s p (Text t) z f e = e
+  target_same s p (Prim i) z f e = e
+  target_same s p (Broken t) z f e = e
+  target_same s p (Ref m) z f e = e
 
   pub target_ref : (s : Vat Name) (p : Name) (x : Value Name) (n : Name) → target_of N s p x ≡ Ref n → x ≡ Ref n
-  unfolding target_of
-  target_ref s p (Items k) n e = cut_ref _ k n e
-  target_ref s p Null n e = e
-  target_ref s p (Flag b) n e = e
-  target_ref s p (Number z) n e = e
-  target_ref s p (Letter c) n e = e
-  target_ref s p (Text t) n e = e
-  target_ref s p (Prim i) n e = e
-  target_ref s p (Broken t) n e = e
-  target_ref s p (Ref m) n e = e
-
-  cut_list : (b : Bool) (k c : ℕ) → cut_cycle N b (Items k) ≡ Items c → ◌≡◌ {A = Value Name} (Items k) (Items c)
-  unfolding cut_cycle
-  cut_list true k c e = cc
-  cut_list false k c e = e
+  target_ref s p x n e = target_same s p x (Ref n) (λ t i. cc) e
 
   pub target_list : (s : Vat Name) (p : Name) (x : Value Name) (c : ℕ) → target_of N s p x ≡ Items c → x ≡ Items c
-  unfolding target_of
-  target_list s p (Items k) c e = cut_list _ k c e
-  target_list s p Null c e = e
-  target_list s p (Flag b) c e = e
-  target_list s p (Number z) c e = e
-  target_list s p (Letter l) c e = e
-  target_list s p (Text t) c e = e
-  target_list s p (Prim i) c e = e
-  target_list s p (Broken t) c e = e
-  target_list s p (Ref m) c e = e
+  target_list s p x c e = target_same s p x (Items c) (λ t i. cc) e
 
   spot_none : (n : Name) → IsEventual n → N.spot n ≡ NoObject
   unfolding naming spot_of

@@ -30,6 +30,7 @@ use Rattle.law_reference.proofs.NameTableSteps.{steps_know_once}
 use Rattle.law_reference.proofs.Moves.{Does}
 use Rattle.law_reference.proofs.FollowRuns.{after_gives}
 use Rattle.law_reference.proofs.Follow.{eq_dec}
+use Rattle.law_reference.proofs.Onward.{once_least, once_most}
 use Rattle.law_reference.proofs.Fresh.{is_made, not_made, made_or}
 
 true_false : true ≡ false → ⊥
@@ -70,16 +71,6 @@ unfolding places
 world_one x w h = let k = h.kept in let f = h.fresh in let one = numbered_once x 0 w.vats in omega arith
 
 -- ---- numbers
-
-once_least : (b : Bool) → same_once b ≤ once b
-unfolding once same_once
-once_least true = omega arith
-once_least false = omega arith
-
-once_most : (b : Bool) → once b ≤ same_once b
-unfolding once same_once
-once_most true = omega arith
-once_most false = omega arith
 
 least_one : (b : Bool) → same_once b ≤ 1
 unfolding same_once

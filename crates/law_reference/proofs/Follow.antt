@@ -2,66 +2,19 @@
 use Rattle.std.proofs.Common.{◌≡◌, ℕ, zero, suc, Bool, true, false, List, [], ◌∷◌, Option, Some, refl, sym, ap, ◌∙◌, ◌⊎◌, inl, inr, ◌==◌, arith, subst}
 use Rattle.std.specs.Prelude.{slice_get}
 use Rattle.std.proofs.lemmas.Bool.{eqb-true, eq-eqb}
-use Rattle.def_machine.specs.Values.{Value, Null, Flag, Number, Letter, Text, Prim, Broken, Items, Ref, Name, Root, Object, Promise, Answer, Gift, Sent, Msg, host_of}
-use Rattle.def_machine.specs.State.{Passed, Passeds, Plain, AGift, Many, NoMore, More, Note, Deliver, Open, Ask, SettledTo, Elsewhere, Shorten, Put, Vat}
+use Rattle.def_machine.specs.Values.{Name, Root, Object, Promise, Answer, Gift, Sent, Msg}
+use Rattle.def_machine.specs.State.{Note, Put, Vat}
 use Rattle.def_run.specs.World.{Link, put_at, push_all, pushed}
-use Rattle.law_name.specs.Names.{Bit, Named, Mail, Drew, At, Off, Entered, Owns, Gave, AllOf, IsAmong, IsKnownIn, IsEventual, ValueOk, PassedOk, PassedsOk, NoteOk, names_in}
+use Rattle.law_name.specs.Names.{Bit, Named, Mail, Drew, At, Off, Entered, Owns, Gave, AllOf, IsAmong, IsKnownIn, NoteOk, names_in}
 use Rattle.law_name.proofs.Facts.{all_map, note_up}
 use Rattle.law_name.proofs.Among.{get_put}
-use Rattle.law_reference.specs.Notes.{IsBetween, IsOfEither, PassesBetween, AllPassBetween, Carries}
-use Rattle.law_reference.specs.Behind.{Avoids, NamesNot, IsKnownTo as KnowsIn}
+use Rattle.law_reference.specs.Behind.{IsKnownTo as KnowsIn}
 use Rattle.law_reference.proofs.First.{PutsFirst, among_dec}
+use Rattle.law_reference.proofs.Unnamed.{all_not}
 use Rattle.law_reference.proofs.AnswerLinks.{AtLink, push_keeps, push_others, push_of, pushed_all, CutOrFirst, pushed_more, push_first}
 
 true_false : true ≡ false → ⊥
 true_false e = cc
-
--- ---- a name of a third vat
-
-module _ (g : ℕ) (m : Msg) where
-  abbrev X : Name
-  X = Answer g m
-
-  other_host : (n : Name) (u : ℕ) → host_of n ≡ u → (g ≡ u → ⊥) → n ≡ X → ⊥
-  unfolding host_of
-  other_host n u h f e = f (sym (ap host_of e) ∙ h)
-
-  is_eventual : (n : Name) → n ≡ X → IsEventual n
-  is_eventual n e = rw e tt
-
-  module _ (a b : ℕ) (not_a : g ≡ a → ⊥) (not_b : g ≡ b → ⊥) where
-    either_host : (n : Name) → (host_of n ≡ a) ⊎ (host_of n ≡ b) → n ≡ X → ⊥
-    either_host n (inl h) e = other_host n a h not_a e
-    either_host n (inr h) e = other_host n b h not_b e
-
-    value_not : (y : Value Name) → IsOfEither a b y → ValueOk (Avoids X) y
-    value_not (Ref n) h = either_host n h
-    value_not Null h = tt
-    value_not (Flag c) h = tt
-    value_not (Number z) h = tt
-    value_not (Letter c) h = tt
-    value_not (Text t) h = tt
-    value_not (Prim i) h = tt
-    value_not (Broken t) h = tt
-    value_not (Items k) h = tt
-
-    mutual
-      passed_not : (y : Passed Name) → PassesBetween a b y → PassedOk (Avoids X) y
-      passed_not (Plain y) h = value_not y h
-      passed_not (AGift c i) h = (tt, tt)
-      passed_not (Many ys) h = passeds_not ys h
-
-      passeds_not : (ys : Passeds Name) → AllPassBetween a b ys → PassedsOk (Avoids X) ys
-      passeds_not NoMore h = tt
-      passeds_not (More y ys) h = (passed_not y h.0, passeds_not ys h.1)
-
-    pub third_not : (n : Note Name) → IsBetween a b n → Carries a b n → NamesNot X n
-    third_not (Deliver id n verb ys) h k = (tt, other_host n b h not_b, passeds_not ys k.0)
-    third_not (Open i n) h k = (tt, other_host n b h not_b)
-    third_not (Ask p i n) h k = (tt, other_host n b h not_b)
-    third_not (SettledTo n y) h k = (other_host n a h not_a, passed_not y k)
-    third_not (Elsewhere n c) h k = (other_host n a h not_a, tt)
-    third_not (Shorten n c i) h k = ((λ e. other_host n b (h (is_eventual n e)) not_b e), tt)
 
 -- ---- one vat of a world goes on
 
@@ -116,20 +69,6 @@ knows_up s t f (Entered y) h = tt
 knows_up s t f (Owns y j) h = tt
 knows_up s t f (Gave j) h = tt
 
--- what is not known is not named
-pub knows_not : (g : ℕ) (m : Msg) (s : Vat Name) → (IsAmong (Answer g m) (names_in s.known) → ⊥) → (b : Bit Name) → KnowsIn s b → Avoids (Answer g m) b
-knows_not g m s f (Named n) h = λ e. let known : IsKnownIn (names_in s.known) (Answer g m) = rw e at h in f known
-knows_not g m s f (Mail n) h = tt
-knows_not g m s f (Drew i) h = tt
-knows_not g m s f (At w) h = tt
-knows_not g m s f (Off w) h = tt
-knows_not g m s f (Entered y) h = tt
-knows_not g m s f (Owns y j) h = tt
-knows_not g m s f (Gave j) h = tt
-
-pub all_not : (g : ℕ) (m : Msg) (s : Vat Name) → (IsAmong (Answer g m) (names_in s.known) → ⊥) → (ns : List (Note Name)) → AllOf (NoteOk (KnowsIn s)) ns → AllOf (NamesNot (Answer g m)) ns
-all_not g m s f ns h = all_map (λ n k. note_up (KnowsIn s) (Avoids (Answer g m)) (knows_not g m s f) n k) ns h
-
 some_same : (s t : Vat Name) → ◌≡◌ {A = Option (Vat Name)} (Some s) (Some t) → s ≡ t
 some_same s t e = cc
 
@@ -160,7 +99,7 @@ module _ (vs : List (Vat Name)) (v : ℕ) (s t : Vat Name) (there : slice_get vs
 
     new_followed : PutsFirst g m t.outbox → IsAmong It (names_in s.known) ⊎ (IsAmong It (names_in s.known) → ⊥) → AtLink v g (Followed g m q) (push_all v t.outbox ls)
     new_followed p (inl a) = old_followed a
-    new_followed p (inr f) = λ l e. inr (push_first g m v t.outbox ls p (λ k i. all_not g m s f k.notes (known v g s there k i)) l e)
+    new_followed p (inr f) = λ l e. inr (push_first m (Answer g m) g v t.outbox ls p (λ k i. all_not (Answer g m) s f k.notes (known v g s there k i)) l e)
 
     by_first : (IsAmong It (names_in s.known) ⊎ PutsFirst g m t.outbox) ⊎ IsAmong It (names_in q.known) → AtLink v g (Followed g m q) (push_all v t.outbox ls)
     by_first (inl (inl a)) = old_followed a

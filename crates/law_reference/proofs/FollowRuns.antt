@@ -17,12 +17,13 @@ use Rattle.law_reference.proofs.Gentle.{AfterGives}
 use Rattle.law_reference.proofs.LinksCut.{fits_notes, fits_severed}
 use Rattle.law_reference.proofs.NotesRuns.{OfNotes, opened_all, stepped_all, links_of}
 use Rattle.law_reference.proofs.NotesLift as lift
-use Rattle.law_reference.specs.Behind.{Avoids, NamesNot, Bears, ComesFirst, IsKnownTo as KnowsIn, AnswersFollowMessages, NotesNameWhatIsKnown}
+use Rattle.law_reference.specs.Behind.{NamesNot, Bears, ComesFirst, IsKnownTo as KnowsIn, AnswersFollowMessages, NotesNameWhatIsKnown}
 use Rattle.law_reference.proofs.First.{PutsFirst, among_dec}
 use Rattle.law_reference.proofs.AnswerLinks.{AtLink, with_any}
 use Rattle.law_reference.proofs.Moves.{Moved, Still, Severs, Drops, Steps, Arrives, Does, opened_hold, stepped_hold}
 use Rattle.law_reference.proofs.Arrived.{Stays, steps_stay, arrived}
-use Rattle.law_reference.proofs.Follow.{third_not, put_cases, eq_dec, AllKnown, NotesKnown, Followed, Follow, knows_not, goes_known, goes_follow}
+use Rattle.law_reference.proofs.Follow.{put_cases, eq_dec, AllKnown, NotesKnown, Followed, Follow, goes_known, goes_follow}
+use Rattle.law_reference.proofs.Unnamed.{third_answer, not_named}
 
 -- the state after is the one that is given
 pub after_gives : (R : Vat Name → Vat Name → Type 0) (s t : Vat Name) (d : Done Name (Unit {0})) → After R s d → d ≡ Gives tt t → R s t
@@ -40,6 +41,33 @@ same_link a b c d ls l k e f i j = let one : link_at c d ls ≡ Some l = rw (i, 
 
 pub tail_of : (P : Note Name → Type 0) (l k : Link) (n : Note Name) (ns : List (Note Name)) → AllOf P l.notes → l ≡ k → k.notes ≡ n ∷ ns → P n × AllOf P ns
 tail_of P l k n ns h e f = let one : AllOf P k.notes = rw e at h in rw f at one
+
+-- a name that is no root is known to no vat at the start
+module _ (script : Script) (X : Name) (other : (x : ℕ) → X ≡ Root x → ⊥) where
+  no_root : (ws : List ℕ) → IsAmong X (names_in (map world.known_root ws)) → ⊥
+  unfolding world.known_root begun
+  no_root [] h = h
+  no_root (w ∷ ws) (inl e) = other w e
+  no_root (w ∷ ws) (inr h) = no_root ws h
+
+  pub not_at_first : (v : ℕ) (ps : List Program) (n : ℕ) (s : Vat Name) → slice_get (world.fresh_from script v ps) n ≡ Some s → IsAmong X (names_in s.known) → ⊥
+  unfolding world.fresh_from world.fresh world.known_root begun
+  not_at_first v [] n s e a = absurd (nobody e)
+    where
+      nobody : {r : Vat Name} → ◌≡◌ {A = Option (Vat Name)} None (Some r) → ⊥
+      nobody e = cc
+  not_at_first v (p ∷ ps) zero s e a = of_one (some_is (world.fresh script v p) s e) a
+    where
+      some_is : (x y : Vat Name) → ◌≡◌ {A = Option (Vat Name)} (Some x) (Some y) → x ≡ y
+      some_is x y e = cc
+
+      here : IsAmong X (names_in (world.fresh script v p).known) → ⊥
+      here (inl e) = other v e
+      here (inr h) = no_root p.knows h
+
+      of_one : world.fresh script v p ≡ s → IsAmong X (names_in s.known) → ⊥
+      of_one e h = here (rw (sym e) at h)
+  not_at_first v (p ∷ ps) (suc n) s e a = not_at_first (suc v) ps n s e a
 
 module _ (script : Script) where
   -- how names stand, and what notes name
@@ -168,11 +196,11 @@ module _ (script : Script) where
       by_known : g ≡ a → IsAmong (Answer g m) (names_in q.known) ⊎ (IsAmong (Answer g m) (names_in q.known) → ⊥) → (IsAmong (Answer g m) (names_in s.known) ⊎ PutsFirst g m t.outbox) ⊎ IsAmong (Answer g m) (names_in q.known)
       by_known i (inl k) = inr k
       by_known i (inr f) = let there : slice_get w.vats a ≡ Some q = sym (ap (λ z. slice_get w.vats z) i) ∙ old (put_cases v t w.vats g q e) in
-          inl (first g m abroad (note_up (KnowsIn q) (Avoids (Answer g m)) (knows_not g m q f) n (tail_of (NoteOk (KnowsIn q)) l l n ns (known a v q there l at) refl notes).0) h)
+          inl (first g m abroad (not_named (Answer g m) q f n (tail_of (NoteOk (KnowsIn q)) l l n ns (known a v q there l at) refl notes).0) h)
 
       by_host : (g ≡ a) ⊎ (g ≡ a → ⊥) → (IsAmong (Answer g m) (names_in s.known) ⊎ PutsFirst g m t.outbox) ⊎ IsAmong (Answer g m) (names_in q.known)
       by_host (inl i) = by_known i (among_dec (Answer g m) (names_in q.known))
-      by_host (inr f) = inl (first g m abroad (third_not g m a v f abroad n of_note.0 of_note.1) h)
+      by_host (inr f) = inl (first g m abroad (third_answer g m a v f abroad n of_note.0 of_note.1) h)
 
   -- ---- the moves
 
@@ -210,33 +238,11 @@ module _ (script : Script) where
       empty : (o : Option Link) → o ≡ Some l → MayBe (lift.At (λ v u n. ⊥) a b) o → AllKnown s l
       empty o i k = let none : AllOf (λ (n : Note Name). ⊥) l.notes = rw i at k in all_map (λ n x. absurd x) l.notes none
 
-  no_answer : (g : ℕ) (m : Msg) (ws : List ℕ) → IsAmong (Answer g m) (names_in (map world.known_root ws)) → ⊥
-  unfolding world.known_root begun
-  no_answer g m [] h = h
-  no_answer g m (w ∷ ws) (inl e) = cc
-  no_answer g m (w ∷ ws) (inr h) = no_answer g m ws h
+  not_root : (g : ℕ) (m : Msg) (x : ℕ) → Answer g m ≡ Root x → ⊥
+  not_root g m x e = cc
 
   pub fresh_none : (g : ℕ) (m : Msg) (v : ℕ) (ps : List Program) (n : ℕ) (s : Vat Name) → slice_get (world.fresh_from script v ps) n ≡ Some s → IsAmong (Answer g m) (names_in s.known) → ⊥
-  unfolding world.fresh_from world.fresh world.known_root begun
-  fresh_none g m v [] n s e a = absurd (nobody e)
-    where
-      nobody : {r : Vat Name} → ◌≡◌ {A = Option (Vat Name)} None (Some r) → ⊥
-      nobody e = cc
-  fresh_none g m v (p ∷ ps) zero s e a = of_one (some_is (world.fresh script v p) s e) a
-    where
-      some_is : (x y : Vat Name) → ◌≡◌ {A = Option (Vat Name)} (Some x) (Some y) → x ≡ y
-      some_is x y e = cc
-
-      own : (x : ℕ) → Answer g m ≡ Root x → ⊥
-      own x e = cc
-
-      here : IsAmong (Answer g m) (names_in (world.fresh script v p).known) → ⊥
-      here (inl e) = own v e
-      here (inr h) = no_answer g m p.knows h
-
-      of_one : world.fresh script v p ≡ s → IsAmong (Answer g m) (names_in s.known) → ⊥
-      of_one e h = here (rw (sym e) at h)
-  fresh_none g m v (p ∷ ps) (suc n) s e a = fresh_none g m (suc v) ps n s e a
+  fresh_none g m v ps n s e a = not_at_first script (Answer g m) (λ x i. not_root g m x i) v ps n s e a
 
   pub begins_holds : Holds (world.begins script)
   unfolding world.begins

@@ -1,12 +1,10 @@
 -- A message that a vat makes in a turn and that goes to a promise of another vat has no answer at its own vat: a care for names, and for what the message weighs.
-use Rattle.std.proofs.Common.{◌≡◌, ℕ, zero, suc, ◌-◌, ◌≤◌, ◌<◌, Bool, true, false, List, [], ◌∷◌, ◌++◌, Some, refl, sym, ap, ◌∙◌, ◌⊎◌, inl, inr, arith, leb-true, Option, None}
+use Rattle.std.proofs.Common.{◌≡◌, ℕ, zero, suc, ◌≤◌, ◌<◌, Bool, true, false, List, [], ◌∷◌, ◌++◌, Some, refl, sym, ap, ◌∙◌, ◌⊎◌, inl, inr, arith, leb-true, Option, None}
 use Rattle.std.specs.Prelude.{slice_get, nat_le, ◌==◌}
 use Rattle.std.proofs.lemmas.Bool.{eqb-true, eq-eqb, le-leb}
 use Rattle.def_machine.specs.Values.{Words, Value, Broken, Name, Answer, Promise, Sent, Msg, Naming, naming, name_of, mail_of, answer_of, host_of, same_name}
-use Rattle.def_machine.specs.State.{Message, Took, Sends, Reacts, Happened, Thing, Cell, Vat, change, dead, holding, Done, Gives, Throws, Ejects, Stops, Act, ◌>>=◌, ◌>>◌, and_then, give, look, tell, enqueue, alter, new_message, new_promise, begun, Known, new_lone_message}
+use Rattle.def_machine.specs.State.{Message, Sends, Reacts, Happened, Vat, Done, Gives, Throws, Ejects, Stops, ◌>>=◌, ◌>>◌, and_then, give, look, tell, enqueue, alter, new_message, new_promise, begun, Known, new_lone_message}
 use Rattle.def_machine.specs.Refs as refs
-use Rattle.def_machine.specs.Eval as eval
-use Rattle.def_kernel.specs.declared.node.Node.{Node}
 use Rattle.def_machine.specs.Refs.{Place, Near, Mine, Away, Gone}
 use Rattle.law_machine.specs.Steps.{After}
 use Rattle.law_machine.proofs.Keeps.{Keeps}
@@ -25,15 +23,16 @@ use Rattle.law_reference.specs.Knowing.{once, one, claims, numbered, numbered_at
 use Rattle.law_reference.proofs.Claims.{claims_end}
 use Rattle.law_reference.proofs.Costs.{free, spared}
 use Rattle.law_reference.proofs.RefsCosts as table
-use Rattle.law_reference.proofs.RefsCosts.{free_pass, away_abroad}
+use Rattle.law_reference.proofs.RefsCosts.{free_pass}
+use Rattle.law_reference.proofs.Abroad.{away_abroad}
 use Rattle.law_name.specs.Names.{At, ValueOk, ValuesOk}
-use Rattle.law_name.proofs.Facts.{PlaceOk, Fact, Also, IsVat, IsValue, AreValues, IsMessage, IsPlace, new_names, nothing, Holds, Nothing, IsMail}
-use Rattle.law_name.proofs.Care.{Care, Under, Makes, Sound, Ends, Gets, Fine, rise, fine_bind, fine_give, bind_number, fine_activation, then_unit, fine_tell, fine_new_message, fine_promise, fine_lone_message}
+use Rattle.law_name.proofs.Facts.{PlaceOk, Fact, Also, IsVat, IsValue, AreValues, IsMessage, IsPlace, new_names, nothing, Nothing, IsMail}
+use Rattle.law_name.proofs.Care.{Care, Under, Makes, Sound, Ends, Gets, Fine, rise, fine_bind, fine_give, then_unit, fine_tell, fine_new_message, fine_promise, fine_lone_message}
 use Rattle.law_name.proofs.CareRefs.{fine_settle, fine_resolve, fine_send, fine_react, fine_send_first, fine_send_only}
 use Rattle.law_name.proofs.Looks.{follow_ok, place_ok}
 use Rattle.law_name.proofs.Serves.{Serves}
-use Rattle.law_name.proofs.CareEval.{fine_turn}
 use Rattle.law_name.proofs.Tracked.{Marked, tracked, tracked_under, tracked_makes}
+use Rattle.law_reference.proofs.CareMore.{Leaves, KeptQuiet, More, lift_of}
 use Rattle.law_reference.proofs.Follow.{eq_dec}
 
 true_false : true ≡ false → ⊥
@@ -119,79 +118,12 @@ module _ (v : ℕ) (m : Msg) (mine : m.sender ≡ v) where
     Kept s = Weighed v s × One s
 
     -- what the message weighs is in none of these
-    pub kept_fuel : (s : Vat Name) (n : ℕ) → Kept s → Kept (record s { fuel = s.fuel - n })
+    pub quiet : KeptQuiet Kept
     unfolding load
-    kept_fuel s n k = k
-
-    pub kept_told : (s : Vat Name) (e : Happened Name) → Kept s → Kept (record s { happened = s.happened ++ e ∷ [] })
-    unfolding load
-    kept_told s e k = k
-
-    pub kept_activations : (s : Vat Name) → Kept s → Kept (record s { activations = suc s.activations })
-    unfolding load
-    kept_activations s k = k
-
-    pub kept_thing : (s : Vat Name) (z : Thing Name) → Kept s → Kept (record s { things = s.things ++ z ∷ [] })
-    unfolding load
-    kept_thing s z k = k
-
-    pub kept_killed : (s : Vat Name) (n : ℕ) → Kept s → Kept (record s { things = change dead n s.things })
-    unfolding load
-    kept_killed s n k = k
-
-    pub kept_slot : (s : Vat Name) (c : Cell Name) → Kept s → Kept (record s { slots = s.slots ++ c ∷ [] })
-    unfolding load
-    kept_slot s c k = k
-
-    pub kept_written : (s : Vat Name) (n : ℕ) (y : Value Name) → Kept s → Kept (record s { slots = change (holding y) n s.slots })
-    unfolding load
-    kept_written s n y k = k
-
-    pub kept_list : (s : Vat Name) (ys : List (Value Name)) → Kept s → Kept (record s { lists = s.lists ++ ys ∷ [] })
-    unfolding load
-    kept_list s ys k = k
+    quiet = record { fuel = λ s n k. k; told = λ s e k. k; activations = λ s k. k; thing = λ s z k. k; killed = λ s n k. k; slot = λ s c k. k; written = λ s n y k. k; list = λ s ys k. k }
 
     abbrev pub Z : Care Name
-    Z = record {
-      ok = T.ok;
-      more = λ s. T.more s × Kept s;
-      rel = T.rel;
-      same = T.same;
-      trans = T.trans;
-      up = T.up;
-      here = λ s k. T.here s k.0;
-      near = T.near;
-      entered = T.entered;
-      owned = T.owned;
-      owner = T.owner;
-      drew = T.drew;
-      fuel = λ s n. let r = T.fuel s n in (r.0, λ k. (r.1 k.0, kept_fuel s n k.1));
-      told = λ s e n. let r = T.told s e n in (r.0, λ k. (r.1 k.0, kept_told s e k.1));
-      activations = λ s. let r = T.activations s in (r.0, λ k. (r.1 k.0, kept_activations s k.1));
-      thing = λ s z. let r = T.thing s z in (r.0, λ k. (r.1 k.0, kept_thing s z k.1));
-      killed = λ s n. let r = T.killed s n in (r.0, λ k. (r.1 k.0, kept_killed s n k.1));
-      slot = λ s c. let r = T.slot s c in (r.0, λ k. (r.1 k.0, kept_slot s c k.1));
-      written = λ s n y. let r = T.written s n y in (r.0, λ k. (r.1 k.0, kept_written s n y k.1));
-      list = λ s ys. let r = T.list s ys in (r.0, λ k. (r.1 k.0, kept_list s ys k.1));
-    }
-
-    abbrev pub Leaves : {A : Type 0} → Done Name A → Type 0
-    Leaves (Gives a t) = Kept t
-    Leaves (Throws p t) = Kept t
-    Leaves (Ejects n y t) = Kept t
-    Leaves (Stops c t) = Unit {0}
-
-    joined : {A : Type 0} (G : A → Fact Name) (s : Vat Name) (d : Done Name A) → Ends T G s d → Leaves d → Ends Z G s d
-    joined G s (Gives a t) h l = (h.0, record { parts = h.1.parts; more = (h.1.more, l) }, h.2)
-    joined G s (Throws p t) h l = (h.0, record { parts = h.1.parts; more = (h.1.more, l) })
-    joined G s (Ejects n y t) h l = (h.0, record { parts = h.1.parts; more = (h.1.more, l) }, h.2)
-    joined G s (Stops c t) h l = tt
-
-    name_sound : (s : Vat Name) → Sound Z s → Sound T s
-    name_sound s h = let k = h.more in record { parts = h.parts; more = k.0 }
-
-    lift_of : {A : Type 0} {C : Fact Name} {a : Act Name A} {G : A → Fact Name} → Fine T C a G → ((s : Vat Name) → Sound T s → Holds (T.ok s) C → Kept s → Leaves (a s)) → Fine Z C a G
-    lift_of {a = a} {G = G} f l = record { after = λ s h c. let k = h.more in joined G s (a s) (f.after s (name_sound s h) c) (l s (name_sound s h) c k.1) }
+    Z = More T Kept quiet
 
     gets_names : {C G : Fact Name} → Gets Z C G → Gets T C G
     gets_names k = record { at = k.at }
@@ -203,7 +135,7 @@ module _ (v : ℕ) (m : Msg) (mine : m.sender ≡ v) where
     none_sound s h = record { parts = h.parts; more = h.more }
 
     -- where no message is made all goes on
-    none_made : {A : Type 0} (G : A → Fact Name) (s : Vat Name) (d : Done Name A) → Ends F G s d → LightAt v Id 0 s d → After (Knowing v X 0) s d → After (Accounted (λ u. false) v Id 0) s d → Kept s → Leaves d
+    none_made : {A : Type 0} (G : A → Fact Name) (s : Vat Name) (d : Done Name A) → Ends F G s d → LightAt v Id 0 s d → After (Knowing v X 0) s d → After (Accounted (λ u. false) v Id 0) s d → Kept s → Leaves Kept d
     none_made G s (Gives a t) f l k c o = let r = f.0 in let e : s.messages ≡ t.messages = r.messages in let w = o.0 in
         (l.sound, one_on 0 s t w.same (same_sames s t (ap (λ n. nat_le (suc m.number) n) e)) (λ i. rw e i) (λ i. rw e i) l k c o.1)
     none_made G s (Throws p t) f l k c o = absurd l
@@ -212,7 +144,7 @@ module _ (v : ℕ) (m : Msg) (mine : m.sender ≡ v) where
 
     -- ---- a new promise
 
-    promised : (s : Vat Name) → Kept s → Leaves (new_promise Names s)
+    promised : (s : Vat Name) → Kept s → Leaves Kept (new_promise Names s)
     unfolding new_promise naming name_of host_of begun load one same_name once
     promised s o = let w = o.0 in let n : Name = Promise v s.promises in let c = claims_end v X s.known n s.number in let l = held_end Id s.known n s.number in
         (come_sound v Id Names global s n s.number tt w.same w, ((λ i. either (o.1.0 i)), (λ i. let old = o.1.1 i in let x = old.0 in let y = old.1 in (omega arith, omega arith))))
@@ -236,7 +168,7 @@ module _ (v : ℕ) (m : Msg) (mine : m.sender ≡ v) where
 
     -- where it is another message
     other_made : {A : Type 0} (c : ℕ) (s : Vat Name) (d : Done Name A) → (m.number ≡ s.messages → ⊥) → Kept s → LightAt v Id 0 s d → After (Knowing v X 0) s d → After (Accounted (λ u. false) v Id c) s d
-        → ((a : A) (t : Vat Name) → d ≡ Gives a t → t.messages ≡ suc s.messages) → Leaves d
+        → ((a : A) (t : Vat Name) → d ≡ Gives a t → t.messages ≡ suc s.messages) → Leaves Kept d
     other_made c s (Gives a t) f o l k r e = let w = o.0 in let g = e a t refl in
         (l.sound, one_on c s t w.same (same_sames s t (count_same (made_or m.number s.messages))) (λ i. down i (made_or m.number s.messages)) (λ i. omega arith) l k r o.1)
       where
@@ -279,7 +211,7 @@ module _ (v : ℕ) (m : Msg) (mine : m.sender ≡ v) where
       empty = let old = o.1.1 (omega arith) in let x = old.0 in let l = load_after s ks e held in (omega arith, old.1)
 
       -- it goes out: its answer here is not known
-      goes_away : (c : ℕ) (y : Value Name) (d : Done Name (Unit {0})) → claims v X S2.known ≤ 0 → Ends F nothing S2 d → LightAt v Id c S2 d → After (Knowing v X 0) S2 d → Leaves (and_then d (λ u. give y))
+      goes_away : (c : ℕ) (y : Value Name) (d : Done Name (Unit {0})) → claims v X S2.known ≤ 0 → Ends F nothing S2 d → LightAt v Id c S2 d → After (Knowing v X 0) S2 d → Leaves Kept (and_then d (λ u. give y))
       unfolding and_then give
       goes_away c y (Gives u t) none f l k = let w = o.0 in let r = f.0 in let g : S2.messages ≡ t.messages = r.messages in let same = same_sames S2 t (ap (λ n. nat_le (suc m.number) n) g) in let i = k.kept w.same in let j = same.1 in
           (l.sound, ((λ x. inr (omega arith)), (λ x. absurd (omega arith))))
@@ -288,7 +220,7 @@ module _ (v : ℕ) (m : Msg) (mine : m.sender ≡ v) where
       goes_away c y (Stops z t) none f l k = tt
 
       -- it stays: it weighs one at most
-      stays_here : (c : ℕ) (b : ℕ) (y : Value Name) (d : Done Name (Unit {0})) → c ≤ 1 → Ends F nothing S2 d → LightAt v Id c S2 d → After (Accounted (λ u. false) v Id b) S2 d → Leaves (and_then d (λ u. give y))
+      stays_here : (c : ℕ) (b : ℕ) (y : Value Name) (d : Done Name (Unit {0})) → c ≤ 1 → Ends F nothing S2 d → LightAt v Id c S2 d → After (Accounted (λ u. false) v Id b) S2 d → Leaves Kept (and_then d (λ u. give y))
       unfolding and_then give
       stays_here c b y (Gives u t) i f l a = let r = f.0 in let g : S2.messages ≡ t.messages = r.messages in let same = same_sames S2 t (ap (λ n. nat_le (suc m.number) n) g) in let j = same.0 in let k = l.kept in let n = a.fresh in let x = empty.0 in
           (l.sound, ((λ z. inl (omega arith)), (λ z. absurd (omega arith))))
@@ -396,7 +328,7 @@ module _ (v : ℕ) (m : Msg) (mine : m.sender ≡ v) where
           host_ok (Gone r) g = T.here s h.more
 
       -- by where it goes, where it is the message
-      sent_by : (p : Place Name) → refs.place Names s At_ ≡ p → Kept s → m.number ≡ s.messages → Ends F nothing (With s (refs.answer_host Names s.number p) (LineAt (refs.answer_host Names s.number p))) (First p) → (y : Value Name) → Leaves (and_then (First p) (λ u. give y))
+      sent_by : (p : Place Name) → refs.place Names s At_ ≡ p → Kept s → m.number ≡ s.messages → Ends F nothing (With s (refs.answer_host Names s.number p) (LineAt (refs.answer_host Names s.number p))) (First p) → (y : Value Name) → Leaves Kept (and_then (First p) (λ u. give y))
       unfolding refs.send_first refs.answer_host
       sent_by (Away h n o) e k new ends y = let S2 = With s h (LineAt h) in let w = k.0 in let c = claims_end v X s.known (answer_of h (Sent (record { sender = v; number = s.messages }))) h in let none = empty s (Ks s h) (LineAt h) (held_with s h) k new in let less = abroad_one h (away_abroad v word s At_ h n o w.same e) in let before = none.1 in
           goes_away s (Ks s h) (LineAt h) (held_with s h) k new (fare n Its_one) y _ (omega arith) ends
@@ -417,7 +349,7 @@ module _ (v : ℕ) (m : Msg) (mine : m.sender ≡ v) where
           no_away : {h : ℕ} {n : Name} {o : Bool} → ◌≡◌ {A = Place Name} (Gone r) (Away h n o) → ⊥
           no_away i = cc
 
-      sent_either : Sound T s → ValueOk (T.ok s) x → ValuesOk (T.ok s) args → Kept s → (m.number ≡ s.messages) ⊎ (m.number ≡ s.messages → ⊥) → Leaves (refs.send Names act x verb args s)
+      sent_either : Sound T s → ValueOk (T.ok s) x → ValuesOk (T.ok s) args → Kept s → (m.number ≡ s.messages) ⊎ (m.number ≡ s.messages → ⊥) → Leaves Kept (refs.send Names act x verb args s)
       unfolding refs.send ◌>>=◌ ◌>>◌ and_then look tell new_message naming mail_of name_of
       sent_either h g ga k (inl new) = sent_by (refs.place Names s At_) refl k new (the_ends h g ga) _
       sent_either h g ga k (inr other) = other_made 0 s (refs.send Names act x verb args s) other k ((light_send Names v global Id act x verb args).after s k.0) ((table.free_send v X word act x verb args).after s) ((account.free_send (λ u. false) v Id Names (λ n i. refl) act x verb args).after s)
@@ -447,7 +379,7 @@ module _ (v : ℕ) (m : Msg) (mine : m.sender ≡ v) where
       lone_all h g ga = let parts = h.parts in let gz = follow_ok Names (T.ok s) s parts.known x g in
           let spots = under.spots in let gp = place_ok Names (T.ok s) s (spots.placed s h.more) At_ gz in lone_ends (refs.place Names s At_) h gz gp ga
 
-      lone_by : (p : Place Name) → refs.place Names s At_ ≡ p → Kept s → m.number ≡ s.messages → Ends F nothing S4 (LoneFirst p) → (y : Value Name) → Leaves (and_then (LoneFirst p) (λ u. give y))
+      lone_by : (p : Place Name) → refs.place Names s At_ ≡ p → Kept s → m.number ≡ s.messages → Ends F nothing S4 (LoneFirst p) → (y : Value Name) → Leaves Kept (and_then (LoneFirst p) (λ u. give y))
       unfolding refs.send_first
       lone_by (Away h n o) e k new ends y = let w = k.0 in let none = empty s s.known LoneLine refl k new in
           goes_away s s.known LoneLine refl k new (fare n Its_one) y _ none.1 ends
@@ -459,16 +391,16 @@ module _ (v : ℕ) (m : Msg) (mine : m.sender ≡ v) where
       lone_by (Gone r) e k new ends y = let w = k.0 in
           stays_here s s.known LoneLine refl k new (ride (Gone r) Its_one) Its_one y _ (rides (Gone r) Its_one (its_least) (λ h n o i. cc)) ends (near_light None (Gone r) (fits_at Names v global s At_ (Gone r) e) S4 tt w) (near_account None (Gone r) S4)
 
-      lone_either : Sound T s → ValueOk (T.ok s) x → ValuesOk (T.ok s) args → Kept s → (m.number ≡ s.messages) ⊎ (m.number ≡ s.messages → ⊥) → Leaves (refs.send_only Names act x verb args s)
+      lone_either : Sound T s → ValueOk (T.ok s) x → ValuesOk (T.ok s) args → Kept s → (m.number ≡ s.messages) ⊎ (m.number ≡ s.messages → ⊥) → Leaves Kept (refs.send_only Names act x verb args s)
       unfolding refs.send_only ◌>>=◌ ◌>>◌ and_then look tell new_lone_message naming mail_of
       lone_either h g ga k (inl new) = lone_by (refs.place Names s At_) refl k new (lone_all h g ga) _
       lone_either h g ga k (inr other) = other_made 0 s (refs.send_only Names act x verb args s) other k ((light_send_only Names v global Id act x verb args).after s k.0) ((table.free_send_only v X word act x verb args).after s) ((account.free_send_only (λ u. false) v Id Names (λ n i. refl) act x verb args).after s)
           (λ a t e. messages_after s.known LoneLine _ (LoneFirst (refs.place Names s At_)) (lone_all h g ga) a t e)
 
-    lone_kept : (act : ℕ) (x : Value Name) (verb : Words) (args : List (Value Name)) (s : Vat Name) → Sound T s → ValueOk (T.ok s) x → ValuesOk (T.ok s) args → Kept s → Leaves (refs.send_only Names act x verb args s)
+    lone_kept : (act : ℕ) (x : Value Name) (verb : Words) (args : List (Value Name)) (s : Vat Name) → Sound T s → ValueOk (T.ok s) x → ValuesOk (T.ok s) args → Kept s → Leaves Kept (refs.send_only Names act x verb args s)
     lone_kept act x verb args s h g ga k = lone_either act x verb args s h g ga k (eq_dec m.number s.messages)
 
-    sent_kept : (act : ℕ) (x : Value Name) (verb : Words) (args : List (Value Name)) (s : Vat Name) → Sound T s → ValueOk (T.ok s) x → ValuesOk (T.ok s) args → Kept s → Leaves (refs.send Names act x verb args s)
+    sent_kept : (act : ℕ) (x : Value Name) (verb : Words) (args : List (Value Name)) (s : Vat Name) → Sound T s → ValueOk (T.ok s) x → ValuesOk (T.ok s) args → Kept s → Leaves Kept (refs.send Names act x verb args s)
     sent_kept act x verb args s h g ga k = sent_either act x verb args s h g ga k (eq_dec m.number s.messages)
 
     -- ---- a reaction
@@ -510,7 +442,7 @@ module _ (v : ℕ) (m : Msg) (mine : m.sender ≡ v) where
       quiet_after y (Ejects n z r) f a t e = cc
       quiet_after y (Stops c r) f a t e = cc
 
-      reacted_new : Kept s → m.number ≡ s.messages → (y : Value Name) (d : Done Name (Unit {0})) → Quiet S3 d → LightAt v Id 0 S3 d → Leaves (and_then d (λ u. give y))
+      reacted_new : Kept s → m.number ≡ s.messages → (y : Value Name) (d : Done Name (Unit {0})) → Quiet S3 d → LightAt v Id 0 S3 d → Leaves Kept (and_then d (λ u. give y))
       unfolding and_then give
       reacted_new k new y (Gives u t) f l = let i = l.kept in let none = empty s (Ks s s.number) (Reacts act x o It) (held_with s s.number) k new in let less = none.0 in let same : sent_in Id t.happened ≡ sent_in Id S3.happened = ap (λ es. sent_in Id es) f.1 in let g : t.messages ≡ suc s.messages = f.0 in
           (l.sound, ((λ j. inl (omega arith)), (λ j. absurd (omega arith))))
@@ -522,7 +454,7 @@ module _ (v : ℕ) (m : Msg) (mine : m.sender ≡ v) where
       unfolding answer_of host_of
       weighed_three w = come_sound v Id Names global s (answer_of s.number (Sent (record { sender = v; number = s.messages }))) s.number tt refl w
 
-      reacted_either : Kept s → (m.number ≡ s.messages) ⊎ (m.number ≡ s.messages → ⊥) → Leaves (refs.react Names act x o near s)
+      reacted_either : Kept s → (m.number ≡ s.messages) ⊎ (m.number ≡ s.messages → ⊥) → Leaves Kept (refs.react Names act x o near s)
       unfolding refs.react ◌>>=◌ ◌>>◌ and_then look tell new_message naming mail_of name_of
       reacted_either k (inl new) = reacted_new k new _ (refs.react_at Names It (refs.place Names S3 (refs.follow Names S3 x)) S3) (react_quiet It _ S3) ((react_light It _).after S3 (weighed_three k.0))
       reacted_either k (inr other) = other_made 0 s (refs.react Names act x o near s) other k ((light_reacts Names v global Id act x o near).after s k.0) ((table.free_reacts v X word act x o near).after s) ((account.free_react (λ u. false) v Id Names (λ n i. refl) act x o near).after s)
@@ -534,22 +466,12 @@ module _ (v : ℕ) (m : Msg) (mine : m.sender ≡ v) where
     serves = record {
       spots = record { alike = λ a b e. let spots = under.spots in spots.alike a b e; placed = λ s k n i. let spots = under.spots in spots.placed s k.0 n i };
       object = λ s i l. under.object s i l;
-      promises = λ C. lift_of (fine_promise Names T under makes) (λ s h c k. promised s k);
-      breaks = λ C p g t. lift_of (fine_settle Names T under p (record { at = λ s c. g.at s c }) (Broken t) (record { at = λ s c. tt }))
+      promises = λ C. lift_of T Kept quiet (fine_promise Names T under makes) (λ s h c k. promised s k);
+      breaks = λ C p g t. lift_of T Kept quiet (fine_settle Names T under p (record { at = λ s c. g.at s c }) (Broken t) (record { at = λ s c. tt }))
           (λ s h c k. none_made nothing s _ ((fine_settle Names F under_none {C = C} p (record { at = λ s c. g.at s c }) (Broken t) (record { at = λ s c. tt })).after s (none_sound s h) c) ((light_break Names v global Id p t).after s k.0) ((table.free_settle v X word p (Broken t)).after s) ((account.free_settle (λ u. false) v Id Names p (Broken t)).after s) k);
-      resolves = λ C p g y i. lift_of (fine_resolve Names T under p (record { at = λ s c. g.at s c }) y (gets_names i))
+      resolves = λ C p g y i. lift_of T Kept quiet (fine_resolve Names T under p (record { at = λ s c. g.at s c }) y (gets_names i))
           (λ s h c k. none_made nothing s _ ((fine_resolve Names F under_none {C = C} p (record { at = λ s c. g.at s c }) y (gets_none i)).after s (none_sound s h) c) ((light_resolve Names v global Id p y).after s k.0) ((table.free_resolve v X word p y).after s) ((account.free_resolve (λ u. false) v Id Names p y).after s) k);
-      sends = λ C act x g verb args i. lift_of (fine_send Names T under makes act x (gets_names g) verb args (gets_names i)) (λ s h c k. sent_kept act x verb args s h (g.at s c) (i.at s c) k);
-      sends_only = λ C act x g verb args i. lift_of (fine_send_only Names T under makes act x (gets_names g) verb args (gets_names i)) (λ s h c k. lone_kept act x verb args s h (g.at s c) (i.at s c) k);
-      reacts = λ C act x g o i near j. lift_of (fine_react Names T under makes act x (gets_names g) o (gets_names i) near (gets_names j)) (λ s h c k. reacted_either act x o near s k (eq_dec m.number s.messages));
+      sends = λ C act x g verb args i. lift_of T Kept quiet (fine_send Names T under makes act x (gets_names g) verb args (gets_names i)) (λ s h c k. sent_kept act x verb args s h (g.at s c) (i.at s c) k);
+      sends_only = λ C act x g verb args i. lift_of T Kept quiet (fine_send_only Names T under makes act x (gets_names g) verb args (gets_names i)) (λ s h c k. lone_kept act x verb args s h (g.at s c) (i.at s c) k);
+      reacts = λ C act x g o i near j. lift_of T Kept quiet (fine_react Names T under makes act x (gets_names g) o (gets_names i) near (gets_names j)) (λ s h c k. reacted_either act x o near s k (eq_dec m.number s.messages));
     }
-
-    -- ---- a turn
-
-    took : {C : Fact Name} (e : Happened Name) → Fine Z C (tell e) nothing
-    unfolding tell
-    took e = lift_of (fine_tell Names T under e) (λ s h c k. kept_told s e k)
-
-    pub served_taking : (tree : List Node) {C : Fact Name} (depth : ℕ) (n : Message Name) → Gets Z C (IsMessage n) → Fine Z C (eval.taking Names tree depth n) nothing
-    unfolding eval.taking
-    served_taking tree depth n g = bind_number Z (fine_activation Z) (λ a. then_unit Z (took (Took a n)) (fine_turn Names Z serves tree depth a n g))

@@ -2,10 +2,11 @@
 use Rattle.std.proofs.Common.{ℕ, suc, ◌-◌, Bool, true, false, List, [], ◌∷◌, ◌++◌, Option, Some, None, if◌then◌else◌, length}
 use Rattle.std.specs.Prelude.{nat_le}
 use Rattle.def_machine.specs.Values.{Value, Naming, Coming, Mailing, IsOwn, IsAnswer}
-use Rattle.def_machine.specs.State.{Sends, Reacts, Message, Happened, Vat, Stop, Done, Gives, Throws, Ejects, Stops, Act, ◌>>=◌, ◌>>◌, and_then, each, give, stop, look, tell, spend, spent, new_list, enqueue, Change, Hold, Wait, WaitOn, See, React, ToTell, Settle, Note, Put, GiftEntry, send_out, new_gift, with_opened, open_gift, draws, with_change, alter, come, mail, new_promise, new_message, draw, begun, new_lone_message}
+use Rattle.def_machine.specs.State.{Sends, Reacts, Message, Happened, Vat, Stop, Done, Gives, Throws, Ejects, Stops, Act, ◌>>=◌, ◌>>◌, and_then, each, for_some, give, stop, look, tell, spend, spent, new_list, enqueue, Change, Hold, Wait, WaitOn, See, React, ToTell, Settle, Note, Put, GiftEntry, send_out, new_gift, with_opened, open_gift, draws, with_change, alter, come, mail, new_promise, new_message, draw, begun, new_lone_message}
 use Rattle.law_machine.specs.Steps.{IsQuiet, After}
 use Rattle.law_machine.proofs.Walks.{Property, Holds, IsClosed, IsMild, InRefs, InRefsUnder, InSending}
 use Rattle.law_machine.proofs.Quiet.{Quiet}
+use Rattle.law_name.specs.Names.{AllOf}
 use Rattle.law_fate.proofs.Leads.{Leads, Ends}
 use Rattle.law_reference.proofs.Entries.{Mild, mild_hold, mild_wait, mild_wait_on, mild_react, mild_to_tell}
 
@@ -29,8 +30,8 @@ GentleBy {N} R A m = (s : Vat N) → GivesBy R s (m s)
 abbrev pub Gentle : {N A : Type 0} → (Vat N → Vat N → Type 0) → Act N A → Type 0
 Gentle R m = Holds (GentleBy R) m
 
--- what is to be shown of the relation: of no change, of two in a row, and of each change that settles and views nothing
-pub record IsGentle {N W : Type 0} (K : Naming N W) (R : Vat N → Vat N → Type 0) : Type 0 where
+-- what is to be shown of the relation: of no change, of two in a row, and of each change, where what is known changes so
+pub record GoesBy {N W : Type 0} (K : Naming N W) (Can : Change N → Type 0) (R : Vat N → Vat N → Type 0) : Type 0 where
   pub same : (s : Vat N) → R s s
   pub trans : {s t u : Vat N} → R s t → R t u → R s u
   pub fuel : (s : Vat N) (n : ℕ) → R s (record s { fuel = s.fuel - n })
@@ -41,14 +42,18 @@ pub record IsGentle {N W : Type 0} (K : Naming N W) (R : Vat N → Vat N → Typ
   pub gift : (s : Vat N) (g : GiftEntry N) → R s (record s { gifts = s.gifts ++ g ∷ [] })
   pub opened : (s : Vat N) (p i : ℕ) → R s (record s { gifts = with_opened p i s.gifts })
   pub drawn : (s : Vat N) (w : ℕ) → R s (record s { drawn = s.drawn ++ w ∷ [] })
-  pub altered : (s : Vat N) (c : Change N) (n : N) → Mild c → R s (record s { known = with_change K c n s.known })
+  pub altered : (s : Vat N) (c : Change N) (n : N) → Can c → R s (record s { known = with_change K c n s.known })
   pub came : (s : Vat N) (c : Coming N W) (h : ℕ) → R s (record s { known = s.known ++ begun (K.made c (length s.known)) h ∷ [] })
   pub mailed : (s : Vat N) (c : Mailing W) → R s (record s { mails = s.mails ++ K.mailed c (length s.mails) ∷ [] })
   pub promised : (s : Vat N) → R s (record s { promises = suc s.promises; known = s.known ++ begun (K.made (IsOwn s.promises) (length s.known)) s.number ∷ [] })
   pub messaged : (s : Vat N) (h : ℕ) (id : N) → R s (record s { messages = suc s.messages; mails = s.mails ++ id ∷ []; known = s.known ++ begun (K.made (IsAnswer h id) (length s.known)) h ∷ [] })
   pub lone : (s : Vat N) (id : N) → R s (record s { messages = suc s.messages; mails = s.mails ++ id ∷ [] })
 
-module _ {N W : Type 0} (K : Naming N W) (R : Vat N → Vat N → Type 0) (law : IsGentle K R) where
+-- so each change leads that settles and views nothing
+abbrev pub IsGentle : {N W : Type 0} → Naming N W → (Vat N → Vat N → Type 0) → Type 0
+IsGentle K R = GoesBy K Mild R
+
+module _ {N W : Type 0} (K : Naming N W) (Can : Change N → Type 0) (R : Vat N → Vat N → Type 0) (law : GoesBy K Can R) where
   pub widen : {A : Type 0} {s t : Vat N} → R s t → (d : Done N A) → GivesBy R t d → GivesBy R s d
   widen r (Gives a u) h = law.trans r h
   widen r (Throws p u) h = tt
@@ -62,77 +67,113 @@ module _ {N W : Type 0} (K : Naming N W) (R : Vat N → Vat N → Type 0) (law :
   bind_gives s (Ejects n v t) f h k = tt
   bind_gives s (Stops c t) f h k = tt
 
-  pub gentle_bind : {A B : Type 0} {m : Act N A} {f : A → Act N B} → Gentle R m → ((a : A) → Gentle R (f a)) → Gentle R (m >>= f)
+  pub goes_bind : {A B : Type 0} {m : Act N A} {f : A → Act N B} → Gentle R m → ((a : A) → Gentle R (f a)) → Gentle R (m >>= f)
   unfolding ◌>>=◌
-  gentle_bind {m = m} {f = f} h k = record { after = λ s. bind_gives s (m s) f (h.after s) k }
+  goes_bind {m = m} {f = f} h k = record { after = λ s. bind_gives s (m s) f (h.after s) k }
 
-  pub gentle_then : {A B : Type 0} {m : Act N A} {n : Act N B} → Gentle R m → Gentle R n → Gentle R (m >> n)
+  pub goes_then : {A B : Type 0} {m : Act N A} {n : Act N B} → Gentle R m → Gentle R n → Gentle R (m >> n)
   unfolding ◌>>◌
-  gentle_then {m = m} {n = n} h k = record { after = λ s. bind_gives s (m s) (λ _. n) (h.after s) (λ _. k) }
+  goes_then {m = m} {n = n} h k = record { after = λ s. bind_gives s (m s) (λ _. n) (h.after s) (λ _. k) }
 
-  pub gentle_if : {A : Type 0} (b : Bool) {m n : Act N A} → Gentle R m → Gentle R n → Gentle R (if b then m else n)
-  gentle_if true h k = h
-  gentle_if false h k = k
+  pub goes_if : {A : Type 0} (b : Bool) {m n : Act N A} → Gentle R m → Gentle R n → Gentle R (if b then m else n)
+  goes_if true h k = h
+  goes_if false h k = k
 
-  pub gentle_give : {A : Type 0} (a : A) → Gentle R (give a)
+  pub goes_some : {A B : Type 0} (o : Option A) {f : A → Act N B} {m : Act N B} → ((a : A) → Gentle R (f a)) → Gentle R m → Gentle R (for_some o f m)
+  unfolding for_some
+  goes_some (Some a) h k = h a
+  goes_some None h k = k
+
+  pub goes_give : {A : Type 0} (a : A) → Gentle R (give a)
   unfolding give
-  gentle_give a = record { after = law.same }
+  goes_give a = record { after = law.same }
 
-  pub gentle_stop : {A : Type 0} (c : Stop) → Gentle R (stop {A = A} c)
+  pub goes_stop : {A : Type 0} (c : Stop) → Gentle R (stop {A = A} c)
   unfolding stop
-  gentle_stop c = record { after = λ s. tt }
+  goes_stop c = record { after = λ s. tt }
 
-  pub gentle_look : {A : Type 0} (f : Vat N → A) → Gentle R (look f)
+  pub goes_look : {A : Type 0} (f : Vat N → A) → Gentle R (look f)
   unfolding look
-  gentle_look f = record { after = law.same }
+  goes_look f = record { after = law.same }
 
-  pub gentle_tell : (e : Happened N) → Gentle R (tell e)
+  pub goes_tell : (e : Happened N) → Gentle R (tell e)
   unfolding tell
-  gentle_tell e = record { after = λ s. law.happened s e }
+  goes_tell e = record { after = λ s. law.happened s e }
 
   spend_gives : (s : Vat N) (n : ℕ) (b : Bool) → GivesBy R s (spent n b s)
   unfolding spent
   spend_gives s n true = law.fuel s n
   spend_gives s n false = tt
 
-  pub gentle_spend : (n : ℕ) → Gentle R (spend n)
+  pub goes_spend : (n : ℕ) → Gentle R (spend n)
   unfolding spend
-  gentle_spend n = record { after = λ s. spend_gives s n (nat_le n s.fuel) }
+  goes_spend n = record { after = λ s. spend_gives s n (nat_le n s.fuel) }
 
-  pub gentle_list : (vs : List (Value N)) → Gentle R (new_list vs)
+  pub goes_list : (vs : List (Value N)) → Gentle R (new_list vs)
   unfolding new_list
-  gentle_list vs = record { after = λ s. law.list s vs }
+  goes_list vs = record { after = λ s. law.list s vs }
 
-  pub gentle_enqueue : (m : Message N) → Gentle R (enqueue m)
+  pub goes_enqueue : (m : Message N) → Gentle R (enqueue m)
   unfolding enqueue
-  gentle_enqueue m = record { after = λ s. law.queue s m }
+  goes_enqueue m = record { after = λ s. law.queue s m }
 
-  pub gentle_out : (to : ℕ) (n : Note N) → Gentle R (send_out to n)
+  pub goes_out : (to : ℕ) (n : Note N) → Gentle R (send_out to n)
   unfolding send_out
-  gentle_out to n = record { after = λ s. law.outbox s _ }
+  goes_out to n = record { after = λ s. law.outbox s _ }
 
-  pub gentle_gift : (n : N) (p i : ℕ) → Gentle R (new_gift n p i)
+  pub goes_gift : (n : N) (p i : ℕ) → Gentle R (new_gift n p i)
   unfolding new_gift
-  gentle_gift n p i = record { after = λ s. law.gift s _ }
+  goes_gift n p i = record { after = λ s. law.gift s _ }
 
-  pub gentle_open : (p i : ℕ) → Gentle R (open_gift p i)
+  pub goes_open : (p i : ℕ) → Gentle R (open_gift p i)
   unfolding open_gift
-  gentle_open p i = record { after = λ s. law.opened s p i }
+  goes_open p i = record { after = λ s. law.opened s p i }
 
-  pub gentle_each : {A : Type 0} {f : A → Act N (Unit {0})} (xs : List A) → ((x : A) → Gentle R (f x)) → Gentle R (each f xs)
+  pub goes_each : {A : Type 0} {f : A → Act N (Unit {0})} (xs : List A) → ((x : A) → Gentle R (f x)) → Gentle R (each f xs)
   unfolding each
-  gentle_each [] h = gentle_give tt
-  gentle_each (x ∷ xs) h = gentle_then (h x) (gentle_each xs h)
+  goes_each [] h = goes_give tt
+  goes_each (x ∷ xs) h = goes_then (h x) (goes_each xs h)
+
+  pub goes_each_of : {A : Type 0} {f : A → Act N (Unit {0})} (P : A → Type 0) (xs : List A) → AllOf P xs → ((x : A) → P x → Gentle R (f x)) → Gentle R (each f xs)
+  unfolding each
+  goes_each_of P [] h g = goes_give tt
+  goes_each_of P (x ∷ xs) h g = goes_then (g x h.0) (goes_each_of P xs h.1 g)
 
   draws_give : (s : Vat N) (w : ℕ) (o : Option ℕ) → GivesBy R s (draws w o s)
   unfolding draws
   draws_give s w (Some i) = tt
   draws_give s w None = law.drawn s w
 
-  pub gentle_draw : Gentle R (draw K)
+  pub goes_draw : Gentle R (draw K)
   unfolding draw
-  gentle_draw = record { after = λ s. draws_give s _ _ }
+  goes_draw = record { after = λ s. draws_give s _ _ }
 
+  pub goes_come : (c : Coming N W) (h : ℕ) → Gentle R (come K c h)
+  unfolding come
+  goes_come c h = record { after = λ s. law.came s c h }
+
+  pub goes_mail : (c : Mailing W) → Gentle R (mail K c)
+  unfolding mail
+  goes_mail c = record { after = λ s. law.mailed s c }
+
+  pub goes_promise : Gentle R (new_promise K)
+  unfolding new_promise
+  goes_promise = record { after = law.promised }
+
+  pub goes_message : (h : ℕ) → Gentle R (new_message K h)
+  unfolding new_message
+  goes_message h = record { after = λ s. law.messaged s h _ }
+
+  pub goes_lone_message : Gentle R (new_lone_message K)
+  unfolding new_lone_message
+  goes_lone_message = record { after = λ s. law.lone s _ }
+
+  pub goes_closed : IsClosed (GentleBy R)
+  goes_closed = record { gives = goes_give; stops = goes_stop; looks = goes_look; binds = goes_bind }
+
+pub ruleset goes = (goes_bind, goes_then, goes_some, goes_if, goes_give, goes_stop, goes_look, goes_tell, goes_spend, goes_list, goes_enqueue, goes_out, goes_gift, goes_open, goes_each, goes_draw, goes_come, goes_mail, goes_promise, goes_message, goes_lone_message)
+
+module _ {N W : Type 0} (K : Naming N W) (R : Vat N → Vat N → Type 0) (law : IsGentle K R) where
   pub gentle_hold : (m : Message N) (n : N) → Gentle R (alter K (Hold m) n)
   unfolding alter
   gentle_hold m n = record { after = λ s. law.altered s (Hold m) n (mild_hold m) }
@@ -153,33 +194,10 @@ module _ {N W : Type 0} (K : Naming N W) (R : Vat N → Vat N → Type 0) (law :
   unfolding alter
   gentle_to_tell w n = record { after = λ s. law.altered s (ToTell w) n (mild_to_tell w) }
 
-  pub gentle_come : (c : Coming N W) (h : ℕ) → Gentle R (come K c h)
-  unfolding come
-  gentle_come c h = record { after = λ s. law.came s c h }
-
-  pub gentle_mail : (c : Mailing W) → Gentle R (mail K c)
-  unfolding mail
-  gentle_mail c = record { after = λ s. law.mailed s c }
-
-  pub gentle_promise : Gentle R (new_promise K)
-  unfolding new_promise
-  gentle_promise = record { after = law.promised }
-
-  pub gentle_message : (h : ℕ) → Gentle R (new_message K h)
-  unfolding new_message
-  gentle_message h = record { after = λ s. law.messaged s h _ }
-
-  pub gentle_lone_message : Gentle R (new_lone_message K)
-  unfolding new_lone_message
-  gentle_lone_message = record { after = λ s. law.lone s _ }
-
   -- ---- the instance
 
-  pub gentle_closed : IsClosed (GentleBy R)
-  gentle_closed = record { gives = gentle_give; stops = gentle_stop; looks = gentle_look; binds = gentle_bind }
-
   pub gentle_in_refs : InRefs (GentleBy R)
-  gentle_in_refs = record { tells = λ e h. gentle_tell e; spends = gentle_spend; queues = gentle_enqueue; puts = λ to n h. gentle_out to n }
+  gentle_in_refs = record { tells = λ e h. goes_tell K Mild R law e; spends = goes_spend K Mild R law; queues = goes_enqueue K Mild R law; puts = λ to n h. goes_out K Mild R law to n }
 
   mild : (c : Change N) (n : N) → IsMild c → Gentle R (alter K c n)
   mild (Hold m) n h = gentle_hold m n
@@ -191,12 +209,12 @@ module _ {N W : Type 0} (K : Naming N W) (R : Vat N → Vat N → Type 0) (law :
   mild (Settle y) n h = absurd h
 
   pub gentle_sending : InSending (GentleBy R) K
-  gentle_sending = record { messages = gentle_message; lone_messages = gentle_lone_message; sends = λ a m. gentle_tell (Sends a m); reacts = λ a x o m. gentle_tell (Reacts a x o m) }
+  gentle_sending = record { messages = goes_message K Mild R law; lone_messages = goes_lone_message K Mild R law; sends = λ a m. goes_tell K Mild R law (Sends a m); reacts = λ a x o m. goes_tell K Mild R law (Reacts a x o m) }
 
   pub gentle_in_refs_under : InRefsUnder (GentleBy R) K
-  gentle_in_refs_under = record { alters = mild; comes = gentle_come; draws = gentle_draw }
+  gentle_in_refs_under = record { alters = mild; comes = goes_come K Mild R law; draws = goes_draw K Mild R law }
 
-pub ruleset gentle = (gentle_bind, gentle_then, gentle_if, gentle_give, gentle_stop, gentle_look, gentle_tell, gentle_spend, gentle_list, gentle_enqueue, gentle_out, gentle_gift, gentle_open, gentle_each, gentle_draw, gentle_hold, gentle_wait, gentle_wait_on, gentle_react, gentle_to_tell, gentle_come, gentle_mail, gentle_promise, gentle_message)
+pub ruleset gentle = (goes, gentle_hold, gentle_wait, gentle_wait_on, gentle_react, gentle_to_tell)
 
 -- ---- what holds of the state that is given
 

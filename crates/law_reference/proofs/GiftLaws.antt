@@ -1,5 +1,5 @@
 -- In every world of a run each gift passes once at most, and each word has one provider.
-use Rattle.std.proofs.Common.{◌≡◌, ℕ, zero, suc, ◌+◌, ◌≤◌, Bool, true, false, List, [], ◌∷◌, Option, Some, None, refl, sym, ap, ◌∙◌, ◌⊎◌, inl, inr, length, ◌==◌, arith}
+use Rattle.std.proofs.Common.{◌≡◌, ℕ, zero, suc, ◌+◌, ◌≤◌, Bool, true, false, List, [], ◌∷◌, Option, Some, None, refl, sym, ap, ◌∙◌, ◌⊎◌, inl, inr, ◌==◌, arith}
 use Rattle.std.specs.Prelude.{slice_get}
 use Rattle.std.proofs.lemmas.Bool.{eqb-true}
 use Rattle.def_machine.specs.Values.{Name, Root, key, word_of, provider_of}
@@ -10,7 +10,7 @@ use Rattle.law_machine.specs.Steps.{After}
 use Rattle.def_machine.proofs.Keys.{key_of}
 use Rattle.def_run.specs.Draws.{draw_word}
 use Rattle.def_run.specs.World as world
-use Rattle.def_run.specs.World.{Script, Program, Entry, Turn, Carry, CutLink, NoticeLink, Event, Link, World, Run, Goes as Going, Stopped, names, names_of, put_at}
+use Rattle.def_run.specs.World.{Script, Program, Entry, Turn, Carry, CutLink, NoticeLink, Event, Link, World, Run, Goes as Going, Stopped, names, names_of}
 use Rattle.law_fate.specs.Fate.{once}
 use Rattle.law_fate.specs.Lasting.{Each}
 use Rattle.law_fate.specs.FateRuns.{Reached, InRuns}
@@ -19,6 +19,7 @@ use Rattle.law_reference.specs.GiftPassing.{gifts_in, gifts_in_all, gifts_in_not
 use Rattle.law_reference.proofs.Puts.{AllStay, Fair, gifts_out, each_up, provides_up}
 use Rattle.law_reference.proofs.ArrivePuts.{fair_notice}
 use Rattle.law_reference.proofs.StepsPuts.{later, later_new, later_up, fair_taking, fair_opening, arrival_ends}
+use Rattle.law_reference.proofs.RunLift.{put_at_or, put_one}
 use Rattle.law_reference.proofs.GiftLinks.{LinkTells, pushed_notes, pushed_log, push_all_gifts, with_link_less, severed_less, severed_log, taken_less, taken_log, with_link_tells, push_all_tells, severed_tells, taken_tells, found_tells, links_from_tell, links_from_none}
 
 -- with P as the provider of each word
@@ -30,23 +31,6 @@ pub record Holds (P : ℕ → ℕ) (w : World) : Type 0 where
 
 abbrev pub Fits : World → Type 0
 Fits w = (P : ℕ → ℕ) × Holds P w
-
-put_at_or : (v : ℕ) (y : Vat Name) (xs : List (Vat Name)) (u : ℕ) (t : Vat Name) → slice_get (put_at v y xs) u ≡ Some t → ((u ≡ v) × (y ≡ t)) ⊎ (slice_get xs u ≡ Some t)
-unfolding put_at
-put_at_or v y [] u t e = inr e
-put_at_or zero y (x ∷ xs) zero t e = let same : y ≡ t = cc in inl (refl, same)
-put_at_or zero y (x ∷ xs) (suc u) t e = inr e
-put_at_or (suc v) y (x ∷ xs) zero t e = inr e
-put_at_or (suc v) y (x ∷ xs) (suc u) t e = go (put_at_or v y xs u t e)
-  where
-    go : ((u ≡ v) × (y ≡ t)) ⊎ (slice_get xs u ≡ Some t) → ((suc u ≡ suc v) × (y ≡ t)) ⊎ (slice_get (x ∷ xs) (suc u) ≡ Some t)
-    go (inl h) = inl (ap suc h.0, h.1)
-    go (inr h) = inr h
-
--- one vat as Q tells, and the others as P tells
-put_one : (A : ℕ → Vat Name → Type 0) (v : ℕ) (vats : List (Vat Name)) (t : Vat Name) → A v t → ((u : ℕ) (r : Vat Name) → slice_get vats u ≡ Some r → A u r) → (u : ℕ) (r : Vat Name) → ((u ≡ v) × (t ≡ r)) ⊎ (slice_get vats u ≡ Some r) → A u r
-put_one A v vats t k h u r (inl e) = let one : A u t = rw (sym e.0) at k in rw e.1 at one
-put_one A v vats t k h u r (inr e) = h u r e
 
 -- what a step of vat v makes of the world, where all words of the step have provider q
 put_back_fits : (P : ℕ → ℕ) (q v : ℕ) (w : World) (head : List Event) (n : ℕ) (s : Vat Name) (d : Done Name (Unit {0})) → Holds P w → s.number ≡ v → Each (IsProvided P w.drawn) s.gifts → DrawsDiffer s.gifts

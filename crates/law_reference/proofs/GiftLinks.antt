@@ -1,6 +1,5 @@
 -- The notes under way once a vat put its notes, once a note was taken, and once a link was cut: the gifts in them, and what they tell of providers.
 use Rattle.std.proofs.Common.{◌≡◌, ℕ, zero, suc, ◌+◌, ◌≤◌, Bool, true, false, List, [], ◌∷◌, ◌++◌, Option, Some, refl, sym, ap, arith, ◌==◌}
-use Rattle.std.proofs.lemmas.Bool.{eqb-true}
 use Rattle.def_machine.specs.Values.{Name}
 use Rattle.def_machine.specs.State.{Note, Put}
 use Rattle.def_run.specs.World as world
@@ -8,6 +7,7 @@ use Rattle.def_run.specs.World.{Program, Link}
 use Rattle.law_fate.specs.Lasting.{Each}
 use Rattle.law_fate.proofs.PlacesLast.{each_end}
 use Rattle.law_reference.specs.GiftPassing.{gifts_in_note, gifts_in_notes, gifts_on, Provides, LinkProvides}
+use Rattle.law_reference.proofs.NotesLift.{ends_are}
 use Rattle.law_reference.proofs.Puts.{gifts_out}
 
 -- ---- gifts
@@ -76,15 +76,6 @@ taken_less i v w n ns k e [] f = cc
 taken_less i v w n ns k e (l ∷ ls) f = taken_or i n ns (world.is_link v w l) k l (world.link_at v w ls) ls (world.with_link (world.with_notes ns) v w ls) e f (λ g. taken_less i v w n ns k e ls g)
 
 -- ---- providers
-
-ends_at : (b c : Bool) (l : Link) (v w : ℕ) → (l.from == v) ≡ b → (l.to == w) ≡ c → elim b [ true ↦ c | false ↦ false ] ≡ true → (l.from ≡ v) × (l.to ≡ w)
-ends_at true true l v w e f i = (eqb-true l.from v e, eqb-true l.to w f)
-ends_at true false l v w e f i = cc
-ends_at false c l v w e f i = cc
-
-ends_are : (l : Link) (v w : ℕ) → world.is_link v w l ≡ true → (l.from ≡ v) × (l.to ≡ w)
-unfolding world.is_link
-ends_are l v w e = ends_at (l.from == v) (l.to == w) l v w refl refl e
 
 module _ (P : ℕ → ℕ) (d : List ℕ) where
   abbrev pub LinkTells : Link → Type 0

@@ -1,9 +1,9 @@
 -- A vat that has no gift of a draw in hand, and knows none but its own, goes on so: a care for names, and what arrives.
-use Rattle.std.proofs.Common.{◌≡◌, ℕ, zero, Bool, true, false, List, [], ◌∷◌, ◌++◌, Option, Some, None, if◌then◌else◌, codes, refl, sym, ap, ◌∙◌, ◌⊎◌, inl, inr, length, ◌==◌, arith}
-use Rattle.def_machine.specs.Values.{Prim, Broken, Ref, Name, Root, Object, Promise, Answer, Gift, Sent, Spot, Own, Foreign, NoObject, Naming, naming, name_of, mail_of, answer_of, spot_of, host_of, IsGift, IsLearnt, key, word_of, under}
-use Rattle.def_machine.specs.State.{See, Views, Note, Ask, Elsewhere, Shorten, Put, GiftEntry, Vat, Done, Gives, Throws, Ejects, Stops, Act, ◌>>=◌, ◌>>◌, and_then, give, look, tell, come, mail, draw, draws, drawn_at, alter, send_out, new_gift, is_in, begun}
+use Rattle.std.proofs.Common.{◌≡◌, ℕ, zero, Bool, true, false, List, [], ◌∷◌, ◌++◌, Option, Some, None, if◌then◌else◌, codes, refl, sym, ap, ◌∙◌, ◌⊎◌, inl, inr, ◌==◌, arith}
+use Rattle.def_machine.specs.Values.{Broken, Ref, Name, Root, Object, Promise, Answer, Gift, Sent, Spot, Own, Foreign, NoObject, Naming, naming, name_of, mail_of, answer_of, spot_of, host_of, IsLearnt, key, word_of, under}
+use Rattle.def_machine.specs.State.{Known, See, Views, Note, Deliver, Open, Ask, SettledTo, Elsewhere, Shorten, Put, Vat, Done, Gives, Throws, Ejects, Stops, Act, ◌>>=◌, and_then, give, look, come, mail, draw, draws, drawn_at, alter, is_in, begun}
 use Rattle.def_machine.specs.Refs as refs
-use Rattle.def_machine.specs.Refs.{Place, Mine, Away, host_at}
+use Rattle.def_machine.specs.Refs.{Mine, Away, host_at}
 use Rattle.def_machine.specs.Arrive as arrive
 use Rattle.def_machine.specs.Arrive.{Old, New}
 use Rattle.def_run.specs.World as world
@@ -17,6 +17,7 @@ use Rattle.law_name.specs.Names.{WasDrawn}
 use Rattle.law_name.proofs.Among.{among_more, key_not_drawn}
 use Rattle.law_name.proofs.SameNames.{reference_is}
 use Rattle.law_reference.specs.GiftPassing.{gifts_in_note}
+use Rattle.law_reference.proofs.Beside.{PassesNothing, Leaves, Stays, view_leaves}
 use Rattle.law_reference.proofs.Puts.{gifts_out, out_end}
 use Rattle.law_reference.proofs.Gentle.{AfterGives}
 use Rattle.law_reference.specs.Hiding.{IsNotOf, IsOfNoOther, Shuns}
@@ -179,34 +180,23 @@ module _ (i : ℕ) where
       abbrev pub Goes : Vat Name → Type 0
       Goes t = Sound Hides t ⊎ (gifts_out i t.outbox ≡ 0)
 
-      see_none : (s : Vat Name) (n x : Name) → gifts_out i s.outbox ≡ 0 → AfterGives (λ t. gifts_out i t.outbox ≡ 0) (arrive.see K n x s)
-      unfolding arrive.see ◌>>◌ and_then tell alter
-      see_none s n x e = e
+      abbrev PassesNone : List (Known Name) → List (Put Name) → Type 0
+      PassesNone ks ps = gifts_out i ps ≡ 0
 
-      put_none : (s : Vat Name) (p : Put Name) → gifts_in_note i p.note ≡ 0 → gifts_out i s.outbox ≡ 0 → gifts_out i (s.outbox ++ p ∷ []) ≡ 0
-      put_none s p f e = let o = out_end i s.outbox p in omega arith
+      plain_none : (n : Note Name) → PassesNothing n → gifts_in_note i n ≡ 0
+      unfolding gifts_in_note
+      plain_none (Deliver d n verb ys) h = absurd h
+      plain_none (SettledTo n y) h = absurd h
+      plain_none (Open j n) h = refl
+      plain_none (Ask p j n) h = refl
+      plain_none (Elsewhere n c) h = refl
+      plain_none (Shorten n c j) h = refl
 
-      had_none : (s : Vat Name) (u h j : ℕ) (n : Name) (o : Option (GiftEntry Name)) → gifts_out i s.outbox ≡ 0 → AfterGives (λ t. gifts_out i t.outbox ≡ 0) (and_then (arrive.gift_or_new K u h j o s) (λ x. arrive.see K n x))
-      unfolding arrive.gift_or_new ◌>>=◌ ◌>>◌ and_then come new_gift give naming name_of
-      had_none s u h j n (Some x) e = see_none s n x.name e
-      had_none s u h j n None e = see_none (record s { known = s.known ++ begun (Gift u j) u ∷ []; gifts = s.gifts ++ record { name = Gift u j; provider = h; number = j; opened = false } ∷ [] }) n (Gift u j) e
-
-      there_none : (s : Vat Name) (h c j : ℕ) (n : Name) (b : Bool) → gifts_out i s.outbox ≡ 0
-          → AfterGives (λ t. gifts_out i t.outbox ≡ 0) (and_then ((if b then arrive.have_gift K h j else (come K (IsGift c j) c >>= (λ x. send_out c (Ask h j x) >> give x))) s) (λ x. arrive.see K n x))
-      unfolding arrive.have_gift ◌>>=◌ ◌>>◌ and_then come send_out give look naming name_of gifts_in_note
-      there_none s h c j n true e = had_none s s.number h j n (arrive.gift_at h j s.gifts) e
-      there_none s h c j n false e = let s1 : Vat Name = record s { known = s.known ++ begun (Gift c j) c ∷ [] } in let p : Put Name = record { to = c; note = Ask h j (Gift c j) } in
-          see_none (record s1 { outbox = s1.outbox ++ p ∷ [] }) n (Gift c j) (put_none s p refl e)
-
-      drawn_none : (s : Vat Name) (u h c : ℕ) (n : Name) (w : ℕ) (o : Option ℕ) → gifts_out i s.outbox ≡ 0
-          → AfterGives (λ t. gifts_out i t.outbox ≡ 0) (and_then (draws w o s) (λ j. send_out h (Shorten n c (under h j)) >> (arrive.gift_there K u h c (under h j) >>= (λ x. arrive.see K n x))))
-      unfolding draws and_then send_out ◌>>◌ ◌>>=◌ arrive.gift_there gifts_in_note
-      drawn_none s u h c n w (Some j) e = tt
-      drawn_none s u h c n w None e = let p : Put Name = record { to = h; note = Shorten n c (under h (key s.number w)) } in there_none (record s { outbox = s.outbox ++ p ∷ []; drawn = s.drawn ++ w ∷ [] }) h c _ n (c == u) (put_none s p refl e)
-
-      view_none : (s : Vat Name) (n : Name) (c : ℕ) → gifts_out i s.outbox ≡ 0 → AfterGives (λ t. gifts_out i t.outbox ≡ 0) (arrive.view_there K n c s)
-      unfolding arrive.view_there ◌>>=◌ and_then look draw
-      view_none s n c e = drawn_none s s.number (host_at K s.number s.known n) c n _ _ e
+      none_stays : Stays word v PassesNone
+      none_stays = record { altered = λ c n ks ps e. e; knows = λ n h k ks ps e. e; puts = λ p k ks ps e. put_none ps p (plain_none p.note k) e }
+        where
+          put_none : (ps : List (Put Name)) (p : Put Name) → gifts_in_note i p.note ≡ 0 → gifts_out i ps ≡ 0 → gifts_out i (ps ++ p ∷ []) ≡ 0
+          put_none ps p f e = let o = out_end i ps p in omega arith
 
       ends_goes : (s : Vat Name) (d : Done Name (Unit {0})) → Ends Hides nothing s d → AfterGives Goes d
       ends_goes s (Gives u t) h = inl h.1
@@ -214,7 +204,7 @@ module _ (i : ℕ) where
       ends_goes s (Ejects n y t) h = tt
       ends_goes s (Stops c t) h = tt
 
-      none_goes : (d : Done Name (Unit {0})) → AfterGives (λ t. gifts_out i t.outbox ≡ 0) d → AfterGives Goes d
+      none_goes : (d : Done Name (Unit {0})) → Leaves word v PassesNone d → AfterGives Goes d
       none_goes (Gives u t) h = inr h
       none_goes (Throws p t) h = tt
       none_goes (Ejects n y t) h = tt
@@ -225,7 +215,7 @@ module _ (i : ℕ) where
 
       gone_or : (s : Vat Name) (n : Name) (c : ℕ) (b : Bool) → IsNotOf i n → Sound Hides s → gifts_out i s.outbox ≡ 0 → AfterGives Goes ((if b then refs.settle K n (Broken (codes "partition")) else arrive.view_there K n c) s)
       gone_or s n c true f h e = settle_goes s n (codes "partition") f h
-      gone_or s n c false f h e = none_goes (arrive.view_there K n c s) (view_none s n c e)
+      gone_or s n c false f h e = none_goes (arrive.view_there K n c s) (view_leaves word v PassesNone none_stays n c s e)
 
       news_or : (s : Vat Name) (n : Name) (c : ℕ) (b : Bool) → IsNotOf i n → Sound Hides s → gifts_out i s.outbox ≡ 0
           → AfterGives Goes (and_then (arrive.learn_name K (elim b [ true ↦ Old n | false ↦ New n (host_of n) ]) s) (λ m. look (λ s. is_in c s.noticed) >>= (λ gone. if gone then refs.settle K m (Broken (codes "partition")) else arrive.view_there K m c)))

@@ -2,7 +2,7 @@
 use Rattle.std.proofs.Common.{◌≡◌, ℕ, zero, ◌+◌, ◌≤◌, Bool, true, false, List, [], ◌∷◌, Option, Some, refl, sym, ◌∙◌, ◌⊎◌, inl, inr, subst, ◌==◌, arith}
 use Rattle.std.specs.Prelude.{slice_get}
 use Rattle.std.proofs.lemmas.Bool.{eq-eqb}
-use Rattle.def_machine.specs.Values.{Value, Null, Flag, Number, Letter, Text, Prim, Broken, Items, Ref, Name, Root, Object, Promise, Answer, Gift, Sent, naming, word_of}
+use Rattle.def_machine.specs.Values.{Name, Root, Object, Promise, Answer, Gift, Sent, naming, word_of}
 use Rattle.def_machine.specs.State.{Message, Passed, Passeds, Plain, AGift, Many, NoMore, More, Note, Deliver, Open, Ask, SettledTo, Elsewhere, Shorten, Put, Vat, Done, Gives, is_in}
 use Rattle.def_machine.specs.Scopes.{any_guard}
 use Rattle.def_machine.specs.Arrive.{arrive}
@@ -11,12 +11,12 @@ use Rattle.def_run.specs.Draws.{draw_word}
 use Rattle.def_run.specs.World as world
 use Rattle.def_run.specs.World.{Script, Program, Link, World, names, names_of, read_note, readied, put_at, push_all, with_link, with_notes, severed_link, link_at}
 use Rattle.law_fate.specs.Fate.{once}
-use Rattle.law_name.specs.Names.{Bit, Named, Mail, Drew, At, Off, Entered, Owns, Gave, AllOf, WasDrawn, IsMade, WasMade, NounOk, PassedOk, PassedsOk, NoteOk, ValueOk, Everywhere}
+use Rattle.law_name.specs.Names.{Bit, Named, Mail, Drew, At, Off, Entered, Owns, Gave, AllOf, WasDrawn, IsMade, WasMade, NounOk, PassedOk, PassedsOk, NoteOk, Everywhere}
 use Rattle.law_name.proofs.Facts.{all_map, note_up, Nothing, nothing}
 use Rattle.law_name.proofs.Care.{Fine, parts_up}
 use Rattle.law_name.proofs.Run.{Had, Told, Stands}
 use Rattle.law_reference.proofs.Gentle.{AfterGives}
-use Rattle.law_reference.proofs.First.{made_message}
+use Rattle.law_reference.proofs.CareBeside.{made_message}
 use Rattle.law_reference.proofs.Follow.{put_cases}
 use Rattle.law_reference.proofs.AnswerLinks.{pushed_all}
 use Rattle.law_reference.proofs.Moves.{IsAlone, Does}
@@ -25,7 +25,7 @@ use Rattle.law_reference.proofs.Puts.{Fair, gifts_out, in_among, among_in}
 use Rattle.law_reference.proofs.ArrivePuts.{fair_notice}
 use Rattle.law_reference.proofs.StepsPuts.{later, fair_taking, fair_opening, arrival_ends}
 use Rattle.law_reference.specs.Hiding.{IsNotOf, Shuns, Spares}
-use Rattle.law_reference.proofs.Arrivals.{ValueTells, PassedTells, PassedsTell}
+use Rattle.law_reference.proofs.Arrivals.{PassedTells, PassedsTell, value_tells}
 use Rattle.law_reference.proofs.HideCare.{Hides, Tells, Goes, not_other, hides_under, hides_makes, note_hides, news_goes}
 use Rattle.law_reference.proofs.ApartSteps.{ready, does_sound, arrives_sound}
 
@@ -162,22 +162,11 @@ module _ (i : ℕ) where
       no : true ≡ false → ⊥
       no e = cc
 
-  value_tells : (y : Value Name) → ValueOk (Spares i) y → ValueTells (IsNotOf i) (λ h j. j ≡ i → ⊥) (λ j. j ≡ i → ⊥) y
-  value_tells (Ref n) f = f
-  value_tells Null f = tt
-  value_tells (Flag b) f = tt
-  value_tells (Number z) f = tt
-  value_tells (Letter c) f = tt
-  value_tells (Text x) f = tt
-  value_tells (Prim k) f = tt
-  value_tells (Broken x) f = tt
-  value_tells (Items k) f = tt
-
   mutual
     unfolding gifts_in gifts_in_all
 
     passed_tells : (y : Passed Name) → PassedOk (Spares i) y → gifts_in i y ≡ 0 → PassedTells (IsNotOf i) (λ h j. j ≡ i → ⊥) (λ j. j ≡ i → ⊥) y
-    passed_tells (Plain y) f e = value_tells y f
+    passed_tells (Plain y) f e = value_tells (IsNotOf i) (λ h j. j ≡ i → ⊥) (λ j. j ≡ i → ⊥) (Spares i) (λ n k. k) y f
     passed_tells (AGift c j) f e = once_other j (i == j) refl e
     passed_tells (Many ys) f e = passeds_tell ys f e
 

@@ -1,5 +1,5 @@
 -- In every world of a run in which notices stand behind their cuts, what waits has a host that was not noticed.
-use Rattle.std.proofs.Common.{◌≡◌, ℕ, zero, suc, true, List, [], ◌∷◌, ◌++◌, Some, refl, sym, length, append-nil}
+use Rattle.std.proofs.Common.{◌≡◌, ℕ, zero, suc, true, List, [], ◌∷◌, ◌++◌, Some, refl, sym, append-nil}
 use Rattle.std.specs.Prelude.{slice_get}
 use Rattle.def_machine.specs.Values.{Name, Root, host_of}
 use Rattle.def_machine.specs.State.{Message, Note, Vat, Done, Gives, Throws, Ejects, Stops, is_in}
@@ -16,7 +16,7 @@ use Rattle.law_reference.specs.Notes.{NoteSpared}
 use Rattle.law_reference.specs.Rest.{HostsRest}
 use Rattle.law_reference.specs.Hosts.{HostsRestInRuns}
 use Rattle.law_reference.proofs.Gentle.{AfterGives}
-use Rattle.law_reference.proofs.TurnsGentle.{gentle_taking, gentle_opening}
+use Rattle.law_reference.proofs.StepsGentle.{gentle_taking, gentle_opening}
 use Rattle.law_reference.proofs.NoticedSteps.{SameNoticed, noticed_gentle, noticed_free, noticed_settles, same_arrive}
 use Rattle.law_reference.proofs.NoticedRuns.{AllSure, noticed_sure, Sure, Cut, either_cut, sure_on, cut_step, then_cut, fresh_noticed, Never, begins_noticed, opened_cut, noticed_links_cut}
 use Rattle.law_reference.proofs.LinksCut.{open_cut}

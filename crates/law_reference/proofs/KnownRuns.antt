@@ -1,5 +1,5 @@
 -- In every world of a run whose notes bring what is new, the claims on each name at each vat are within what is allowed.
-use Rattle.std.proofs.Common.{◌≡◌, ℕ, ◌+◌, ◌≤◌, zero, suc, Bool, true, false, List, [], ◌∷◌, ◌++◌, Option, Some, None, refl, sym, ap, ◌∙◌, ◌⊎◌, inl, inr, length, arith}
+use Rattle.std.proofs.Common.{◌≡◌, ℕ, ◌+◌, ◌≤◌, zero, suc, Bool, true, false, List, [], ◌∷◌, ◌++◌, Option, Some, None, refl, sym, ap, ◌∙◌, arith}
 use Rattle.std.specs.Prelude.{slice_get}
 use Rattle.def_machine.specs.Values.{Name, Root}
 use Rattle.def_machine.specs.State.{Message, Note, Vat, Done, Gives, Throws, Ejects, Stops, begun}
@@ -17,6 +17,7 @@ use Rattle.law_reference.specs.Knowing.{claims, Knowing, brought}
 use Rattle.def_machine.specs.Arrive.{Incoming}
 use Rattle.law_reference.specs.NameTableRuns.{allowed, brings_here, BringsNew, EntryBringsNew, NotesBringNew, NamesDiffer, NamesAreKnownOnce}
 use Rattle.law_reference.proofs.Puts.{AllStay}
+use Rattle.law_reference.proofs.RunLift.{put_at_or, put_one, going_is}
 use Rattle.law_reference.proofs.Bounds.{Bounded, bounded_more, step_bounded, stays_all, allowed_once, claims_once, differ, roots_allowed}
 use Rattle.law_reference.proofs.NameTableSteps.{steps_know_once}
 use Rattle.law_reference.proofs.OwnTargets.{news_after}
@@ -24,27 +25,8 @@ use Rattle.law_reference.proofs.OwnTargets.{news_after}
 abbrev pub AllBounded : World → Type 0
 AllBounded w = (v : ℕ) (s : Vat Name) → slice_get w.vats v ≡ Some s → Bounded w.drawn v s
 
-put_at_or : (v : ℕ) (y : Vat Name) (xs : List (Vat Name)) (u : ℕ) (t : Vat Name) → slice_get (put_at v y xs) u ≡ Some t → ((u ≡ v) × (y ≡ t)) ⊎ (slice_get xs u ≡ Some t)
-unfolding put_at
-put_at_or v y [] u t e = inr e
-put_at_or zero y (x ∷ xs) zero t e = let same : y ≡ t = cc in inl (refl, same)
-put_at_or zero y (x ∷ xs) (suc u) t e = inr e
-put_at_or (suc v) y (x ∷ xs) zero t e = inr e
-put_at_or (suc v) y (x ∷ xs) (suc u) t e = go (put_at_or v y xs u t e)
-  where
-    go : ((u ≡ v) × (y ≡ t)) ⊎ (slice_get xs u ≡ Some t) → ((suc u ≡ suc v) × (y ≡ t)) ⊎ (slice_get (x ∷ xs) (suc u) ≡ Some t)
-    go (inl h) = inl (ap suc h.0, h.1)
-    go (inr h) = inr h
-
-going_is : (w x : World) → Going w ≡ Going x → w ≡ x
-going_is w x e = cc
-
 moved : (w x : World) → AllBounded w → Going w ≡ Going x → AllBounded x
 moved w x h e = rw (going_is w x e) at h
-
-put_one : (d e : List ℕ) (v : ℕ) (vats : List (Vat Name)) (t : Vat Name) → AllStay d e → ((u : ℕ) (r : Vat Name) → slice_get vats u ≡ Some r → Bounded d u r) → Bounded e v t → (u : ℕ) (r : Vat Name) → ((u ≡ v) × (t ≡ r)) ⊎ (slice_get vats u ≡ Some r) → Bounded e u r
-put_one d e v vats t l h k u r (inl i) = let one : Bounded e u t = rw (sym i.0) at k in rw i.1 at one
-put_one d e v vats t l h k u r (inr i) = bounded_more d e u r l (h u r i)
 
 -- what a step of vat v makes of the world
 put_back_bounded : (v : ℕ) (w x : World) (head : List Event) (n : ℕ) (q : Vat Name) (came : Name → ℕ) (d : Done Name (Unit {0})) → AllBounded w → q.number ≡ v → q.drawn ≡ w.drawn
@@ -53,7 +35,7 @@ unfolding world.put_back
 put_back_bounded v w x head n q came (Gives a t) h e same k draws b i =
     let all : AllStay q.drawn t.drawn = stays_all q.drawn t.drawn draws in let l : AllStay w.drawn t.drawn = rw same at all in
     moved (record { fuel = t.fuel; drawn = t.drawn; vats = put_at v t w.vats; links = world.push_all v t.outbox w.links; connections = world.connections_after v t head w.connections; history = w.history ++ head ++ world.events_of w.links v t.happened }) x
-    (λ u r j. put_one w.drawn t.drawn v w.vats t l h (step_bounded v q t came e k b) u r (put_at_or v t w.vats u r j)) i
+    (λ u r j. put_one (λ (x : ℕ) (y : Vat Name). Bounded t.drawn x y) v w.vats t (step_bounded v q t came e k b) (λ x y i. bounded_more w.drawn t.drawn x y l (h x y i)) u r (put_at_or v t w.vats u r j)) i
 put_back_bounded v w x head n q came (Throws p t) h e same k draws b i = cc
 put_back_bounded v w x head n q came (Ejects m y t) h e same k draws b i = cc
 put_back_bounded v w x head n q came (Stops c t) h e same k draws b i = cc

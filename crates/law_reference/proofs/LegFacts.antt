@@ -13,15 +13,15 @@ use Rattle.law_fate.specs.CarryLaws.{leaves}
 use Rattle.law_fate.proofs.WorldLight.{VatSound}
 use Rattle.law_reference.specs.Knowing.{numbered_at, brought}
 use Rattle.law_name.specs.Names.{AllOf, IsAmong, MessageOk, KnownOk, names_in, messages_of}
-use Rattle.law_name.proofs.Facts.{all_map, note_up}
+use Rattle.law_name.proofs.Facts.{all_map}
 use Rattle.law_name.proofs.Among.{messages_at}
 use Rattle.law_name.proofs.Run.{Had, Stands, name_had}
-use Rattle.law_reference.specs.Behind.{Avoids, IsKnownTo as KnowsIn}
-use Rattle.law_reference.proofs.First.{PutsFirst, made_message}
+use Rattle.law_reference.proofs.First.{PutsFirst}
+use Rattle.law_reference.proofs.CareBeside.{made_message}
 use Rattle.law_reference.proofs.FreshSteps.{FreshOut}
 use Rattle.law_reference.proofs.AnswerLinks.{AtLink}
 use Rattle.law_reference.proofs.Moves.{Does, waiting}
-use Rattle.law_reference.proofs.Follow.{knows_not}
+use Rattle.law_reference.proofs.Unnamed.{not_named}
 use Rattle.law_reference.proofs.FollowRuns.{outs_known}
 use Rattle.law_reference.proofs.Places.{total_at, total_two, link_total, held_places}
 use Rattle.law_reference.proofs.Onward.{Mailed, claims_own}
@@ -112,6 +112,6 @@ module _ (script : Script) (w y : World) (v : ℕ) (s q t : Vat Name) (what : St
     no_self = no_self;
     selfless = selfless;
     puts_once = puts (step_age script w v s q t what d sound_here m);
-    outs_not = λ g f. all_map (λ p k. note_up (KnowsIn t) (Avoids (Answer g m)) (knows_not g m t f) p.note k) t.outbox (outs_known script y v t next placed);
+    outs_not = λ g f. all_map (λ p k. not_named (Answer g m) t f p.note k) t.outbox (outs_known script y v t next placed);
     age = aged (leaves M what) leaving (step_age script w v s q t what d sound_here m);
   }

@@ -20,12 +20,14 @@ use Rattle.law_name.proofs.Run.{Stands, Told}
 use Rattle.law_reference.proofs.LinksCut.{fits_notes, fits_severed}
 use Rattle.law_reference.proofs.RunLift.{link_ok}
 use Rattle.law_reference.specs.Behind.{Avoids, NamesNot, Bears, ComesFirst, IsKnownTo as KnowsIn}
-use Rattle.law_reference.proofs.First.{PutsFirst, among_dec, made_message}
+use Rattle.law_reference.proofs.First.{PutsFirst, among_dec}
+use Rattle.law_reference.proofs.CareBeside.{made_message}
 use Rattle.law_reference.proofs.FirstSteps.{FirstOut}
 use Rattle.law_reference.proofs.FreshSteps.{FreshOut}
 use Rattle.law_reference.proofs.AnswerLinks.{AtLink, with_any, push_others, push_keeps}
 use Rattle.law_reference.proofs.Moves.{Does, IsAlone, waiting}
-use Rattle.law_reference.proofs.Follow.{knows_not, Followed}
+use Rattle.law_reference.proofs.Follow.{Followed}
+use Rattle.law_reference.proofs.Unnamed.{not_named}
 use Rattle.law_reference.proofs.FollowRuns.{Past, Holds, same_link, tail_of}
 use Rattle.law_reference.proofs.Telling.{mails, note_not, brings_parts, avoids_never, NeverNew}
 use Rattle.law_reference.proofs.Places.{head_link}
@@ -238,7 +240,7 @@ module _ (script : Script) where
   pub nowhere_not : (w : World) (a v g : ℕ) (m : Msg) (n : Note Name) (ns : List (Note Name)) (l : Link) → Before w → NoneFrom w.vats w.links → link_at a v w.links ≡ Some l → l.notes ≡ n ∷ ns
       → ((z : ℕ) (r : Vat Name) → slice_get w.vats z ≡ Some r → IsAmong (Answer g m) (names_in r.known) → ⊥) → NamesNot (Answer g m) n
   nowhere_not w a v g m n ns l b none at notes f = let u = sender_of w a v n ns l none at notes in let h = b.holds in
-      note_up (KnowsIn u.0) (Avoids (Answer g m)) (knows_not g m u.0 (f a u.0 u.1)) n (tail_of (NoteOk (KnowsIn u.0)) l l n ns (h.0 a v u.0 u.1 l at) refl notes).0
+      not_named (Answer g m) u.0 (f a u.0 u.1) n (tail_of (NoteOk (KnowsIn u.0)) l l n ns (h.0 a v u.0 u.1 l at) refl notes).0
 
   -- nor an answer of the receiver that it does not know
   pub unknown_not : (w : World) (a v : ℕ) (m : Msg) (s : Vat Name) (n : Note Name) (ns : List (Note Name)) (l : Link) → Before w → NoneFrom w.vats w.links → slice_get w.vats v ≡ Some s → link_at a v w.links ≡ Some l → l.cut ≡ false → l.notes ≡ n ∷ ns
@@ -262,7 +264,7 @@ module _ (script : Script) where
 
       either : (u : Vat Name) → slice_get w.vats a ≡ Some u → IsAmong (Answer v m) (names_in u.known) ⊎ (IsAmong (Answer v m) (names_in u.known) → ⊥) → NamesNot (Answer v m) n
       either u e (inl k) = let h = b.holds in followed (h.1 a v m u s e there k l at)
-      either u e (inr k) = let h = b.holds in note_up (KnowsIn u) (Avoids (Answer v m)) (knows_not v m u k) n (tail_of (NoteOk (KnowsIn u)) l l n ns (h.0 a v u e l at) refl notes).0
+      either u e (inr k) = let h = b.holds in not_named (Answer v m) u k n (tail_of (NoteOk (KnowsIn u)) l l n ns (h.0 a v u e l at) refl notes).0
 
   -- ---- a step
 

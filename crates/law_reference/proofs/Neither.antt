@@ -1,5 +1,5 @@
 -- A note brings each name once at most that is neither an answer nor a gift, and none that is known.
-use Rattle.std.proofs.Common.{◌≡◌, ℕ, zero, suc, ◌+◌, ◌≤◌, ◌<◌, Bool, true, false, List, [], ◌∷◌, Some, refl, sym, ◌∙◌, ◌⊎◌, inl, inr, arith, length, leb-true, subst, ◌==◌}
+use Rattle.std.proofs.Common.{◌≡◌, ℕ, zero, suc, ◌+◌, ◌≤◌, ◌<◌, Bool, true, false, List, [], ◌∷◌, Some, refl, sym, ◌∙◌, ◌⊎◌, inl, inr, arith, leb-true, subst, ◌==◌}
 use Rattle.std.specs.Prelude.{slice_get, nat_le}
 use Rattle.std.proofs.lemmas.Bool.{eqb-true, le-leb}
 use Rattle.def_machine.specs.Values.{Name, Root, Object, Promise, Answer, Gift, Sent, Msg, same_name, answer_of, host_of}
@@ -16,7 +16,7 @@ use Rattle.law_reference.proofs.RunLift.{link_ok}
 use Rattle.law_reference.specs.Knowing.{once, one, onward, onward_all, claims, numbered, new_name, new_answer}
 use Rattle.law_reference.specs.NameTableRuns.{allowed, other, brings_here}
 use Rattle.law_reference.specs.Bring.{IsNoGift}
-use Rattle.law_reference.proofs.First.{made_message}
+use Rattle.law_reference.proofs.CareBeside.{made_message}
 use Rattle.law_reference.proofs.Telling.{has, NeverNew, avoids_never, tells, mails, note_tells, note_not, brings_parts, here_most, one_or, has_true, has_grows}
 
 true_false : true ≡ false → ⊥

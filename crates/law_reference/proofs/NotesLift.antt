@@ -1,5 +1,5 @@
 -- What every step of one vat keeps, with what it says of the notes that the vat puts, holds of each vat and of each link in every world of a run.
-use Rattle.std.proofs.Common.{◌≡◌, ℕ, zero, suc, Bool, true, false, List, [], ◌∷◌, ◌++◌, Option, Some, None, refl, sym, ◌∙◌, ◌⊎◌, inl, inr, length, append_assoc, ◌==◌}
+use Rattle.std.proofs.Common.{◌≡◌, ℕ, zero, suc, Bool, true, false, List, [], ◌∷◌, ◌++◌, Option, Some, None, refl, sym, ◌∙◌, length, append_assoc, ◌==◌}
 use Rattle.std.specs.Prelude.{slice_get}
 use Rattle.std.proofs.lemmas.Bool.{eqb-true}
 use Rattle.def_machine.specs.Values.{Name, Root}
@@ -13,7 +13,7 @@ use Rattle.law_name.proofs.Facts.{MayBe, all_end, all_append}
 use Rattle.law_name.proofs.Among.{length_end}
 use Rattle.law_name.proofs.Run.{Stands, Told, steps_stand, opens_stand}
 use Rattle.law_reference.proofs.Gentle.{AfterGives}
-use Rattle.law_reference.proofs.RunLift.{IsAllowed, link_ok, put_at_or}
+use Rattle.law_reference.proofs.RunLift.{IsAllowed, link_ok, put_at_or, put_one, going_is}
 
 -- there is a link, and it is not cut
 abbrev pub IsOpenLink : ℕ → ℕ → List Link → Type 0
@@ -26,7 +26,7 @@ ends_at true true l v w e f i = (eqb-true l.from v e, eqb-true l.to w f)
 ends_at true false l v w e f i = cc
 ends_at false c l v w e f i = cc
 
-ends_are : (l : Link) (v w : ℕ) → world.is_link v w l ≡ true → (l.from ≡ v) × (l.to ≡ w)
+pub ends_are : (l : Link) (v w : ℕ) → world.is_link v w l ≡ true → (l.from ≡ v) × (l.to ≡ w)
 unfolding world.is_link
 ends_are l v w e = ends_at (l.from == v) (l.to == w) l v w refl refl e
 
@@ -99,9 +99,6 @@ module _ (B : ℕ → ℕ → Note Name → Type 0) where
 
 -- ---- the worlds of a run
 
-going_is : (w x : World) → Going w ≡ Going x → w ≡ x
-going_is w x e = cc
-
 get_mid : (front : List Program) (p : Program) (ps : List Program) → slice_get (front ++ p ∷ ps) (length front) ≡ Some p
 get_mid [] p ps = refl
 get_mid (f ∷ fs) p ps = get_mid fs p ps
@@ -136,14 +133,10 @@ module _ (script : Script) (P : ℕ → Vat Name → Type 0) (B : ℕ → ℕ �
     moved : (w x : World) → InBoth w → Going w ≡ Going x → InBoth x
     moved w x h e = rw (going_is w x e) at h
 
-    put_one : (w : World) (v : ℕ) (t : Vat Name) → InVats w → P v t → (u : ℕ) (r : Vat Name) → ((u ≡ v) × (t ≡ r)) ⊎ (slice_get w.vats u ≡ Some r) → P u r
-    put_one w v t h k u r (inl e) = let one : P u t = rw (sym e.0) at k in rw e.1 at one
-    put_one w v t h k u r (inr e) = h u r e
-
     put_back_fits : (w x : World) (v : ℕ) (head : List Event) (n : ℕ) (d : Done Name (Unit {0})) → InBoth w → AfterGives (P v) d → world.put_back v w head n d ≡ Going x → InBoth x
     unfolding world.put_back
     put_back_fits w x v head n (Gives a t) h k i = moved (record { fuel = t.fuel; drawn = t.drawn; vats = world.put_at v t w.vats; links = world.push_all v t.outbox w.links; connections = world.connections_after v t head w.connections; history = w.history ++ head ++ world.events_of w.links v t.happened }) x
-        (λ u r e. put_one w v t h.0 k u r (put_at_or v t w.vats u r e), push_all_fits B v t.outbox w.links (law.outs v t k) h.1) i
+        (λ u r e. put_one P v w.vats t k h.0 u r (put_at_or v t w.vats u r e), push_all_fits B v t.outbox w.links (law.outs v t k) h.1) i
     put_back_fits w x v head n (Throws p t) h k i = cc
     put_back_fits w x v head n (Ejects m y t) h k i = cc
     put_back_fits w x v head n (Stops c t) h k i = cc

@@ -9,7 +9,7 @@ use Rattle.law_name.specs.Names.{IsAmong, Once}
 use Rattle.law_name.proofs.Run.{Stands, opened_stands}
 use Rattle.law_reference.specs.Cuts.{IsCutAmong, NoticesFollow, IsCutThere, NoticedLinksAreCut}
 use Rattle.law_reference.proofs.Gentle.{gives_by, gives_map}
-use Rattle.law_reference.proofs.TurnsGentle.{gentle_taking, gentle_opening}
+use Rattle.law_reference.proofs.StepsGentle.{gentle_taking, gentle_opening}
 use Rattle.law_reference.proofs.NoticedSteps.{SameNoticed, noticed_gentle, noticed_free, noticed_settles, same_arrive, noticed_or, NoticedOr}
 use Rattle.law_reference.proofs.LinksCut.{step_cut, stays_cut, fits_severed, now_cut}
 use Rattle.law_reference.proofs.RunLift.{IsAllowed, StepsKeep, InVats, step_keeps, step_stands, opens_keep}

@@ -6,11 +6,12 @@ use Rattle.def_machine.specs.State.{Known, Note, Deliver, Open, Ask, SettledTo, 
 use Rattle.def_machine.specs.Refs as refs
 use Rattle.def_machine.specs.Arrive as arrive
 use Rattle.def_machine.specs.Arrive.{Incoming}
+use Rattle.law_reference.proofs.Entries.{Mild}
 use Rattle.law_reference.proofs.Gentle.{AfterGives, Gentle, IsGentle, gentle, gives_by}
 use Rattle.law_reference.proofs.Settles.{told_on}
 use Rattle.law_reference.proofs.RefsGentle.{SettlesBy, GoodSettler, gentle_settle, gentle_send_on, gentle_inform}
-use Rattle.law_reference.proofs.TurnsGentle.{IsFree}
-use Rattle.law_reference.proofs.ArriveGentle.{gentle_learn_name, gentle_gift_there, gentle_arrive_deliver, gentle_arrive_open, gentle_arrive_ask, gentle_arrive_settled, gentle_arrive_shorten, gentle_notice_name, gentle_notice_gift}
+use Rattle.law_reference.proofs.StepsGo.{Refers, IsFree, goes_learn_name, goes_gift_there, goes_arrive_open, goes_arrive_ask, goes_arrive_settled, goes_arrive_shorten, goes_notice_name, goes_notice_gift}
+use Rattle.law_reference.proofs.StepsGentle.{gentle_refers, gentle_arrive_deliver}
 
 abbrev pub SameNoticed : {N : Type 0} → Vat N → Vat N → Type 0
 SameNoticed s t = t.noticed ≡ s.noticed
@@ -53,6 +54,9 @@ module _ {N W : Type 0} (K : Naming N W) where
   block : SettlesBy K (SameNoticed {N = N})
   block = noticed_settles
 
+  refers : Refers K (SameNoticed {N = N})
+  refers = gentle_refers K SameNoticed law block
+
   same_view : (g n : N) → Gentle SameNoticed (alter K (See g) n)
   unfolding alter
   same_view g n = record { after = λ s. refl }
@@ -63,20 +67,20 @@ module _ {N W : Type 0} (K : Naming N W) where
 
   same_there : (n : N) (c : ℕ) → Gentle SameNoticed (arrive.view_there K n c)
   unfolding arrive.view_there
-  same_there n c = search (gentle, gentle_gift_there, same_see, law, block) depth 14
+  same_there n c = search (gentle, goes_gift_there, same_see, law, refers) depth 14
 
   same_elsewhere : (x : Incoming N W) (c : ℕ) → Gentle SameNoticed (arrive.arrive_elsewhere K x c)
   unfolding arrive.arrive_elsewhere
-  same_elsewhere x c = search (gentle, gentle_learn_name, gentle_settle, same_there, law, block) depth 14
+  same_elsewhere x c = search (gentle, goes_learn_name, gentle_settle, same_there, law, block, refers) depth 14
 
   pub same_arrive : (from : ℕ) (n : Note (Incoming N W)) → Gentle SameNoticed (arrive.arrive K from n)
   unfolding arrive.arrive
   same_arrive from (Deliver m x verb ys) = gentle_arrive_deliver K SameNoticed law block from m x verb ys
-  same_arrive from (Open i x) = gentle_arrive_open K SameNoticed law block from i x
-  same_arrive from (Ask p i x) = gentle_arrive_ask K SameNoticed law block from p i
-  same_arrive from (SettledTo x y) = gentle_arrive_settled K SameNoticed law block from x y
+  same_arrive from (Open i x) = goes_arrive_open K Mild SameNoticed law refers from i x
+  same_arrive from (Ask p i x) = goes_arrive_ask K Mild SameNoticed law refers from p i
+  same_arrive from (SettledTo x y) = goes_arrive_settled K Mild SameNoticed law refers from x y
   same_arrive from (Elsewhere x c) = same_elsewhere x c
-  same_arrive from (Shorten x c i) = gentle_arrive_shorten K SameNoticed law block x i
+  same_arrive from (Shorten x c i) = goes_arrive_shorten K Mild SameNoticed law refers x i
 
   -- ---- the notice
 
@@ -85,7 +89,7 @@ module _ {N W : Type 0} (K : Naming N W) where
 
   pub same_breakings : (w : ℕ) → Gentle SameNoticed (breakings w)
   unfolding breakings
-  same_breakings w = search (gentle, gentle_notice_name, gentle_notice_gift, law, block) depth 14
+  same_breakings w = search (gentle, goes_notice_name, goes_notice_gift, law, refers) depth 14
 
   -- what is noticed in t was noticed in s, or is w
   abbrev pub NoticedOr : ℕ → Vat N → Vat N → Type 0

@@ -19,12 +19,12 @@ not_equal a b f = either (a == b) refl
     either true e = absurd (f (eqb-true a b e))
     either false e = e
 
-once_least : (b : Bool) → same_once b ≤ once b
+pub once_least : (b : Bool) → same_once b ≤ once b
 unfolding once same_once
 once_least true = omega arith
 once_least false = omega arith
 
-once_most : (b : Bool) → once b ≤ same_once b
+pub once_most : (b : Bool) → once b ≤ same_once b
 unfolding once same_once
 once_most true = omega arith
 once_most false = omega arith

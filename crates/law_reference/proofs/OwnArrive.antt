@@ -13,11 +13,12 @@ use Rattle.law_name.proofs.Among.{among_last, names_end}
 use Rattle.law_name.proofs.SameNames.{old_known}
 use Rattle.law_name.proofs.Tracked.{known_among}
 use Rattle.law_reference.specs.Own.{IsOwnGift}
-use Rattle.law_reference.proofs.Gentle.{GivesBy, Gentle, by_gives, gives_after}
+use Rattle.law_reference.proofs.Gentle.{GivesBy, Gentle, by_gives}
 use Rattle.law_reference.proofs.OwnKeeps.{KeepsOwn, widen, with_own, own_bind, own_then, own_if, own_give, own_look, own_tell, own_out, own_draw, own_all, own_wait, own_view, own_to_tell, came_own, own_send_on, own_inform, own_settle, own_resolve, Whole, IsFree, PlaceFits, place_fits, known_host, eventual_known}
 use Rattle.law_reference.proofs.Wakes.{came_wakes, came_found, came_settled}
 use Rattle.law_reference.proofs.NoticedSteps.{breakings}
-use Rattle.law_reference.proofs.NameSettles.{IsSettled, settles}
+use Rattle.law_reference.proofs.Arrivals.{ValueTells, PassedTells, PassedsTell}
+use Rattle.law_reference.proofs.Settles.{IsSettled, settle_settles}
 
 module _ (word : ℕ → ℕ) (v : ℕ) (Spares : ℕ → Type 0) where
   abbrev Names : Naming Name Name
@@ -33,25 +34,13 @@ module _ (word : ℕ → ℕ) (v : ℕ) (Spares : ℕ → Type 0) where
   FreeName n = IsFree word v Spares n
 
   abbrev pub FreeValue : Value Name → Type 0
-  FreeValue (Ref n) = FreeName n
-  FreeValue Null = Unit {0}
-  FreeValue (Flag b) = Unit {0}
-  FreeValue (Number z) = Unit {0}
-  FreeValue (Letter c) = Unit {0}
-  FreeValue (Text t) = Unit {0}
-  FreeValue (Prim i) = Unit {0}
-  FreeValue (Broken t) = Unit {0}
-  FreeValue (Items k) = Unit {0}
+  FreeValue y = ValueTells FreeName (λ h i. Unit {0}) (λ i. Unit {0}) y
 
-  abbrev mutual
-    pub FreePassed : Passed Name → Type 0
-    FreePassed (Plain y) = FreeValue y
-    FreePassed (AGift h i) = Unit {0}
-    FreePassed (Many ys) = AllFree ys
+  abbrev pub FreePassed : Passed Name → Type 0
+  FreePassed y = PassedTells FreeName (λ h i. Unit {0}) (λ i. Unit {0}) y
 
-    pub AllFree : Passeds Name → Type 0
-    AllFree NoMore = Unit {0}
-    AllFree (More y ys) = FreePassed y × AllFree ys
+  abbrev pub AllFree : Passeds Name → Type 0
+  AllFree ys = PassedsTell FreeName (λ h i. Unit {0}) (λ i. Unit {0}) ys
 
   own_new : (n : Name) → FreeName n → Keeping (arrive.learn_name Names (New n (host_of n)))
   unfolding arrive.learn_name come naming name_of
@@ -108,7 +97,7 @@ module _ (word : ℕ → ℕ) (v : ℕ) (Spares : ℕ → Type 0) where
   gift_settles : (h i : ℕ) (t : Words) (s : Vat Name) → GivesBy (KeepsOwn word v Spares) s (refs.settle Names (Gift h i) (Broken t) (CameGift h i s))
   gift_settles h i t s = let u : Vat Name = CameGift h i s in let g : Name = Gift h i in let found = came_found word v FreeName s.known g h tt in let d : Done Name (Unit {0}) = refs.settle Names g (Broken t) u in
       by_gives (KeepsOwn word v Spares) (KeepsOwn word v Spares) (IsSettled Names g) u s d (λ x r z o. let b = r (came_whole h i s o) in (b.0, came_settled word v FreeName s.known x.known g h z.0 z.1 b.1))
-      ((own_settle word v Spares g (Broken t)).after u) (gives_after (λ r x. IsSettled Names g x) (IsSettled Names g) u d (λ x z. z) (settles Names g (Broken t) found.0 u found.1))
+      ((own_settle word v Spares g (Broken t)).after u) (settle_settles Names g (Broken t) u found)
 
   gone_gift : (p h i : ℕ) (s : Vat Name) (b : Bool) → b ≡ true → GivesBy (KeepsOwn word v Spares) s (and_then ((if b then refs.settle Names (Gift h i) (Broken (codes "partition")) else send_out h (Ask p i (Gift h i))) (CameGift h i s)) (λ _. give (Ref (Gift h i))))
   gone_gift p h i s true e = then_given s (refs.settle Names (Gift h i) (Broken (codes "partition")) (CameGift h i s)) (Ref (Gift h i)) (gift_settles h i (codes "partition") s)

@@ -5,8 +5,8 @@ use Rattle.def_machine.specs.State.{Message, Standing, Unsettled, WaitsOn, Viewe
 use Rattle.def_machine.specs.Refs as refs
 use Rattle.def_machine.specs.Refs.{Place, Near, Mine, Away, Gone, entry_of, place}
 use Rattle.law_name.specs.Names.{AllOf}
-use Rattle.law_reference.proofs.Gentle.{GivesBy, Gentle}
-use Rattle.law_reference.proofs.Calm.{IsCalm, calm, calm_then, calm_give, calm_tell, calm_each, calm_each_of, calm_enqueue, calm_hold, calm_settled, calm_some}
+use Rattle.law_reference.proofs.Gentle.{GivesBy, Gentle, goes_then, goes_give, goes_tell, goes_each, goes_each_of, goes_enqueue, goes_some}
+use Rattle.law_reference.proofs.Calm.{IsCalm, CalmWith, calm, calm_hold, calm_settled}
 
 abbrev pub GoodSettler : {N : Type 0} → (Vat N → Vat N → Type 0) → (N → Value N → Act N (Unit {0})) → Type 0
 GoodSettler {N} R settle = (p : N) (y : Value N) → Gentle R (settle p y)
@@ -73,10 +73,10 @@ module _ {N W : Type 0} (K : Naming N W) (G : N → Option N → Type 0) (Far : 
 
   pub calm_send_to : (settle : N → Value N → Act N (Unit {0})) → GoodSettler R settle → (m : Message N) → G m.id m.answer → (y : Value N) (p : Place N) → IsFarPlace p → Gentle R (refs.send_to K settle m y p)
   unfolding refs.send_to
-  calm_send_to settle good m g y Near f = calm_enqueue K G R law _
+  calm_send_to settle good m g y Near f = goes_enqueue K (CalmWith G) R law _
   calm_send_to settle good m g y (Mine n) f = calm_hold K G R law _ n g
   calm_send_to settle good m g y (Away h n o) f = passes m h n g f
-  calm_send_to settle good m g y (Gone p) f = calm_then K G R law (calm_tell K G R law _) (calm_some K G R law m.answer (λ a. good a (Broken p)) (calm_give K G R law tt))
+  calm_send_to settle good m g y (Gone p) f = goes_then K (CalmWith G) R law (goes_tell K (CalmWith G) R law _) (goes_some K (CalmWith G) R law m.answer (λ a. good a (Broken p)) (goes_give K (CalmWith G) R law tt))
 
   send_placed : (settle : N → Value N → Act N (Unit {0})) → GoodSettler R settle → (m : Message N) → G m.id m.answer → (s : Vat N) (y : Value N) (p : Place N) → place K s y ≡ p → GivesBy R s (refs.send_to K settle m y p s)
   send_placed settle good m g s y (Away h n o) e = minds.far s y h n o _ e (λ f. (calm_send_to settle good m g y (Away h n o) f).after s)
@@ -93,19 +93,19 @@ module _ {N W : Type 0} (K : Naming N W) (G : N → Option N → Type 0) (Far : 
 
   calm_settle_known : (settle : N → Value N → Act N (Unit {0})) → GoodSettler R settle → (p : N) (y : Value N) (k : Known N) → AllHeld k → Gentle R (refs.settle_known K settle p y k)
   unfolding refs.settle_known
-  calm_settle_known settle good p y k h = calm_then K G R law (calm_tell K G R law _) (calm_then K G R law (calm_settled K G R law y p) (calm_then K G R law (calm_each_of K G R law (λ (m : Message N). G m.id m.answer) k.held h (λ m g. calm_send_on settle good m g))
-      (calm_then K G R law (calm_each K G R law k.waiting (λ q. good q y)) (calm_then K G R law (calm_each K G R law k.reactions (λ m. calm_enqueue K G R law m)) (calm_each K G R law k.told (λ w. calm_inform K G R law p w))))))
+  calm_settle_known settle good p y k h = goes_then K (CalmWith G) R law (goes_tell K (CalmWith G) R law _) (goes_then K (CalmWith G) R law (calm_settled K G R law y p) (goes_then K (CalmWith G) R law (goes_each_of K (CalmWith G) R law (λ (m : Message N). G m.id m.answer) k.held h (λ m g. calm_send_on settle good m g))
+      (goes_then K (CalmWith G) R law (goes_each K (CalmWith G) R law k.waiting (λ q. good q y)) (goes_then K (CalmWith G) R law (goes_each K (CalmWith G) R law k.reactions (λ m. goes_enqueue K (CalmWith G) R law m)) (goes_each K (CalmWith G) R law k.told (λ w. calm_inform K G R law p w))))))
 
   calm_settle_standing : (settle : N → Value N → Act N (Unit {0})) → GoodSettler R settle → (p : N) (y : Value N) (k : Known N) (t : Standing N) → AllHeld k → Gentle R (refs.settle_standing K settle p y k t)
   unfolding refs.settle_standing
-  calm_settle_standing settle good p y k (Settled z) h = calm_give K G R law tt
+  calm_settle_standing settle good p y k (Settled z) h = goes_give K (CalmWith G) R law tt
   calm_settle_standing settle good p y k (Viewed q) h = calm_settle_known settle good p y k h
   calm_settle_standing settle good p y k (WaitsOn q) h = calm_settle_known settle good p y k h
   calm_settle_standing settle good p y k Unsettled h = calm_settle_known settle good p y k h
 
   settle_found : (settle : N → Value N → Act N (Unit {0})) → GoodSettler R settle → (p : N) (y : Value N) (s : Vat N) (o : Option (Known N)) → entry_of K s.known p ≡ o → GivesBy R s (refs.settle_entry K settle p y o s)
   unfolding refs.settle_entry
-  settle_found settle good p y s None e = (calm_give K G R law tt).after s
+  settle_found settle good p y s None e = (goes_give K (CalmWith G) R law tt).after s
   settle_found settle good p y s (Some k) e = minds.found s p k _ e (λ h. (calm_settle_standing settle good p y k k.standing h).after s)
 
   calm_settle_one : (settle : N → Value N → Act N (Unit {0})) → GoodSettler R settle → (p : N) (y : Value N) → Gentle R (refs.settle_one K settle p y)
@@ -148,7 +148,7 @@ module _ {N W : Type 0} (K : Naming N W) (G : N → Option N → Type 0) (Far : 
   -- a message whose target is not away
   calm_sends_here : (act : ℕ) (x y : Value N) (verb : Words) (args : List (Value N)) (p : Place N) (id : N) (a : Option N) (z : Value N) → G id a → IsFarPlace K G Far R law minds passes p
       → Gentle R (tell (Sends act (record { id = id; target = x; verb = verb; args = args; answer = a })) >> (refs.send_to K (refs.settle K) (record { id = id; target = y; verb = verb; args = args; answer = a }) y p >> give z))
-  calm_sends_here act x y verb args p id a z g f = calm_then K G R law (calm_tell K G R law _) (calm_then K G R law (calm_send_to K G Far R law minds passes (refs.settle K) (λ q z. calm_settle K G Far R law minds passes q z) _ g y p f) (calm_give K G R law _))
+  calm_sends_here act x y verb args p id a z g f = goes_then K (CalmWith G) R law (goes_tell K (CalmWith G) R law _) (goes_then K (CalmWith G) R law (calm_send_to K G Far R law minds passes (refs.settle K) (λ q z. calm_settle K G Far R law minds passes q z) _ g y p f) (goes_give K (CalmWith G) R law _))
 
   sent_placed : (act : ℕ) (x y : Value N) (verb : Words) (args : List (Value N)) (p : Place N) (s : Vat N) → GivesBy R s (Sending act s.number x y verb args p s)
   unfolding refs.send_first refs.answer_host

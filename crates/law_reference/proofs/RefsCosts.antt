@@ -1,7 +1,7 @@
 -- What is done with references makes known, of the names that were numbered, those that were not claimed.
 use Rattle.std.proofs.Common.{◌≡◌, ℕ, zero, suc, ◌+◌, ◌≤◌, Bool, true, false, List, [], ◌∷◌, ◌++◌, Option, Some, None, refl, sym, ◌∙◌, arith, ◌==◌, ◌&&◌}
 use Rattle.std.proofs.lemmas.Bool.{eqb-true, eq-eqb}
-use Rattle.def_machine.specs.Values.{Words, Value, Null, Flag, Number, Letter, Text, Prim, Broken, Items, Ref, Name, Root, Object, Promise, Answer, Gift, Sent, Msg, Spot, Own, Foreign, NoObject, Naming, IsAnswer, naming, name_of, mail_of, answer_of, spot_of, host_of, same_name, same_msg}
+use Rattle.def_machine.specs.Values.{Words, Value, Broken, Name, Root, Object, Promise, Answer, Gift, Sent, Msg, Naming, IsAnswer, naming, name_of, mail_of, answer_of, host_of, same_name, same_msg}
 use Rattle.def_machine.specs.State.{Message, Standing, Unsettled, WaitsOn, Viewed, Settled, Known, Settle, Passed, Passeds, Plain, AGift, Many, NoMore, More, Sends, Reacts, Settles, Lost, Happened, Vat, Act, ◌>>=◌, ◌>>◌, and_then, each, give, look, tell, enqueue, with_change, alter, new_message, begun, for_some, new_lone_message}
 use Rattle.def_machine.specs.Refs as refs
 use Rattle.def_machine.specs.Refs.{Place, Near, Mine, Away, Gone, entry_of}
@@ -9,49 +9,9 @@ use Rattle.law_machine.specs.Steps.{After}
 use Rattle.law_machine.proofs.Keeps.{Keeps}
 use Rattle.law_fate.proofs.Spares.{IsSparedUnder, keeps_give, keeps_each}
 use Rattle.law_reference.specs.Knowing.{once, one, onward, onward_all, numbered_at, Knowing}
+use Rattle.law_reference.proofs.Abroad.{away_abroad}
 use Rattle.law_reference.proofs.Claims.{Waits, settling_frees, claims_end, answers, answer_next, answer_at}
 use Rattle.law_reference.proofs.Costs.{Owes, free, spared, none, after_here, after_pays, costs_more, costs_then, costs_bind, bind_free, free_bind, free_then, then_free, free_tell, free_enqueue, free_out, free_react, costs_hold, costs_come, free_promise}
-
--- ---- a place that is away is at another vat
-
-foreign_where : (v w u i : ℕ) (b : Bool) → (v == u) ≡ b → elim b [ true ↦ Own i | false ↦ Foreign u ] ≡ Foreign w → (v == w) ≡ false
-foreign_where v w u i true e f = cc
-foreign_where v w u i false e f = let g : u ≡ w = cc in rw g at e
-
-foreign_abroad : (v w : ℕ) (n : Name) → spot_of v n ≡ Foreign w → (v == w) ≡ false
-unfolding spot_of
-foreign_abroad v w (Object u i) e = foreign_where v w u i (v == u) refl e
-foreign_abroad v w (Root u) e = cc
-foreign_abroad v w (Promise u i) e = cc
-foreign_abroad v w (Answer u m) e = cc
-foreign_abroad v w (Gift u i) e = cc
-foreign_abroad v w (Sent m) e = cc
-
-hosted_where : (u g h : ℕ) (n m : Name) (o b : Bool) → (u == g) ≡ b → elim b [ true ↦ Mine n | false ↦ Away g n false ] ≡ Away h m o → (u == h) ≡ false
-hosted_where u g h n m o true e f = cc
-hosted_where u g h n m o false e f = let i : g ≡ h = cc in rw i at e
-
-module _ (v : ℕ) (word : ℕ → ℕ) where
-  abbrev pub Mines : Naming Name Name
-  Mines = naming word v
-
-  spotted_abroad : (s : Vat Name) (n m : Name) (h : ℕ) (o : Bool) (p : Spot) → s.number ≡ v → spot_of v n ≡ p → refs.spotted Mines s n p ≡ Away h m o → (v == h) ≡ false
-  unfolding refs.spotted refs.hosted
-  spotted_abroad s n m h o (Own i) e f g = cc
-  spotted_abroad s n m h o (Foreign w) e f g = let i : w ≡ h = cc in rw i at (foreign_abroad v w n f)
-  spotted_abroad s n m h o NoObject e f g = rw e at (hosted_where s.number (refs.host_at Mines s.number s.known n) h n m o (s.number == refs.host_at Mines s.number s.known n) refl g)
-
-  pub away_abroad : (s : Vat Name) (y : Value Name) (h : ℕ) (m : Name) (o : Bool) → s.number ≡ v → refs.place Mines s y ≡ Away h m o → (v == h) ≡ false
-  unfolding refs.place naming
-  away_abroad s (Ref n) h m o e f = spotted_abroad s n m h o (spot_of v n) e refl f
-  away_abroad s (Broken p) h m o e f = cc
-  away_abroad s Null h m o e f = cc
-  away_abroad s (Flag b) h m o e f = cc
-  away_abroad s (Number z) h m o e f = cc
-  away_abroad s (Letter c) h m o e f = cc
-  away_abroad s (Text t) h m o e f = cc
-  away_abroad s (Prim n) h m o e f = cc
-  away_abroad s (Items k) h m o e f = cc
 
 -- ---- the answer at another host
 

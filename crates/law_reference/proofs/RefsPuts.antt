@@ -2,7 +2,7 @@
 use Rattle.std.proofs.Common.{◌≡◌, ℕ, zero, suc, Bool, true, false, List, [], ◌∷◌, ◌++◌, Option, Some, None, refl, sym, ◌∙◌, arith, if◌then◌else◌, ◌==◌}
 use Rattle.std.specs.Prelude.{nat_le}
 use Rattle.std.proofs.lemmas.Bool.{eq-eqb}
-use Rattle.def_machine.specs.Values.{Words, Value, Null, Flag, Number, Letter, Text, Prim, Broken, Items, Ref, Name, Root, Object, Promise, Answer, Gift, Sent, Spot, Own, Foreign, NoObject, Naming, naming, spot_of, key}
+use Rattle.def_machine.specs.Values.{Words, Value, Null, Flag, Number, Letter, Text, Prim, Broken, Items, Ref, Name, Naming, naming, key}
 use Rattle.def_machine.specs.State.{Message, Standing, Settled, Known, ToTell, Passed, Passeds, Plain, AGift, Many, NoMore, More, Deliver, Open, SettledTo, Put, Vat, Done, Gives, Throws, Ejects, Stops, Act, ◌>>=◌, ◌>>◌, and_then, give, look, spend, spent, draw, draws, drawn_at, send_out, alter, tell, Posted}
 use Rattle.def_machine.specs.Refs as refs
 use Rattle.def_machine.specs.Refs.{Place, Near, Mine, Away, Gone}
@@ -14,6 +14,7 @@ use Rattle.law_name.specs.Names.{IsAmong}
 use Rattle.law_fate.proofs.PlacesLast.{each_end}
 use Rattle.law_fate.proofs.Spares.{IsSparedUnder}
 use Rattle.law_reference.specs.GiftPassing.{gifts_in, gifts_in_all, gifts_in_note, IsProvidedBy, PassesFrom, AllPassFrom, Provides}
+use Rattle.law_reference.proofs.Abroad.{away_abroad}
 use Rattle.law_reference.proofs.Puts.{AllStay, PutsOn, Puts, Fair, Nothing, PutTells, same, then_puts, first_fair, less_fair, fair_trans, spared, drawn_after, key_provided, next_draw, out_end, drawn_up, passes_up, fair}
 
 -- ---- what is followed is no gift yet
@@ -72,25 +73,6 @@ module _ (K : Naming Name Name) where
   unfolding refs.parcel
   parcel_unmade s x = at_unmade s (refs.follow K s x)
 
--- ---- a place that is away is at another vat
-
-foreign_where : (v w u i : ℕ) (b : Bool) → (v == u) ≡ b → elim b [ true ↦ Own i | false ↦ Foreign u ] ≡ Foreign w → (v == w) ≡ false
-foreign_where v w u i true e f = cc
-foreign_where v w u i false e f = let g : u ≡ w = cc in rw g at e
-
-foreign_abroad : (v w : ℕ) (n : Name) → spot_of v n ≡ Foreign w → (v == w) ≡ false
-unfolding spot_of
-foreign_abroad v w (Object u i) e = foreign_where v w u i (v == u) refl e
-foreign_abroad v w (Root u) e = cc
-foreign_abroad v w (Promise u i) e = cc
-foreign_abroad v w (Answer u m) e = cc
-foreign_abroad v w (Gift u i) e = cc
-foreign_abroad v w (Sent m) e = cc
-
-hosted_where : (u g h : ℕ) (n m : Name) (o b : Bool) → (u == g) ≡ b → elim b [ true ↦ Mine n | false ↦ Away g n false ] ≡ Away h m o → (u == h) ≡ false
-hosted_where u g h n m o true e f = cc
-hosted_where u g h n m o false e f = let i : g ≡ h = cc in rw i at e
-
 true_false : true ≡ false → ⊥
 true_false e = cc
 
@@ -100,24 +82,6 @@ module _ (v : ℕ) (d0 : List ℕ) (F : ℕ → ℕ) (fresh : (x : ℕ) → (IsA
 
   abbrev R : Vat Name → Vat Name → Type 0
   R = Fair v d0 F
-
-  spotted_abroad : (s : Vat Name) (n m : Name) (h : ℕ) (o : Bool) (p : Spot) → s.number ≡ v → spot_of v n ≡ p → refs.spotted K s n p ≡ Away h m o → (v == h) ≡ false
-  unfolding refs.spotted refs.hosted
-  spotted_abroad s n m h o (Own i) e f g = cc
-  spotted_abroad s n m h o (Foreign w) e f g = let i : w ≡ h = cc in rw i at (foreign_abroad v w n f)
-  spotted_abroad s n m h o NoObject e f g = rw e at (hosted_where s.number (refs.host_at K s.number s.known n) h n m o (s.number == refs.host_at K s.number s.known n) refl g)
-
-  away_abroad : (s : Vat Name) (y : Value Name) (h : ℕ) (m : Name) (o : Bool) → s.number ≡ v → refs.place K s y ≡ Away h m o → (v == h) ≡ false
-  unfolding refs.place naming
-  away_abroad s (Ref n) h m o e f = spotted_abroad s n m h o (spot_of v n) e refl f
-  away_abroad s (Broken p) h m o e f = cc
-  away_abroad s Null h m o e f = cc
-  away_abroad s (Flag b) h m o e f = cc
-  away_abroad s (Number z) h m o e f = cc
-  away_abroad s (Letter c) h m o e f = cc
-  away_abroad s (Text t) h m o e f = cc
-  away_abroad s (Prim n) h m o e f = cc
-  away_abroad s (Items k) h m o e f = cc
 
   apart : (h : ℕ) → (v == h) ≡ false → h ≡ v → ⊥
   apart h e i = true_false (sym (eq-eqb v h (sym i)) ∙ e)
@@ -196,7 +160,7 @@ module _ (v : ℕ) (d0 : List ℕ) (F : ℕ → ℕ) (fresh : (x : ℕ) → (IsA
 
   place_given : (w : ℕ) (y : Value Name) (s : Vat Name) (p : Place Name) → refs.place K s y ≡ p → Yields In (Ok w) s (refs.address_plain K w y p s)
   unfolding refs.address_plain give
-  place_given w y s (Away h n o) e = away_given w h n y s (h == w) (λ f. away_abroad s y h n o f e) refl
+  place_given w y s (Away h n o) e = away_given w h n y s (h == w) (λ f. away_abroad v word s y h n o f e) refl
   place_given w y s (Mine n) e = told_plain w n y s
   place_given w y s Near e = plain w s y
   place_given w y s (Gone t) e = plain w s y

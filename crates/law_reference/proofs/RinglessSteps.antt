@@ -1,11 +1,10 @@
 -- Where a vat knows no name twice, no step of it closes a ring of waits and views.
 use Rattle.std.proofs.Common.{◌≡◌, ℕ, zero, suc, Bool, true, false, List, [], ◌∷◌, ◌++◌, Option, Some, None, refl, sym, ap, ◌∙◌, length, if◌then◌else◌, ◌==◌}
 use Rattle.std.specs.Prelude.{codes}
-use Rattle.std.proofs.lemmas.Bool.{eq-eqb}
-use Rattle.def_machine.specs.Values.{Value, Null, Flag, Number, Letter, Text, Prim, Broken, Items, Ref, Name, Root, Object, Sent, Answer, Promise, Gift, Msg, Spot, Own as OwnThing, Foreign, NoObject, Naming, naming, name_of, answer_of, mail_of, spot_of, host_of, IsAnswer, IsGift, IsLearnt, IsCarried, key, under}
+use Rattle.def_machine.specs.Values.{Value, Broken, Name, Root, Object, Sent, Answer, Promise, Gift, Msg, Naming, naming, name_of, answer_of, mail_of, host_of, IsAnswer, IsGift, IsLearnt, IsCarried, key, under}
 use Rattle.def_machine.specs.State.{Binding, Message, Known, See, Ask, Shorten, Note, Deliver, Open, SettledTo, Elsewhere, GiftEntry, Put, Vat, Done, Gives, Throws, Ejects, Stops, Act, ◌>>=◌, ◌>>◌, and_then, give, look, tell, alter, come, draw, draws, drawn_at, send_out, new_gift, new_message, mark, begun, is_in, new_lone_message}
 use Rattle.def_machine.specs.Refs as refs
-use Rattle.def_machine.specs.Refs.{Place, Mine, Away, host_at, hosted, place, spotted}
+use Rattle.def_machine.specs.Refs.{host_at}
 use Rattle.def_machine.specs.Arrive as arrive
 use Rattle.def_machine.specs.Arrive.{Old, New}
 use Rattle.def_machine.specs.Eval as eval
@@ -16,13 +15,13 @@ use Rattle.law_name.specs.Names.{WasDrawn, AllOf, IsAmong, IsKnownIn, IsMessageN
 use Rattle.law_name.proofs.Among.{among_last, names_end, key_not_drawn}
 use Rattle.law_name.proofs.SameNames.{old_known, reference_is}
 use Rattle.law_name.proofs.Tracked.{known_among}
-use Rattle.law_reference.proofs.Gentle.{AfterGives, GivesBy, Gentle, gives_by, gives_map}
-use Rattle.law_reference.proofs.TurnsGentle.{IsFree}
-use Rattle.law_reference.proofs.Calm.{IsCalm, calm, widen}
+use Rattle.law_reference.proofs.Gentle.{AfterGives, GivesBy, Gentle, widen, gives_by, gives_map}
+use Rattle.law_reference.proofs.Abroad.{away_apart}
+use Rattle.law_reference.proofs.Calm.{IsCalm, CalmWith}
 use Rattle.law_reference.proofs.Owned.{IsOwnPair, IsOther, HoldsOwn, Owned, owned_begun, found_held}
 use Rattle.law_reference.proofs.RefsCalm.{Minds, PassesBy, WaitsBy, calm_settle}
-use Rattle.law_reference.proofs.ArriveCalm.{AnswersHere, calm_arrive_deliver, calm_arrive_open, calm_arrive_ask, calm_arrive_settled, calm_arrive_shorten, calm_notice_name, calm_notice_gift}
-use Rattle.law_reference.proofs.TurnsCalm.{calm_taking, calm_opening}
+use Rattle.law_reference.proofs.StepsGo.{Refers, IsFree, goes_arrive_open, goes_arrive_ask, goes_arrive_settled, goes_arrive_shorten, goes_notice, goes_taking, goes_opening}
+use Rattle.law_reference.proofs.StepsCalm.{AnswersHere, calm_refers, calm_arrive_deliver}
 use Rattle.law_reference.proofs.WaitRingless.{StepIn, Linked, AnswersDiffer, once_last, less_same, new_linked, owned_linked, edge_see, step_law, step_passes, step_waits}
 
 -- what a note delivers is named as a message
@@ -61,59 +60,22 @@ module _ (word : ℕ → ℕ) (v : ℕ) where
   with_owned s (Ejects n y t) f = tt
   with_owned s (Stops c t) f = tt
 
-  -- ---- what is away is of another vat
-
-  other_spot : (b : Bool) (w i h : ℕ) → (v == w) ≡ b → ◌≡◌ {A = Spot} (elim b [ true ↦ OwnThing i | false ↦ Foreign w ]) (Foreign h) → h ≡ v → ⊥
-  other_spot true w i h t e f = cc
-  other_spot false w i h t e f = let same : w ≡ h = cc in let yes : (v == w) ≡ true = eq-eqb v w (sym f ∙ sym same) in cc
-
-  foreign_other : (n : Name) (h : ℕ) → Names.spot n ≡ Foreign h → h ≡ v → ⊥
-  unfolding naming spot_of
-  foreign_other (Object w i) h e f = other_spot (v == w) w i h refl e f
-  foreign_other (Root w) h e f = cc
-  foreign_other (Promise w i) h e f = cc
-  foreign_other (Answer w m) h e f = cc
-  foreign_other (Gift w i) h e f = cc
-  foreign_other (Sent m) h e f = cc
-
-  hosted_other : (b : Bool) (u w h : ℕ) (n m : Name) (o : Bool) → (u == w) ≡ b → ◌≡◌ {A = Place Name} (elim b [ true ↦ Mine n | false ↦ Away w n false ]) (Away h m o) → u ≡ h → ⊥
-  hosted_other true u w h n m o t e f = cc
-  hosted_other false u w h n m o t e f = let same : w ≡ h = cc in let yes : (u == w) ≡ true = eq-eqb u w (f ∙ sym same) in cc
-
-  spotted_other : (s : Vat Name) (n m : Name) (h : ℕ) (o : Bool) (t : Spot) → s.number ≡ v → Names.spot n ≡ t → spotted Names s n t ≡ Away h m o → h ≡ v → ⊥
-  unfolding spotted hosted
-  spotted_other s n m h o (OwnThing i) u g e f = cc
-  spotted_other s n m h o (Foreign w) u g e f = let same : w ≡ h = cc in foreign_other n w g (same ∙ f)
-  spotted_other s n m h o NoObject u g e f = hosted_other (s.number == host_at Names s.number s.known n) s.number (host_at Names s.number s.known n) h n m o refl e (u ∙ sym f)
-
-  away_other : (s : Vat Name) (y : Value Name) (m : Name) (h : ℕ) (o : Bool) → s.number ≡ v → place Names s y ≡ Away h m o → h ≡ v → ⊥
-  unfolding place
-  away_other s (Ref n) m h o u e f = spotted_other s n m h o (Names.spot n) u refl e f
-  away_other s (Broken p) m h o u e f = cc
-  away_other s Null m h o u e f = cc
-  away_other s (Flag b) m h o u e f = cc
-  away_other s (Number z) m h o u e f = cc
-  away_other s (Letter c) m h o u e f = cc
-  away_other s (Text t) m h o u e f = cc
-  away_other s (Prim i) m h o u e f = cc
-  away_other s (Items i) m h o u e f = cc
-
   -- ---- new messages
 
   new_sent : (s : Vat Name) (f : Name × Name → Act Name (Value Name)) → ((i a : Name) → Good i (Some a) → Gentle By (f (i, a))) → GivesBy By s ((new_message Names s.number >>= f) s)
   unfolding ◌>>=◌ new_message and_then naming mail_of name_of answer_of host_of
   new_sent s f g = with_owned s _ (λ o. let m : Msg = record { sender = v; number = s.messages } in let t : Vat Name = record s { messages = suc s.messages; mails = s.mails ++ Sent m ∷ []; known = s.known ++ begun (Answer s.number m) s.number ∷ [] } in
-      widen Names Good By law {s = s} {t = t} (law.messaged s s.number (Sent m)) (f (Sent m, Answer s.number m) t) ((g (Sent m) (Answer s.number m) (tt, o.0)).after t))
+      widen Names (CalmWith Good) By law {s = s} {t = t} (law.messaged s s.number (Sent m)) (f (Sent m, Answer s.number m) t) ((g (Sent m) (Answer s.number m) (tt, o.0)).after t))
 
   new_lone : (s : Vat Name) (f : Name → Act Name (Value Name)) → ((i : Name) → Good i None → Gentle By (f i)) → GivesBy By s ((new_lone_message Names >>= f) s)
   unfolding ◌>>=◌ new_lone_message and_then naming mail_of
   new_lone s f g = let m : Msg = record { sender = v; number = s.messages } in let t : Vat Name = record s { messages = suc s.messages; mails = s.mails ++ Sent m ∷ [] } in
-      widen Names Good By law {s = s} {t = t} (law.lone s (Sent m)) (f (Sent m) t) ((g (Sent m) (tt, tt)).after t)
+      widen Names (CalmWith Good) By law {s = s} {t = t} (law.lone s (Sent m)) (f (Sent m) t) ((g (Sent m) (tt, tt)).after t)
 
   minds : Minds Names Good (IsOther v) By
   minds = record {
     found = λ s p k d e f. with_owned s d (λ o. f (found_held v Names s.known p k o.1 e));
-    far = λ s y h n o d e f. with_owned s d (λ w. f (away_other s y n h o w.0 e));
+    far = λ s y h n o d e f. with_owned s d (λ w. f (away_apart v word s y h n o w.0 e));
     sent = new_sent;
     lone = new_lone;
   }
@@ -140,11 +102,14 @@ module _ (word : ℕ → ℕ) (v : ℕ) where
   carried : (m : Name) → IsMessageName m → AnswersHere Names Good (IsOther v) By law minds passes waits m
   unfolding ◌>>=◌ come and_then naming mail_of name_of
   carried m i s k f g = with_owned s _ (λ o. let a : Name = answer_of s.number m in let t : Vat Name = record s { known = s.known ++ begun a s.number ∷ [] } in
-      widen Names Good By law {s = s} {t = t} (law.came s (IsAnswer s.number m) s.number) (f a t) ((g a (i, answer_host s.number m i ∙ o.0)).after t))
+      widen Names (CalmWith Good) By law {s = s} {t = t} (law.came s (IsAnswer s.number m) s.number) (f a t) ((g a (i, answer_host s.number m i ∙ o.0)).after t))
 
   carried_lone : (m : Name) → IsMessageName m → (k : ℕ) → Good (Names.mailed (IsCarried m) k) None
   unfolding naming mail_of
   carried_lone m i k = (i, tt)
+
+  refers : Refers Names By
+  refers = calm_refers Names Good (IsOther v) By law minds passes waits
 
   free : IsFree By
   free = record { activations = λ s. law.same s; thing = λ s x. law.same s; killed = λ s n. law.same s; slot = λ s c. law.same s; written = λ s n x. law.same s }
@@ -158,22 +123,14 @@ module _ (word : ℕ → ℕ) (v : ℕ) where
   unfolding mark
   marked w = record { after = law.same }
 
-  calm_notice_all : (w : ℕ) → Gentle By (arrive.notice_all Names w)
-  unfolding arrive.notice_all
-  calm_notice_all w = search (calm, marked, calm_notice_name, calm_notice_gift, law, minds, passes, waits) depth 14
-
-  calm_notice : (w : ℕ) → Gentle By (arrive.notice Names w)
-  unfolding arrive.notice
-  calm_notice w = search (calm, calm_notice_all, law) depth 14
-
   pub ring_taking : (tree : List Node) (depth : ℕ) (m : Message Name) (s : Vat Name) → AfterGives (By s) (eval.taking Names tree depth m s)
-  ring_taking tree depth m s = after_calm (eval.taking Names tree depth m) s (calm_taking Names Good (IsOther v) By law minds passes waits free tree depth m)
+  ring_taking tree depth m s = after_calm (eval.taking Names tree depth m) s (goes_taking Names (CalmWith Good) By law refers free tree depth m)
 
   pub ring_opening : (tree : List Node) (depth : ℕ) (root : Name) (given : List (Binding Name)) (s : Vat Name) → AfterGives (By s) (eval.opening Names tree depth root given s)
-  ring_opening tree depth root given s = after_calm (eval.opening Names tree depth root given) s (calm_opening Names Good (IsOther v) By law minds passes waits free tree depth root given)
+  ring_opening tree depth root given s = after_calm (eval.opening Names tree depth root given) s (goes_opening Names (CalmWith Good) By law refers free tree depth root given)
 
   pub ring_notice : (w : ℕ) (s : Vat Name) → AfterGives (By s) (arrive.notice Names w s)
-  ring_notice w s = after_calm (arrive.notice Names w) s (calm_notice w)
+  ring_notice w s = after_calm (arrive.notice Names w) s (goes_notice Names (CalmWith Good) By law refers marked w)
 
   -- ---- the news that a name settled elsewhere
 
@@ -238,8 +195,8 @@ module _ (word : ℕ → ℕ) (v : ℕ) where
   pub ring_arrive : (from : ℕ) (ks : List Name) (n : Note Name) (s : Vat Name) → ks ≡ names_in s.known → NamesMail n → NoGiftNext s → AfterGives (By s) (arrive.arrive Names from (world.read_note ks n) s)
   unfolding arrive.arrive world.read_note world.read_name
   ring_arrive from ks (Deliver d n verb ys) s e mail new = after_calm _ s (calm_arrive_deliver Names Good (IsOther v) By law minds passes waits from _ _ d.asks (carried d.message mail) (λ k. carried_lone d.message mail k) _ verb _)
-  ring_arrive from ks (Open i n) s e mail new = after_calm _ s (calm_arrive_open Names Good (IsOther v) By law minds passes waits from i _)
-  ring_arrive from ks (Ask p i n) s e mail new = after_calm _ s (calm_arrive_ask Names Good (IsOther v) By law minds passes waits from p i)
-  ring_arrive from ks (SettledTo n y) s e mail new = after_calm _ s (calm_arrive_settled Names Good (IsOther v) By law minds passes waits from _ _)
+  ring_arrive from ks (Open i n) s e mail new = after_calm _ s (goes_arrive_open Names (CalmWith Good) By law refers from i _)
+  ring_arrive from ks (Ask p i n) s e mail new = after_calm _ s (goes_arrive_ask Names (CalmWith Good) By law refers from p i)
+  ring_arrive from ks (SettledTo n y) s e mail new = after_calm _ s (goes_arrive_settled Names (CalmWith Good) By law refers from _ _)
   ring_arrive from ks (Elsewhere n c) s e mail new = either_old n c s (world.is_old ks n) (ap (λ ns. world.is_old ns n) (sym e)) new
-  ring_arrive from ks (Shorten n c i) s e mail new = after_calm _ s (calm_arrive_shorten Names Good (IsOther v) By law minds passes waits _ i)
+  ring_arrive from ks (Shorten n c i) s e mail new = after_calm _ s (goes_arrive_shorten Names (CalmWith Good) By law refers _ i)

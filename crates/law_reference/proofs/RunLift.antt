@@ -25,8 +25,13 @@ put_at_or (suc v) y (x ∷ xs) (suc u) t e = go (put_at_or v y xs u t e)
     go (inl h) = inl (ap suc h.0, h.1)
     go (inr h) = inr h
 
-going_is : (w x : World) → Going w ≡ Going x → w ≡ x
+pub going_is : (w x : World) → Going w ≡ Going x → w ≡ x
 going_is w x e = cc
+
+-- the vat that goes on, and the others
+pub put_one : (A : ℕ → Vat Name → Type 0) (v : ℕ) (vats : List (Vat Name)) (t : Vat Name) → A v t → ((u : ℕ) (r : Vat Name) → slice_get vats u ≡ Some r → A u r) → (u : ℕ) (r : Vat Name) → ((u ≡ v) × (t ≡ r)) ⊎ (slice_get vats u ≡ Some r) → A u r
+put_one A v vats t k h u r (inl e) = let one : A u t = rw (sym e.0) at k in rw e.1 at one
+put_one A v vats t k h u r (inr e) = h u r e
 
 either_link : (P : Link → Type 0) (b : Bool) (l : Link) (o : Option Link) → P l → MayBe P o → MayBe P (elim b [ true ↦ Some l | false ↦ o ])
 either_link P true l o h i = h
@@ -74,13 +79,9 @@ module _ (script : Script) (P : ℕ → Vat Name → Type 0) (Allowed : ℕ → 
     moved : (w x : World) → InVats w → Going w ≡ Going x → InVats x
     moved w x h e = rw (going_is w x e) at h
 
-    put_one : (w : World) (v : ℕ) (t : Vat Name) → InVats w → P v t → (u : ℕ) (r : Vat Name) → ((u ≡ v) × (t ≡ r)) ⊎ (slice_get w.vats u ≡ Some r) → P u r
-    put_one w v t h k u r (inl e) = let one : P u t = rw (sym e.0) at k in rw e.1 at one
-    put_one w v t h k u r (inr e) = h u r e
-
     put_back_keeps : (w x : World) (v : ℕ) (head : List Event) (n : ℕ) (d : Done Name (Unit {0})) → InVats w → AfterGives (P v) d → world.put_back v w head n d ≡ Going x → InVats x
     unfolding world.put_back
-    put_back_keeps w x v head n (Gives a t) h k i = moved (record { fuel = t.fuel; drawn = t.drawn; vats = put_at v t w.vats; links = world.push_all v t.outbox w.links; connections = world.connections_after v t head w.connections; history = w.history ++ head ++ world.events_of w.links v t.happened }) x (λ u r e. put_one w v t h k u r (put_at_or v t w.vats u r e)) i
+    put_back_keeps w x v head n (Gives a t) h k i = moved (record { fuel = t.fuel; drawn = t.drawn; vats = put_at v t w.vats; links = world.push_all v t.outbox w.links; connections = world.connections_after v t head w.connections; history = w.history ++ head ++ world.events_of w.links v t.happened }) x (λ u r e. put_one P v w.vats t k h u r (put_at_or v t w.vats u r e)) i
     put_back_keeps w x v head n (Throws p t) h k i = cc
     put_back_keeps w x v head n (Ejects m y t) h k i = cc
     put_back_keeps w x v head n (Stops c t) h k i = cc

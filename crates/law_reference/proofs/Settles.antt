@@ -1,5 +1,5 @@
 -- What settles is settled, and what waits on it settles with it.
-use Rattle.std.proofs.Common.{◌≡◌, ℕ, zero, suc, List, [], ◌∷◌, ◌++◌, Option, Some, None, refl, sym, inl, inr}
+use Rattle.std.proofs.Common.{◌≡◌, ℕ, zero, suc, List, [], ◌∷◌, ◌++◌, Option, Some, None, refl, sym, inl, inr, length}
 use Rattle.def_machine.specs.Values.{Value, Naming}
 use Rattle.def_machine.specs.State.{Message, Standing, Unsettled, WaitsOn, Viewed, Settled, Known, Settle, Settles as Told, Vat, Act, ◌>>=◌, ◌>>◌, and_then, each, give, stop, look, tell, enqueue, alter, with_change, changed, changed_to, unless_settled}
 use Rattle.def_machine.specs.Refs as refs
@@ -139,3 +139,7 @@ module _ {N W : Type 0} (K : Naming N W) where
   unfolding refs.settle_at refs.settle_one ◌>>=◌ look and_then stop
   settling zero q y s h = tt
   settling (suc d) q y s h = entry_settles (λ p z. refs.settle_at K d p z) (lasting d) q (refs.target_of K s q y) h.0 (entry_of K s.known q) s h.1 h.1
+
+  pub settle_settles : (p : N) (y : Value N) (s : Vat N) → Knows K s.known p → AfterGives (IsSettled p) (refs.settle K p y s)
+  unfolding refs.settle ◌>>=◌ look and_then
+  settle_settles p y s h = settling (suc (suc (length s.known))) p y s h

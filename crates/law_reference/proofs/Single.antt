@@ -20,7 +20,8 @@ use Rattle.law_name.proofs.Run.{Told}
 use Rattle.law_reference.proofs.RunLift.{link_ok}
 use Rattle.law_reference.specs.Behind.{Avoids, NamesNot, IsKnownTo as KnowsIn}
 use Rattle.law_reference.proofs.First.{among_dec}
-use Rattle.law_reference.proofs.Follow.{eq_dec, knows_not}
+use Rattle.law_reference.proofs.Follow.{eq_dec}
+use Rattle.law_reference.proofs.Unnamed.{not_named}
 use Rattle.law_reference.proofs.FollowRuns.{tail_of}
 use Rattle.law_reference.proofs.Telling.{has, has_true, tells, mails, note_tells, note_not, brings_parts, here_most, avoids_never, NeverNew}
 use Rattle.law_reference.proofs.Places.{total_at, link_total, held_places}
@@ -212,7 +213,7 @@ module _ (script : Script) (w : World) (b : Before script w) (h : Legs w.vats w.
       where
         by_sender : (u : Vat Name) → slice_get w.vats a ≡ Some u → IsAmong X (names_in u.known) ⊎ (IsAmong X (names_in u.known) → ⊥) → Bound
         by_sender u e (inl i) = let f = full (known_made script w (stands_of script w b) m a g u e i) in let held = (h.apart m v g a u far e i).0 s there in let c = claims_held v g m s.known (mailed_at script w (stands_of script w b) v s there) k in let j = by_mail in let o = once_told in let p = parts in inl (omega arith)
-        by_sender u e (inr i) = let holds = b.holds in let f = not_told (note_up (KnowsIn u) (Avoids X) (knows_not g m u i) n (tail_of (NoteOk (KnowsIn u)) l l n ns (holds.0 a v u e l at) refl notes).0) in let c = single v s there g m in let j = by_mail in let p = parts in inl (omega arith)
+        by_sender u e (inr i) = let holds = b.holds in let f = not_told (not_named X u i n (tail_of (NoteOk (KnowsIn u)) l l n ns (holds.0 a v u e l at) refl notes).0) in let c = single v s there g m in let j = by_mail in let p = parts in inl (omega arith)
 
     -- and where it comes
     comes_nowhere : 1 ≤ of_note M n → ((z : ℕ) (r : Vat Name) → slice_get w.vats z ≡ Some r → IsAmong X (names_in r.known) → ⊥) → Bound

@@ -1,5 +1,5 @@
 -- In every step what is viewed waits on its view.
-use Rattle.std.proofs.Common.{◌≡◌, ℕ, Bool, true, false, List, [], ◌∷◌, ◌++◌, Option, Some, None, refl, ◌∙◌, length, if◌then◌else◌}
+use Rattle.std.proofs.Common.{◌≡◌, ℕ, Bool, true, false, List, [], ◌∷◌, ◌++◌, Option, Some, None, refl, ◌∙◌, if◌then◌else◌}
 use Rattle.std.specs.Prelude.{codes}
 use Rattle.def_machine.specs.Values.{Broken, Name, Gift, Naming, naming, name_of, host_of, same_reference}
 use Rattle.def_machine.specs.State.{Binding, Message, Unsettled, Known, Note, Deliver, Open, Ask, SettledTo, Elsewhere, Shorten, Vat, Act, ◌>>=◌, and_then, give, look, mark, come, begun, is_in}
@@ -12,10 +12,11 @@ use Rattle.def_kernel.specs.declared.node.Node.{Node}
 use Rattle.def_run.specs.World as world
 use Rattle.law_name.specs.Names.{WasDrawn}
 use Rattle.law_reference.specs.Views.{ViewsWait}
-use Rattle.law_reference.proofs.Gentle.{AfterGives, Gentle, IsGentle, gentle, gives_by}
+use Rattle.law_reference.proofs.Entries.{Mild}
+use Rattle.law_reference.proofs.Gentle.{AfterGives, Gentle, IsGentle, gives_by}
 use Rattle.law_reference.proofs.RefsGentle.{SettlesBy, gentle_settle}
-use Rattle.law_reference.proofs.TurnsGentle.{IsFree, gentle_taking, gentle_opening}
-use Rattle.law_reference.proofs.ArriveGentle.{gentle_arrive_deliver, gentle_arrive_open, gentle_arrive_ask, gentle_arrive_settled, gentle_arrive_shorten, gentle_notice_name, gentle_notice_gift}
+use Rattle.law_reference.proofs.StepsGentle.{gentle_refers, gentle_arrive_deliver, gentle_taking, gentle_opening}
+use Rattle.law_reference.proofs.StepsGo.{Refers, IsFree, goes_arrive_open, goes_arrive_ask, goes_arrive_settled, goes_arrive_shorten, goes_notice}
 use Rattle.law_reference.proofs.ViewsGo.{ViewsGo, go_same, go_append, entry_last, views_gentle, settles_views}
 use Rattle.law_reference.proofs.ViewsMade.{GiftsAreNew, views_there}
 use Rattle.law_name.proofs.SameNames.{reference_is}
@@ -37,6 +38,9 @@ module _ (word : ℕ → ℕ) (v : ℕ) where
   block : SettlesBy Names (ViewsGo Names)
   block = settles_views Names
 
+  refers : Refers Names (ViewsGo Names)
+  refers = gentle_refers Names (ViewsGo Names) law block
+
   free : IsFree (ViewsGo Names)
   free = record { activations = λ s. go_same Names s.known; thing = λ s x. go_same Names s.known; killed = λ s n. go_same Names s.known; slot = λ s c. go_same Names s.known; written = λ s n x. go_same Names s.known }
 
@@ -45,14 +49,6 @@ module _ (word : ℕ → ℕ) (v : ℕ) where
   marked : (w : ℕ) → Gentle (ViewsGo Names) (mark w)
   unfolding mark
   marked w = record { after = λ s. go_same Names s.known }
-
-  gentle_notice_all : (w : ℕ) → Gentle (ViewsGo Names) (arrive.notice_all Names w)
-  unfolding arrive.notice_all
-  gentle_notice_all w = search (gentle, marked, gentle_notice_name, gentle_notice_gift, law, block) depth 14
-
-  gentle_notice : (w : ℕ) → Gentle (ViewsGo Names) (arrive.notice Names w)
-  unfolding arrive.notice
-  gentle_notice w = search (gentle, gentle_notice_all, law) depth 14
 
   -- ---- the views of the state after
 
@@ -69,7 +65,7 @@ module _ (word : ℕ → ℕ) (v : ℕ) where
   views_opening tree depth root given s views = after_gentle (eval.opening Names tree depth root given) s (gentle_opening Names (ViewsGo Names) law block free tree depth root given) views
 
   pub views_notice : (w : ℕ) (s : Vat Name) → Good s → AfterGives Good (arrive.notice Names w s)
-  views_notice w s views = after_gentle (arrive.notice Names w) s (gentle_notice w) views
+  views_notice w s views = after_gentle (arrive.notice Names w) s (goes_notice Names Mild (ViewsGo Names) law refers marked w) views
 
   -- ---- the news that a name settled elsewhere
 
@@ -113,8 +109,8 @@ module _ (word : ℕ → ℕ) (v : ℕ) where
   pub views_arrive : (from : ℕ) (ks : List Name) (n : Note Name) (s : Vat Name) → Good s → GiftsAreNew word v s → TellsNoNewGift s n → AfterGives Good (arrive.arrive Names from (world.read_note ks n) s)
   unfolding arrive.arrive world.read_note world.read_name
   views_arrive from ks (Deliver m n verb ys) s views new other = after_gentle _ s (gentle_arrive_deliver Names (ViewsGo Names) law block from _ _ verb _) views
-  views_arrive from ks (Open i n) s views new other = after_gentle _ s (gentle_arrive_open Names (ViewsGo Names) law block from i _) views
-  views_arrive from ks (Ask p i n) s views new other = after_gentle _ s (gentle_arrive_ask Names (ViewsGo Names) law block from p i) views
-  views_arrive from ks (SettledTo n y) s views new other = after_gentle _ s (gentle_arrive_settled Names (ViewsGo Names) law block from _ _) views
+  views_arrive from ks (Open i n) s views new other = after_gentle _ s (goes_arrive_open Names Mild (ViewsGo Names) law refers from i _) views
+  views_arrive from ks (Ask p i n) s views new other = after_gentle _ s (goes_arrive_ask Names Mild (ViewsGo Names) law refers from p i) views
+  views_arrive from ks (SettledTo n y) s views new other = after_gentle _ s (goes_arrive_settled Names Mild (ViewsGo Names) law refers from _ _) views
   views_arrive from ks (Elsewhere n c) s views new other = either_old n c s (world.is_old ks n) views new other
-  views_arrive from ks (Shorten n c i) s views new other = after_gentle _ s (gentle_arrive_shorten Names (ViewsGo Names) law block _ i) views
+  views_arrive from ks (Shorten n c i) s views new other = after_gentle _ s (goes_arrive_shorten Names Mild (ViewsGo Names) law refers _ i) views

@@ -221,7 +221,7 @@ module _ (K : Naming Name Name) (is : (a b : Name) → K.same a b ≡ true → a
       gift = λ s g. still s;
       opened = λ s p i. still s;
       drawn = λ s w. still s;
-      altered = λ s c n calm g. (less_changed c calm n s.known, λ o. (o.0, owned_changed v K c n s.known g o.1));
+      altered = λ s c n i. (less_changed c i.0 n s.known, λ o. (o.0, owned_changed v K c n s.known i.1 o.1));
       came = λ s c h. (less_begun s.known _ h, λ o. (o.0, owned_begun v s.known _ h o.1));
       mailed = λ s c. still s;
       lone = λ s id. still s;
@@ -241,7 +241,7 @@ module _ (K : Naming Name Name) (is : (a b : Name) → K.same a b ≡ true → a
       gift = λ s g o. (o, stays s.known);
       opened = λ s p i o. (o, stays s.known);
       drawn = λ s w o. (o, stays s.known);
-      altered = λ s c n calm g o. ((o.0, owned_changed v K c n s.known g o.1), less_step s.known _ (less_changed c calm n s.known));
+      altered = λ s c n i o. ((o.0, owned_changed v K c n s.known i.1 o.1), less_step s.known _ (less_changed c i.0 n s.known));
       came = λ s c h o. ((o.0, owned_begun v s.known _ h o.1), less_step s.known _ (less_begun s.known _ h));
       mailed = λ s c o. (o, stays s.known);
       lone = λ s id o. (o, stays s.known);

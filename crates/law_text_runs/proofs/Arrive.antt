@@ -1,6 +1,6 @@
 -- What arrives, and what a notice does.
 use Rattle.law_kernel_form.specs.Trees.{IsInt}
-use Rattle.std.proofs.Common.{ℕ, Bool, true, false, List, [], ◌∷◌, Option, Some, None, ◌==◌, refl, codes}
+use Rattle.std.proofs.Common.{◌≡◌, ℕ, zero, suc, Bool, true, false, List, [], ◌∷◌, Option, Some, None, ◌==◌, refl, codes}
 use Rattle.std.specs.Char.{IsScalar}
 use Rattle.def_machine.specs.Values.{Words, Value, Null, Flag, Number, Letter, Text, Prim, Broken, Items, Ref, Name, Root, Object, Promise, Answer, Gift, Sent, IsAnswer, IsGift, IsLearnt, IsCarried, Naming, naming, name_of, mail_of, host_of, under}
 use Rattle.def_machine.specs.State.{Message, Standing, Unsettled, WaitsOn, Viewed, Settled, Known, Wait, See, ToTell, Passed, Passeds, Plain, AGift, Many, NoMore, More, Delivery, Note, Deliver, Open, Ask, SettledTo, Elsewhere, Shorten, GiftEntry, ListCame, Views, WhereSome, each, is_gift}
@@ -10,7 +10,7 @@ use Rattle.def_machine.specs.Arrive as arrive
 use Rattle.def_machine.specs.Arrive.{Incoming, Old, New}
 use Rattle.def_run.specs.World as world
 use Rattle.law_text.specs.Feeds.{AllOf}
-use Rattle.law_text_runs.specs.Fitting.{Limits, IsVat, IsLow, NameFits, ValueFits, ValuesFit, MessageFits, KnownFits, PassedFits, PassedsFit, NoteFits, GiftFits, TextFits}
+use Rattle.law_text_runs.specs.Fitting.{is_primitive, Limits, IsVat, IsLow, NameFits, ValueFits, ValuesFit, MessageFits, KnownFits, PassedFits, PassedsFit, NoteFits, GiftFits, TextFits}
 use Rattle.law_text_runs.proofs.Fine.{Fine, nothing, fine_bind, fine_then, fine_give, fine_look, fine_sees, fine_if, fine_tell, fine_list, fine_out, fine_gift, fine_open, fine_mark}
 use Rattle.law_text_runs.proofs.Texts.{plain}
 use Rattle.law_text_runs.proofs.Natives.{either_has}
@@ -29,7 +29,7 @@ module _ (L : Limits) where
   ReadFits (Number z) = IsInt z
   ReadFits (Letter c) = IsScalar c
   ReadFits (Text t) = TextFits t
-  ReadFits (Prim n) = Unit {0}
+  ReadFits (Prim n) = is_primitive n ≡ true
   ReadFits (Broken p) = TextFits p
   ReadFits (Items k) = IsLow L k
   ReadFits (Ref n) = IncomingFits n
@@ -80,21 +80,22 @@ module _ (L : Limits) where
   mutual
     unfolding world.read_passed world.read_all world.plain_read world.many_read world.more_read
 
-    passed_read : (ks : List Name) (y : Passed Name) → PassedFits L y → ReadPassedFits (world.read_passed y ks).read
-    passed_read ks (Plain y) f = value_read ks y f
-    passed_read ks (AGift h i) f = f
-    passed_read ks (Many ys) f = passeds_read ks ys f
+    passed_read : (d : ℕ) (ks : List Name) (y : Passed Name) → PassedFits L d y → ReadPassedFits (world.read_passed y ks).read
+    passed_read d ks (Plain y) f = value_read ks y f.0
+    passed_read d ks (AGift h i) f = f
+    passed_read d ks (Many ys) f = passeds_read d ks ys f
 
-    passeds_read : (ks : List Name) (ys : Passeds Name) → PassedsFit L ys → ReadPassedsFit (world.read_all ys ks).read
-    passeds_read ks NoMore f = tt
-    passeds_read ks (More y ys) f = (passed_read ks y f.0, passeds_read (world.read_passed y ks).known ys f.1)
+    passeds_read : (d : ℕ) (ks : List Name) (ys : Passeds Name) → PassedsFit L d ys → ReadPassedsFit (world.read_all ys ks).read
+    passeds_read d ks NoMore f = tt
+    passeds_read zero ks (More y ys) f = absurd f
+    passeds_read (suc d) ks (More y ys) f = (passed_read d ks y f.0, passeds_read (suc d) (world.read_passed y ks).known ys f.1)
 
   pub note_read : (ks : List Name) (n : Note Name) → NoteFits L n → ReadNoteFits (world.read_note ks n)
   unfolding world.read_note
-  note_read ks (Deliver d n verb ys) f = ((f.0, host_is_vat d.message f.0), name_read _ n f.1, f.2, passeds_read ks ys f.3)
+  note_read ks (Deliver d n verb ys) f = ((f.0, host_is_vat d.message f.0), name_read _ n f.1, f.2, passeds_read 101 ks ys f.3)
   note_read ks (Open i n) f = name_read ks n f
   note_read ks (Ask p i n) f = (name_read ks n f.0, f.1)
-  note_read ks (SettledTo n y) f = (name_read ks n f.0, passed_read _ y f.1)
+  note_read ks (SettledTo n y) f = (name_read ks n f.0, passed_read 100 _ y f.1)
   note_read ks (Elsewhere n c) f = (name_read ks n f.0, f.1)
   note_read ks (Shorten n c i) f = (name_read ks n f.0, f.1)
 

@@ -1,5 +1,5 @@
 -- Auditors, auditions, ejectors, resolvers and objects; and how objects are made.
-use Rattle.std.proofs.Common.{ℕ, zero, suc, ◌<◌, Bool, true, false, List, [], ◌∷◌, ◌++◌, Option, Some, None, if◌then◌else◌, ◌==◌, refl, length, map, codes, arith}
+use Rattle.std.proofs.Common.{◌≡◌, ◌||◌, ℕ, zero, suc, ◌<◌, Bool, true, false, List, [], ◌∷◌, ◌++◌, Option, Some, None, if◌then◌else◌, ◌==◌, refl, length, map, codes, arith}
 use Rattle.std.specs.Prelude.{slice_get}
 use Rattle.def_machine.specs.Values.{Words, Value, Null, Flag, Number, Letter, Text, Prim, Broken, Items, Ref, Name, Naming, naming, Spot, Own, Foreign, NoObject}
 use Rattle.def_machine.specs.State.{Bound, Fixed, Slot, Binding, Scope, Freedom, IsSafe, IsItself, IsFinal, IsVar, FreeName, View, Thing, Made, Ejector, Audition, Resolver, Standing, Unsettled, Called, Back, Thrown, Left, Got, EjectorMade, AuditionMade, Astray, Vat, Act, WhereSome, look, eject}
@@ -16,12 +16,12 @@ use Rattle.def_kernel.specs.declared.node.Node.{Node}
 use Rattle.def_kernel.specs.declared.node.Node.TheVariants.{Lit, Noun, Set, Def, Call, Sequence, If, Escape, Try, Finally, Hide, MatchBind, Object, Method, Matcher, Final, Var, Any, ListPattern, Via}
 use Rattle.def_kernel.specs.declared.node.Literal.{Literal}
 use Rattle.def_kernel.specs.declared.node.Literal.TheVariants as literal
+use Rattle.def_text.specs.Keywords.{is_identifier}
 use Rattle.law_text.specs.Feeds.{AllOf}
-use Rattle.law_text.specs.Words.{IsWord}
-use Rattle.law_text_runs.specs.Fitting.{Limits, size, IsLow, NameFits, ValueFits, ValuesFit, BoundFits, NounsFit, FreedomFits, ViewFits, ThingFits, TextFits}
+use Rattle.law_text_runs.specs.Fitting.{Limits, size, IsLow, IsObjectName, NameFits, ValueFits, ValuesFit, BoundFits, NounsFit, FreedomFits, ViewFits, ThingFits, TextFits}
 use Rattle.law_text_runs.specs.Spelled.{LiteralFits, NodeFits, TreeFits}
 use Rattle.law_text_runs.proofs.Fine.{Fine, nothing, all_append, fine_bind, fine_then, fine_give, fine_throw, fine_eject, fine_stop, fine_look, fine_low, fine_sees, fine_if, fine_left, fine_ending, fine_tell, fine_activation, fine_thing, fine_kill}
-use Rattle.law_text_runs.proofs.Texts.{plain}
+use Rattle.law_text_runs.proofs.Texts.{plain, utf8}
 use Rattle.law_text_runs.proofs.Natives.{ReplyFits, either_has, entry_has, asked_fits, primitive_guarded}
 use Rattle.law_text_runs.proofs.Refs.{where_either, fine_settle, fine_resolve, look_follow}
 use Rattle.law_text_runs.proofs.Perform.{GoodCaller, fine_make_list, fine_reply, fine_data_answer, fine_perform}
@@ -148,16 +148,20 @@ module _ (L : Limits) where
 
   named_fits : (o : Option Node) (x : Value Name) (here : Scope Name) → ValueFits L x → ScopeFits here → ScopeFits (scopes.named o x here)
   unfolding scopes.named scopes.with_noun scopes.any_guard
-  named_fits (Some (Final y g)) x here f h = (h.0, ((f, tt), h.1))
+  named_fits (Some (Final y g)) x here f h = (h.0, ((f, refl), h.1))
   named_fits (Some _) x here f h = h
   named_fits None x here f h = h
 
+  or_true : (b : Bool) → (b || true) ≡ true
+  or_true true = refl
+  or_true false = refl
+
   -- how the history calls an object
-  name_word : (o : Option Node) → WhereSome NodeFits o → IsWord (scopes.name_of o)
+  called_by : (o : Option Node) → WhereSome NodeFits o → IsObjectName (scopes.name_of o)
   unfolding scopes.name_of
-  name_word (Some (Final y g)) f = f.1
-  name_word (Some _) f = λ d. refl
-  name_word None f = λ d. refl
+  called_by (Some (Final y g)) f = f.1
+  called_by (Some _) f = (utf8 _ refl, or_true (is_identifier (codes "_")))
+  called_by None f = (utf8 _ refl, or_true (is_identifier (codes "_")))
 
   freedom_bound_fits : (o : Option (Bound Name)) (x : Words) → WhereSome (BoundFits L) o → FreedomFits L (scopes.freedom_of_bound o x)
   unfolding scopes.freedom_of_bound
@@ -176,8 +180,8 @@ module _ (L : Limits) where
 
   told_fits : (x : Freedom Name) → FreedomFits L x → ValueFits L (scopes.guard_told x)
   unfolding scopes.guard_told scopes.any_guard
-  told_fits IsSafe h = tt
-  told_fits IsItself h = tt
+  told_fits IsSafe h = refl
+  told_fits IsItself h = refl
   told_fits (IsFinal g) h = h
   told_fits IsVar h = tt
 
@@ -241,7 +245,7 @@ module _ (L : Limits) where
     fine_ended : {C : Type 0} (act : ℕ) (m : Act Name (Value Name)) → (C → IsLow L act) → Fine L C m (ValueFits L) → Fine L C (scopes.ended act m) (ValueFits L)
     unfolding scopes.ended
     fine_ended act m a h = fine_ending L (ValueFits L) h (λ x. fine_then L (fine_tell L (Back act x) (λ c. (a c.0, c.1))) (fine_give L x (λ c. c.1)))
-        (λ p. fine_then L (fine_tell L (Thrown act p) (λ c. a c.0)) (fine_throw L p (λ c. c.1))) (λ n x. fine_then L (fine_tell L (Left act) (λ c. a c.0)) (fine_eject L n x (λ c. c.1)))
+        (λ p. fine_then L (fine_tell L (Thrown act p) (λ c. (a c.0, c.1))) (fine_throw L p (λ c. c.1))) (λ n x. fine_then L (fine_tell L (Left act) (λ c. a c.0)) (fine_eject L n x (λ c. c.1)))
 
     fine_with_lines : {C : Type 0} (act : ℕ) (x : Value Name) (verb : Words) (args : List (Value Name)) (m : Act Name (Value Name)) → (C → IsLow L act) → (C → ValueFits L x) → (C → TextFits verb) → (C → ValuesFit L args) → Fine L C m (ValueFits L) → Fine L C (scopes.with_lines act x verb args m) (ValueFits L)
     unfolding scopes.with_lines
@@ -463,7 +467,7 @@ module _ (L : Limits) where
     unfolding calls.view_of
     view_fits node o xs here h = free_fits (scopes.own_noun o) here.nouns xs h.1
 
-    object_made : {C : Type 0} (node : ℕ) (x : Words) (act : ℕ) (me : Name) (after : Scope Name) (stamps : List (Value Name)) (caught : List (Binding Name)) → IsWord x → (C → IsLow L act) → (C → NameFits L me) → (C → ScopeFits after) → (C → ValuesFit L stamps) → (C → NounsFit L caught) → Fine L C (calls.object_made K tree node x act me after stamps caught) AnswerFits
+    object_made : {C : Type 0} (node : ℕ) (x : Words) (act : ℕ) (me : Name) (after : Scope Name) (stamps : List (Value Name)) (caught : List (Binding Name)) → IsObjectName x → (C → IsLow L act) → (C → NameFits L me) → (C → ScopeFits after) → (C → ValuesFit L stamps) → (C → NounsFit L caught) → Fine L C (calls.object_made K tree node x act me after stamps caught) AnswerFits
     unfolding calls.object_made
     object_made node x act me after stamps caught w a f h k g = fine_then L (fine_thing L (Made node caught stamps) (λ c. (g c, k c)))
         (fine_then L (fine_tell L _ (λ c. (a c, f c, w, bounds_fit caught (g c), k c))) (fine_answered after (Ref me) h f))
@@ -476,5 +480,5 @@ module _ (L : Limits) where
     unfolding calls.make_object calls.object_as calls.object_in
     fine_make_object again good node o free auditors here w f h = fine_bind L (ValuesFit L) (ask_all again good here.act (calls.view_of K tree node o free here) auditors (λ c. (h c).0) (λ c. view_fits node o free here (h c)) f)
         (λ stamps. fine_bind L (IsLow L) (fine_low L _ (λ s low. below s low)) (λ n. object_made node (scopes.name_of o) here.act (K.object n) (scopes.named o (Ref (K.object n)) here) stamps
-        (scopes.captures (scopes.named o (Ref (K.object n)) here) free) (name_word o w) (λ c. (h c.0.0).0) (λ c. made_object n c.1) (λ c. named_fits o _ here (made_object n c.1) (h c.0.0)) (λ c. c.0.1)
+        (scopes.captures (scopes.named o (Ref (K.object n)) here) free) (called_by o w) (λ c. (h c.0.0).0) (λ c. made_object n c.1) (λ c. named_fits o _ here (made_object n c.1) (h c.0.0)) (λ c. c.0.1)
         (λ c. captures_fit _ free (named_fits o _ here (made_object n c.1) (h c.0.0)).1)))

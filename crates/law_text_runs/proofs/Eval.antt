@@ -34,7 +34,7 @@ module _ (L : Limits) (word : ℕ → ℕ) (v : ℕ) (inside : v < L.many) (tree
 
   safe_fits : (x : Words) → WhereSome (ValueFits L) (native.safe_value x)
   unfolding native.safe_value native.prims_from
-  safe_fits x = entry_has (WhereSome (ValueFits L)) _ _ x (tt, (tt, (tt, (tt, (tt, (tt, (tt, (tt, (tt, (tt, (tt, (tt, (tt, (tt, (tt, (tt, (tt, (tt, (tt, (tt, (tt, (tt, (tt, tt))))))))))))))))))))))) tt
+  safe_fits x = entry_has (WhereSome (ValueFits L)) _ _ x (tt, (tt, (tt, (refl, (refl, (refl, (refl, (refl, (refl, (refl, (refl, (refl, (refl, (refl, (refl, (refl, (refl, (refl, (refl, (refl, (refl, (refl, (refl, tt))))))))))))))))))))))) tt
 
   look_cell : {C : Type 0} (k : ℕ) → Fine L C (look (λ (s : Vat Name). slice_get s.slots k)) (WhereSome (CellFits L))
   look_cell k = fine_look L _ (λ s h c. found s.slots k h.slots)
@@ -104,8 +104,8 @@ module _ (L : Limits) (word : ℕ → ℕ) (v : ℕ) (inside : v < L.many) (tree
 
     unmatched_noun : {C : Type 0} (act : ℕ) (b : Bool) → (C → IsLow L act) → Fine L C (eval.unmatched_noun K tree act b) (BoundFits L)
     unfolding eval.unmatched_noun eval.no_match scopes.any_guard
-    unmatched_noun act false a = fine_give L _ (λ c. (plain _ refl, tt))
-    unmatched_noun act true a = fine_bind L (IsLow L) (fine_slot L _ _ (λ c. tt) (λ c. plain _ refl)) (λ k. fine_then L (fine_tell L _ (λ c. (a c.0, c.1, plain _ refl))) (fine_give L (Slot k) (λ c. c.1)))
+    unmatched_noun act false a = fine_give L _ (λ c. (plain _ refl, refl))
+    unmatched_noun act true a = fine_bind L (IsLow L) (fine_slot L _ _ (λ c. refl) (λ c. plain _ refl)) (λ k. fine_then L (fine_tell L _ (λ c. (a c.0, c.1, plain _ refl))) (fine_give L (Slot k) (λ c. c.1)))
 
     unmatched : (bs : List BoundNoun) (here : Scope Name) {C : Type 0} → (C → ScopeFits L here) → Fine L C (eval.unmatched K tree bs here) (ScopeFits L)
     unfolding eval.unmatched scopes.with_noun
@@ -167,7 +167,7 @@ module _ (L : Limits) (word : ℕ → ℕ) (v : ℕ) (inside : v < L.many) (tree
 
     guard_of : {C : Type 0} (o : Option ℕ) (here : Scope Name) → (C → ScopeFits L here) → Fine L C (eval.guard_of K tree rec o here) (AnswerFits L)
     unfolding eval.guard_of scopes.any_guard
-    guard_of None here h = answered here _ h (λ c. tt)
+    guard_of None here h = answered here _ h (λ c. refl)
     guard_of (Some g) here h = fine_bind L (AnswerFits L) (good.expression _ g here h) (λ x. fine_bind L (ValueFits L) (look_follow L word v inside x.value (λ c. c.1.0)) (λ y. answered x.scope y (λ c. c.0.1.1) (λ c. c.1)))
 
     coerced : {C : Type 0} (act : ℕ) (g j x : Value Name) → (C → IsLow L act) → (C → ValueFits L g) → (C → ValueFits L j) → (C → ValueFits L x) → Fine L C (perform.coerce K tree (calls.call K tree rec) act g j x) (ValueFits L)
@@ -221,7 +221,7 @@ module _ (L : Limits) (word : ℕ → ℕ) (v : ℕ) (inside : v < L.many) (tree
   unfolding eval.closes
   closes act o m a w h = fine_ending L (ValueFits L) h
       (λ x. fine_then L (fine_tell L (Finished act x) (λ c. (a c.0, c.1))) (fine_some L (NameFits L) o (λ p e. fine_resolve L word v inside p x (λ c. where_is (NameFits L) o p e (w c.0)) (λ c. c.1)) (fine_give L tt (λ c. tt))))
-      (λ t. fine_then L (fine_tell L (Threw act t) (λ c. a c.0)) (fine_some L (NameFits L) o (λ p e. fine_settle L word v inside _ p (Broken t) (λ c. where_is (NameFits L) o p e (w c.0)) (λ c. c.1)) (fine_give L tt (λ c. tt))))
+      (λ t. fine_then L (fine_tell L (Threw act t) (λ c. (a c.0, c.1))) (fine_some L (NameFits L) o (λ p e. fine_settle L word v inside _ p (Broken t) (λ c. where_is (NameFits L) o p e (w c.0)) (λ c. c.1)) (fine_give L tt (λ c. tt))))
       (λ n x. fine_stop L Astray)
 
   pub fine_opening : {C : Type 0} (depth : ℕ) (p : Name) (given : List (Binding Name)) → (C → NameFits L p) → (C → NounsFit L given) → Fine L C (eval.opening K tree depth p given) (nothing L)

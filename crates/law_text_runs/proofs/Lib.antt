@@ -7,6 +7,6 @@ mod Perform
 mod Calls
 mod Eval
 mod Worlds
-mod Shown
+pub mod Shown
 mod Trees
 pub mod Runs

@@ -391,16 +391,49 @@ module _ (L : Limits) where
   range_fits true _ b f g = plain _ refl
   range_fits false _ b f g = plain _ refl
 
-  null_or_fits : (n : ℕ) (p : Primitive) → ReplyFits (native.null_or n p)
+  -- what `nullOk` answers of a primitive with this number
+  abbrev NullFits : ℕ → Primitive → Type 0
+  NullFits n p = ReplyFits (native.null_or n p)
+
+  -- of each of these, from that number on
+  abbrev NullsFit : ℕ → List Primitive → Type 0
+  NullsFit n [] = Unit {0}
+  NullsFit n (p ∷ ps) = NullFits n p × NullsFit (suc n) ps
+
+  each_null : NullsFit 0 native.primitives
+  unfolding native.primitives native.null_or
+  each_null = (plain _ refl, (plain _ refl, (plain _ refl, (plain _ refl, (plain _ refl, (plain _ refl, (plain _ refl, (plain _ refl, (refl, (refl, (refl, (refl, (refl, (refl, (refl, (plain _ refl, (refl, (refl, (plain _ refl, (plain _ refl, tt))))))))))))))))))))
+
+  null_at : (ps : List Primitive) (n i k : ℕ) → k ≡ n + i → NullsFit n ps → NullFits k (elim (slice_get ps i) [ Some p ↦ p | None ↦ NoPrimitive ])
   unfolding native.null_or
-  null_or_fits n (Guarding NullGuard) = plain _ refl
-  null_or_fits n (Guarding (OrNull g)) = plain _ refl
-  null_or_fits n (Guarding _) = tt
-  null_or_fits n _ = plain _ refl
+  null_at [] n i k e h = plain _ refl
+  null_at (p ∷ ps) n zero k e h = let same : n ≡ k = omega (arith, e) in subst (λ j. NullFits j p) same h.0
+  null_at (p ∷ ps) n (suc i) k e h = null_at ps (suc n) i k (omega (arith, e)) h.1
+
+  -- a guard that takes null already is refused
+  null_again : (n : ℕ) (p : Primitive) → NullFits n (native.with_null p)
+  unfolding native.with_null native.null_or
+  null_again n (Guarding NullGuard) = plain _ refl
+  null_again n (Guarding AnyGuard) = plain _ refl
+  null_again n (Guarding VoidGuard) = plain _ refl
+  null_again n (Guarding IntGuard) = plain _ refl
+  null_again n (Guarding BooleanGuard) = plain _ refl
+  null_again n (Guarding CharGuard) = plain _ refl
+  null_again n (Guarding TextGuard) = plain _ refl
+  null_again n (Guarding ListGuard) = plain _ refl
+  null_again n (Guarding NearGuard) = plain _ refl
+  null_again n (Guarding FrozenGuard) = plain _ refl
+  null_again n (Guarding (OrNull g)) = plain _ refl
+  null_again n _ = plain _ refl
+
+  null_or_fits : (n : ℕ) → NullFits n (native.primitive n)
+  unfolding native.primitive native.numbered
+  null_or_fits n = either_has (NullFits n) (nat_lt n 32) (elim (slice_get native.primitives n) [ Some p ↦ p | None ↦ NoPrimitive ]) (native.with_null (elim (slice_get native.primitives (n - 32)) [ Some p ↦ p | None ↦ NoPrimitive ]))
+      (null_at native.primitives 0 n n (omega arith) each_null) (null_again n _)
 
   pub null_reply_fits : (x : Value Name) → ReplyFits (native.null_or_reply x)
   unfolding native.null_or_reply
-  null_reply_fits (Prim n) = null_or_fits n (native.primitive n)
+  null_reply_fits (Prim n) = null_or_fits n
   null_reply_fits _ = plain _ refl
 
   abbrev pub IsGuarded : Primitive → Type 0

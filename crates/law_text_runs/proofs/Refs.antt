@@ -7,7 +7,7 @@ use Rattle.def_machine.specs.Refs.{Place, Near, Mine, Away, Gone, Parcel}
 use Rattle.def_machine.specs.Native.{list_at}
 use Rattle.law_machine.specs.Steps.{After}
 use Rattle.law_text.specs.Feeds.{AllOf}
-use Rattle.law_text_runs.specs.Fitting.{Limits, size, IsVat, IsLow, MsgFits, NameFits, ValueFits, ValuesFit, MessageFits, StandingFits, KnownFits, PassedFits, PassedsFit, VatFits, TextFits}
+use Rattle.law_text_runs.specs.Fitting.{Limits, size, IsVat, IsLow, MsgFits, NameFits, ValueFits, ValuesFit, MessageFits, StandingFits, KnownFits, PassedFits, PassedsFit, VatFits, TextFits, IsNoList}
 use Rattle.law_text_runs.proofs.Fine.{Fine, Ends, Grows, nothing, all_end, fine_bind, fine_then, fine_give, fine_stop, fine_look, fine_sees, fine_some, fine_if, fine_each, fine_tell, fine_spend, fine_enqueue, fine_out}
 use Rattle.law_text_runs.proofs.Texts.{plain}
 use Rattle.law_text_runs.proofs.Natives.{either_has, list_at_fits}
@@ -268,83 +268,85 @@ module _ (L : Limits) where
 
     -- ---- passing
 
-    shape_by_fits : (members : List (Value Name) → Passed Name) (ls : List (List (Value Name))) (y : Value Name) → ((vs : List (Value Name)) → ValuesFit L vs → PassedFits L (members vs)) → AllOf (ValuesFit L) ls → ValueFits L y → PassedFits L (refs.shape_by K members ls y)
+    shape_by_fits : (d : ℕ) (members : List (Value Name) → Passed Name) (ls : List (List (Value Name))) (y : Value Name) → ((vs : List (Value Name)) → ValuesFit L vs → PassedFits L d (members vs)) → AllOf (ValuesFit L) ls → ValueFits L y → PassedFits L d (refs.shape_by K members ls y)
     unfolding refs.shape_by
-    shape_by_fits members ls (Items k) m h f = m (list_at ls k) (list_at_fits L ls k h)
-    shape_by_fits members ls Null m h f = f
-    shape_by_fits members ls (Flag b) m h f = f
-    shape_by_fits members ls (Number z) m h f = f
-    shape_by_fits members ls (Letter c) m h f = f
-    shape_by_fits members ls (Text t) m h f = f
-    shape_by_fits members ls (Prim p) m h f = f
-    shape_by_fits members ls (Broken p) m h f = f
-    shape_by_fits members ls (Ref n) m h f = f
+    shape_by_fits d members ls (Items k) m h f = m (list_at ls k) (list_at_fits L ls k h)
+    shape_by_fits d members ls Null m h f = (f, tt)
+    shape_by_fits d members ls (Flag b) m h f = (f, tt)
+    shape_by_fits d members ls (Number z) m h f = (f, tt)
+    shape_by_fits d members ls (Letter c) m h f = (f, tt)
+    shape_by_fits d members ls (Text t) m h f = (f, tt)
+    shape_by_fits d members ls (Prim p) m h f = (f, tt)
+    shape_by_fits d members ls (Broken p) m h f = (f, tt)
+    shape_by_fits d members ls (Ref n) m h f = (f, tt)
 
-    shapes_fit : (f : Value Name → Passed Name) → ((x : Value Name) → ValueFits L x → PassedFits L (f x)) → (vs : List (Value Name)) → ValuesFit L vs → PassedsFit L (refs.shapes K f vs)
+    shapes_fit : (d : ℕ) (f : Value Name → Passed Name) → ((x : Value Name) → ValueFits L x → PassedFits L d (f x)) → (vs : List (Value Name)) → ValuesFit L vs → PassedsFit L (suc d) (refs.shapes K f vs)
     unfolding refs.shapes
-    shapes_fit f g [] h = tt
-    shapes_fit f g (x ∷ vs) h = (g x h.0, shapes_fit f g vs h.1)
+    shapes_fit d f g [] h = tt
+    shapes_fit d f g (x ∷ vs) h = (g x h.0, shapes_fit d f g vs h.1)
 
-    shape_fits : (d : ℕ) (s : Vat Name) (x : Value Name) → VatFits L s → ValueFits L x → PassedFits L (refs.shape K d s x)
+    shape_fits : (d : ℕ) (s : Vat Name) (x : Value Name) → VatFits L s → ValueFits L x → PassedFits L d (refs.shape K d s x)
     unfolding refs.shape
-    shape_fits zero s x h f = shape_by_fits (λ vs. Plain (Broken (codes "too heavy"))) s.lists _ (λ vs g. plain _ refl) h.lists (follow_fits s x h f)
-    shape_fits (suc d) s x h f = shape_by_fits _ s.lists _ (λ vs g. shapes_fit (λ y. refs.shape K d s y) (λ y i. shape_fits d s y h i) vs g) h.lists (follow_fits s x h f)
+    shape_fits zero s x h f = shape_by_fits zero (λ vs. Plain (Broken (codes "too heavy"))) s.lists _ (λ vs g. (plain _ refl, tt)) h.lists (follow_fits s x h f)
+    shape_fits (suc d) s x h f = shape_by_fits (suc d) _ s.lists _ (λ vs g. shapes_fit d (λ y. refs.shape K d s y) (λ y i. shape_fits d s y h i) vs g) h.lists (follow_fits s x h f)
 
-    parcel_of_fits : (s : Vat Name) (x : Value Name) (o : Option ℕ) → VatFits L s → ValueFits L x → PassedFits L (refs.parcel_of_list K s x o).value
-    unfolding refs.parcel_of_list refs.too_heavy
-    parcel_of_fits s x (Some left) h f = shape_fits _ s x h f
-    parcel_of_fits s x None h f = plain _ refl
+    parcel_of_fits : (s : Vat Name) (x : Value Name) (o : Option ℕ) → VatFits L s → ValueFits L x → PassedFits L 100 (refs.parcel_of_list K s x o).value
+    unfolding refs.parcel_of_list refs.too_heavy refs.highest
+    parcel_of_fits s x (Some left) h f = shape_fits 100 s x h f
+    parcel_of_fits s x None h f = (plain _ refl, tt)
 
-    parcel_at_fits : (s : Vat Name) (y : Value Name) → VatFits L s → ValueFits L y → PassedFits L (refs.parcel_at K s y).value
+    parcel_at_fits : (s : Vat Name) (y : Value Name) → VatFits L s → ValueFits L y → PassedFits L 100 (refs.parcel_at K s y).value
     unfolding refs.parcel_at
     parcel_at_fits s (Items k) h f = parcel_of_fits s (Items k) _ h f
-    parcel_at_fits s Null h f = f
-    parcel_at_fits s (Flag b) h f = f
-    parcel_at_fits s (Number z) h f = f
-    parcel_at_fits s (Letter c) h f = f
-    parcel_at_fits s (Text t) h f = f
-    parcel_at_fits s (Prim p) h f = f
-    parcel_at_fits s (Broken p) h f = f
-    parcel_at_fits s (Ref n) h f = f
+    parcel_at_fits s Null h f = (f, tt)
+    parcel_at_fits s (Flag b) h f = (f, tt)
+    parcel_at_fits s (Number z) h f = (f, tt)
+    parcel_at_fits s (Letter c) h f = (f, tt)
+    parcel_at_fits s (Text t) h f = (f, tt)
+    parcel_at_fits s (Prim p) h f = (f, tt)
+    parcel_at_fits s (Broken p) h f = (f, tt)
+    parcel_at_fits s (Ref n) h f = (f, tt)
 
-    look_parcel : {C : Type 0} (x : Value Name) → (C → ValueFits L x) → Fine L C (look (λ s. refs.parcel K s x)) (λ y. PassedFits L y.value)
+    look_parcel : {C : Type 0} (x : Value Name) → (C → ValueFits L x) → Fine L C (look (λ s. refs.parcel K s x)) (λ y. PassedFits L 100 y.value)
     unfolding refs.parcel
     look_parcel x g = fine_look L _ (λ s h c. parcel_at_fits s _ h (follow_fits s x h (g c)))
 
-    address_plain : {C : Type 0} (w : ℕ) (y : Value Name) (p : Place Name) → (C → IsVat L w) → (C → ValueFits L y) → (C → PlaceFits p) → Fine L C (refs.address_plain K w y p) (PassedFits L)
+    address_plain : {C : Type 0} (d w : ℕ) (y : Value Name) (p : Place Name) → (C → IsVat L w) → (C → ValueFits L y × IsNoList y) → (C → PlaceFits p) → Fine L C (refs.address_plain K w y p) (PassedFits L d)
     unfolding refs.address_plain
-    address_plain w y (Away u n o) i g p = fine_if L (u == w) (fine_give L (Plain y) g)
+    address_plain d w y (Away u n o) i g p = fine_if L (u == w) (fine_give L (Plain y) g)
         (fine_bind L (nothing L) fine_draw (λ j. fine_then L (fine_out L u (Open j n) (λ c. (p c.0).1)) (fine_give L (AGift u j) (λ c. (p c.0).0))))
-    address_plain w y (Mine n) i g p = fine_then L (fine_alter (ToTell w) n i) (fine_give L (Plain y) g)
-    address_plain w y Near i g p = fine_give L (Plain y) g
-    address_plain w y (Gone t) i g p = fine_give L (Plain y) g
+    address_plain d w y (Mine n) i g p = fine_then L (fine_alter (ToTell w) n i) (fine_give L (Plain y) g)
+    address_plain d w y Near i g p = fine_give L (Plain y) g
+    address_plain d w y (Gone t) i g p = fine_give L (Plain y) g
 
     mutual
       unfolding refs.address refs.address_all
 
-      fine_address : (w : ℕ) (y : Passed Name) {C : Type 0} → (C → IsVat L w) → (C → PassedFits L y) → Fine L C (refs.address K w y) (PassedFits L)
-      fine_address w (Plain y) i g = fine_bind L PlaceFits (look_place y g) (λ p. address_plain w y p (λ c. i c.0) (λ c. g c.0) (λ c. c.1))
-      fine_address w (AGift u j) i g = fine_give L (AGift u j) g
-      fine_address w (Many ys) i g = fine_bind L (PassedsFit L) (fine_address_all w ys i g) (λ zs. fine_give L (Many zs) (λ c. c.1))
+      fine_address : (d w : ℕ) (y : Passed Name) {C : Type 0} → (C → IsVat L w) → (C → PassedFits L d y) → Fine L C (refs.address K w y) (PassedFits L d)
+      fine_address d w (Plain y) i g = fine_bind L PlaceFits (look_place y (λ c. (g c).0)) (λ p. address_plain d w y p (λ c. i c.0) (λ c. g c.0) (λ c. c.1))
+      fine_address d w (AGift u j) i g = fine_give L (AGift u j) g
+      fine_address d w (Many ys) i g = fine_bind L (PassedsFit L d) (fine_address_all d w ys i g) (λ zs. fine_give L (Many zs) (λ c. c.1))
 
-      fine_address_all : (w : ℕ) (ys : Passeds Name) {C : Type 0} → (C → IsVat L w) → (C → PassedsFit L ys) → Fine L C (refs.address_all K w ys) (PassedsFit L)
-      fine_address_all w NoMore i g = fine_give L NoMore (λ c. tt)
-      fine_address_all w (More y ys) i g = fine_bind L (PassedFits L) (fine_address w y i (λ c. (g c).0))
-          (λ z. fine_bind L (PassedsFit L) (fine_address_all w ys (λ c. i c.0) (λ c. (g c.0).1)) (λ zs. fine_give L (More z zs) (λ c. (c.0.1, c.1))))
+      fine_address_all : (d w : ℕ) (ys : Passeds Name) {C : Type 0} → (C → IsVat L w) → (C → PassedsFit L d ys) → Fine L C (refs.address_all K w ys) (PassedsFit L d)
+      fine_address_all d w NoMore i g = fine_give L NoMore g
+      fine_address_all zero w (More y ys) i g = fine_bind L (PassedFits L zero) (fine_address zero w y i (λ c. absurd (g c)))
+          (λ z. fine_bind L (PassedsFit L zero) (fine_address_all zero w ys (λ c. i c.0) (λ c. absurd (g c.0))) (λ zs. fine_give L (More z zs) (λ c. absurd (g c.0.0))))
+      fine_address_all (suc d) w (More y ys) i g = fine_bind L (PassedFits L d) (fine_address d w y i (λ c. (g c).0))
+          (λ z. fine_bind L (PassedsFit L (suc d)) (fine_address_all (suc d) w ys (λ c. i c.0) (λ c. (g c.0).1)) (λ zs. fine_give L (More z zs) (λ c. (c.0.1, c.1))))
 
-    pub fine_pass : {C : Type 0} (w : ℕ) (x : Value Name) → (C → IsVat L w) → (C → ValueFits L x) → Fine L C (refs.pass K w x) (PassedFits L)
+    pub fine_pass : {C : Type 0} (w : ℕ) (x : Value Name) → (C → IsVat L w) → (C → ValueFits L x) → Fine L C (refs.pass K w x) (PassedFits L 100)
     unfolding refs.pass
-    fine_pass w x i g = fine_bind L (λ y. PassedFits L y.value) (look_parcel x g) (λ y. fine_then L (fine_spend L y.weight) (fine_address w y.value (λ c. i c.0) (λ c. c.1)))
+    fine_pass w x i g = fine_bind L (λ y. PassedFits L 100 y.value) (look_parcel x g) (λ y. fine_then L (fine_spend L y.weight) (fine_address 100 w y.value (λ c. i c.0) (λ c. c.1)))
 
-    fine_pass_all : (w : ℕ) (xs : List (Value Name)) {C : Type 0} → (C → IsVat L w) → (C → ValuesFit L xs) → Fine L C (refs.pass_all K w xs) (PassedsFit L)
+    fine_pass_all : (w : ℕ) (xs : List (Value Name)) {C : Type 0} → (C → IsVat L w) → (C → ValuesFit L xs) → Fine L C (refs.pass_all K w xs) (PassedsFit L 101)
     unfolding refs.pass_all
     fine_pass_all w [] i g = fine_give L NoMore (λ c. tt)
-    fine_pass_all w (x ∷ xs) i g = fine_bind L (PassedFits L) (fine_pass w x i (λ c. (g c).0))
-        (λ y. fine_bind L (PassedsFit L) (fine_pass_all w xs (λ c. i c.0) (λ c. (g c.0).1)) (λ ys. fine_give L (More y ys) (λ c. (c.0.1, c.1))))
+    fine_pass_all w (x ∷ xs) i g = fine_bind L (PassedFits L 100) (fine_pass w x i (λ c. (g c).0))
+        (λ y. fine_bind L (PassedsFit L 101) (fine_pass_all w xs (λ c. i c.0) (λ c. (g c.0).1)) (λ ys. fine_give L (More y ys) (λ c. (c.0.1, c.1))))
 
     pub fine_deliver : {C : Type 0} (m : Message Name) (w : ℕ) (n : Name) → (C → MessageFits L m) → (C → IsVat L w) → (C → NameFits L n) → Fine L C (refs.deliver K m w n) (nothing L)
     unfolding refs.deliver
-    fine_deliver m w n g i k = fine_bind L (PassedsFit L) (fine_pass_all w m.args i (λ c. (g c).3))
+    fine_deliver m w n g i k = fine_bind L (PassedsFit L 101) (fine_pass_all w m.args i (λ c. (g c).3))
         (λ ys. fine_then L (fine_tell L (Posted w m.id) (λ c. (g c.0).0)) (fine_out L w (Deliver (refs.delivery_of K m) n m.verb ys) (λ c. ((g c.0).0, k c.0, (g c.0).2, c.1))))
 
     -- ---- settling
@@ -384,10 +386,10 @@ module _ (L : Limits) where
       where
         inform_of : {C : Type 0} (p : Name) (w : ℕ) (y : Value Name) (q : Place Name) → (C → NameFits L p) → (C → IsVat L w) → (C → ValueFits L y) → (C → PlaceFits q) → Fine L C (refs.inform_of K p w y q) (nothing L)
         inform_of p w y (Away h n true) g i f k = fine_out L w (Elsewhere p h) (λ c. (g c, (k c).0))
-        inform_of p w y (Away h n false) g i f k = fine_bind L (PassedFits L) (fine_pass w y i f) (λ z. fine_out L w (SettledTo p z) (λ c. (g c.0, c.1)))
-        inform_of p w y Near g i f k = fine_bind L (PassedFits L) (fine_pass w y i f) (λ z. fine_out L w (SettledTo p z) (λ c. (g c.0, c.1)))
-        inform_of p w y (Mine n) g i f k = fine_bind L (PassedFits L) (fine_pass w y i f) (λ z. fine_out L w (SettledTo p z) (λ c. (g c.0, c.1)))
-        inform_of p w y (Gone t) g i f k = fine_bind L (PassedFits L) (fine_pass w y i f) (λ z. fine_out L w (SettledTo p z) (λ c. (g c.0, c.1)))
+        inform_of p w y (Away h n false) g i f k = fine_bind L (PassedFits L 100) (fine_pass w y i f) (λ z. fine_out L w (SettledTo p z) (λ c. (g c.0, c.1)))
+        inform_of p w y Near g i f k = fine_bind L (PassedFits L 100) (fine_pass w y i f) (λ z. fine_out L w (SettledTo p z) (λ c. (g c.0, c.1)))
+        inform_of p w y (Mine n) g i f k = fine_bind L (PassedFits L 100) (fine_pass w y i f) (λ z. fine_out L w (SettledTo p z) (λ c. (g c.0, c.1)))
+        inform_of p w y (Gone t) g i f k = fine_bind L (PassedFits L 100) (fine_pass w y i f) (λ z. fine_out L w (SettledTo p z) (λ c. (g c.0, c.1)))
 
     cut_fits : (b : Bool) (y : Value Name) → ValueFits L y → ValueFits L (refs.cut_cycle K b y)
     unfolding refs.cut_cycle

@@ -16,7 +16,7 @@ use Rattle.law_text_runs.proofs.Shown.{bounds, events_fit}
 
 -- ---- the run of a script
 
-named : (script : Script) → length (vat_names script) ≡ length script.vats
+pub named : (script : Script) → length (vat_names script) ≡ length script.vats
 unfolding vat_names
 named script = count script.vats
   where
@@ -43,11 +43,11 @@ unfolding history_of
 history_fits L w fits (Goes x) h small = (h.2 small fits).history
 history_fits L w fits (Stopped c k x) h small = (h.2 small fits).history
 
-run_history : (script : Script) → IsOfVats script → Small (bounds (vat_names script)) (world_of (run script)) → AllOf (EventFits (bounds (vat_names script))) (history_of (run script))
+pub run_history : (script : Script) → IsOfVats script → Small (bounds (vat_names script)) (world_of (run script)) → AllOf (EventFits (bounds (vat_names script))) (history_of (run script))
 run_history script h small = let L = bounds (vat_names script) in let same = sym (named script) in let good = script_fits script h in
     history_fits L (begins script) (begin_fits L script same good) (run script) (run_fits L script same good) small
 
-drawn_of : (r : Run) → (world_of r).drawn ≡ draws_of r
+pub drawn_of : (r : Run) → (world_of r).drawn ≡ draws_of r
 unfolding draws_of
 drawn_of (Goes w) = refl
 drawn_of (Stopped c k w) = refl

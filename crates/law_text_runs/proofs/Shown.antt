@@ -21,6 +21,7 @@ use Rattle.law_text_runs.specs.Fitting.{Limits, IsVat, IsLow, NameFits, ValueFit
 use Rattle.law_text_runs.specs.Worlds.{EventFits}
 use Rattle.law_kernel_form.specs.Trees.{IsInt}
 use Rattle.law_text_runs.proofs.Fine.{all_append}
+use Rattle.law_text_runs.proofs.Trees.{object_word}
 
 place_or : (b : Bools) (m n : ℕ) → m ≤ n → elim b [ true ↦ zero | false ↦ suc m ] ≤ suc n
 place_or true m n l = omega arith
@@ -45,7 +46,7 @@ module _ (vats : List (List ℕ)) (d : List ℕ) (few : length d < 2 ^ 64) where
   low_place : (w : ℕ) → place_of d w < 2 ^ 64
   low_place w = let l = place_le d w in omega (arith, l, few)
 
-  name_fits : (n : Name) → NameFits L n → IsNameOf vats (shown_name d n)
+  pub name_fits : (n : Name) → NameFits L n → IsNameOf vats (shown_name d n)
   unfolding shown_name shown_gift msg_of
   name_fits (Root v) f = f
   name_fits (Object v i) f = f
@@ -54,11 +55,11 @@ module _ (vats : List (List ℕ)) (d : List ℕ) (few : length d < 2 ^ 64) where
   name_fits (Gift h i) f = (f, low_place (word_of i))
   name_fits (Sent m) f = (f.0, f)
 
-  gift_fits : (h i : ℕ) → IsVat L h → IsNameOf vats (shown_gift d h i)
+  pub gift_fits : (h i : ℕ) → IsVat L h → IsNameOf vats (shown_gift d h i)
   unfolding shown_gift
   gift_fits h i f = (f, low_place (word_of i))
 
-  some_vat : (n : Name) → NameFits L n → 0 < length vats
+  pub some_vat : (n : Name) → NameFits L n → 0 < length vats
   some_vat (Root v) f = omega (arith, f)
   some_vat (Object v i) f = let g = f.0 in omega (arith, g)
   some_vat (Promise v i) f = let g = f.0 in omega (arith, g)
@@ -66,7 +67,7 @@ module _ (vats : List (List ℕ)) (d : List ℕ) (few : length d < 2 ^ 64) where
   some_vat (Gift h i) f = omega (arith, f)
   some_vat (Sent m) f = let g = f.0 in omega (arith, g)
 
-  msg_fits : (n : Name) → NameFits L n → IsMessageOf vats (shown_msg d n)
+  pub msg_fits : (n : Name) → NameFits L n → IsMessageOf vats (shown_msg d n)
   unfolding shown_msg msg_of
   msg_fits (Sent m) f = f
   msg_fits (Root v) f = (some_vat (Root v) f, omega arith)
@@ -111,14 +112,15 @@ module _ (vats : List (List ℕ)) (d : List ℕ) (few : length d < 2 ^ 64) where
   mutual
     unfolding shown_passed shown_all
 
-    passed_fits : (y : Passed Name) → 0 < length vats → PassedFits L y → IsValueOf vats (shown_passed d y)
-    passed_fits (Plain y) some f = value_fits 0 y some f
-    passed_fits (AGift h i) some f = gift_fits h i f
-    passed_fits (Many ys) some f = members_fit (shown_all d ys) (all_fit ys some f)
+    passed_fits : (height : ℕ) (y : Passed Name) → 0 < length vats → PassedFits L height y → IsValueOf vats (shown_passed d y)
+    passed_fits height (Plain y) some f = value_fits 0 y some f.0
+    passed_fits height (AGift h i) some f = gift_fits h i f
+    passed_fits height (Many ys) some f = members_fit (shown_all d ys) (all_fit height ys some f)
 
-    all_fit : (ys : Passeds Name) → 0 < length vats → PassedsFit L ys → AllOf (IsValueOf vats) (shown_all d ys)
-    all_fit NoMore some f = tt
-    all_fit (More y ys) some f = (passed_fits y some f.0, all_fit ys some f.1)
+    all_fit : (height : ℕ) (ys : Passeds Name) → 0 < length vats → PassedsFit L height ys → AllOf (IsValueOf vats) (shown_all d ys)
+    all_fit height NoMore some f = tt
+    all_fit zero (More y ys) some f = absurd f
+    all_fit (suc height) (More y ys) some f = (passed_fits height y some f.0, all_fit (suc height) ys some f.1)
 
   -- ---- lines of a vat
 
@@ -137,7 +139,7 @@ module _ (vats : List (List ℕ)) (d : List ℕ) (few : length d < 2 ^ 64) where
   happened_fits v (Took a m) i f = ((f.1.2.0, (f.0, (tt, (msg_fits m.id f.1.0, (value_fits v m.target i f.1.1, (f.1.2.0, tt))))), values_fit v m.args i f.1.3), tt)
   happened_fits v (Called a x verb args b) i f = ((f.2.0, (f.0, (tt, (value_fits v x i f.1, (f.2.0, tt)))), (values_fit v args i f.3, f.4)), tt)
   happened_fits v (Back a x) i f = ((tt, (f.0, (tt, (value_fits v x i f.1, tt))), tt), tt)
-  happened_fits v (Thrown a p) i f = ((tt, (f, (tt, (tt, tt))), tt), tt)
+  happened_fits v (Thrown a p) i f = ((tt, (f.0, (tt, (tt, tt))), tt), tt)
   happened_fits v (Left a) i f = ((tt, (f, (tt, tt)), tt), tt)
   happened_fits v (Got a x) i f = ((tt, (f.0, (tt, (value_fits v x i f.1, tt))), tt), tt)
   happened_fits v (SlotMade a k x) i f = ((tt, (f.0, (tt, ((i, f.1), (value_fits v x i f.2, tt)))), tt), tt)
@@ -148,11 +150,11 @@ module _ (vats : List (List ℕ)) (d : List ℕ) (few : length d < 2 ^ 64) where
   happened_fits v (EjectorMade a n) i f = ((tt, (f.0, (tt, (name_fits n f.1, tt))), tt), tt)
   happened_fits v (AuditionMade a n) i f = ((tt, (f.0, (tt, (name_fits n f.1, tt))), tt), tt)
   happened_fits v (PromiseMade a p r) i f = ((tt, (f.0, (tt, (name_fits p f.1, (name_fits r f.2, tt)))), tt), tt)
-  happened_fits v (ObjectMade a n x caps stamps) i f = ((f.2, (f.0, (tt, (name_fits n f.1, (tt, tt)))), (captures_fit v caps i f.3, values_fit v stamps i f.4)), tt)
+  happened_fits v (ObjectMade a n x caps stamps) i f = ((object_word x f.2, (f.0, (tt, (name_fits n f.1, (tt, tt)))), (captures_fit v caps i f.3, values_fit v stamps i f.4)), tt)
   happened_fits v (Sends a m) i f = (send_fits v a m i f.0 m.answer f.1, tt)
   happened_fits v (Reacts a x o m) i f = reaction_fits v a x o m i f.0 f.1 f.2 f.3.0 m.answer f.3.4
   happened_fits v (Finished a x) i f = ((tt, (f.0, (tt, (value_fits v x i f.1, tt))), tt), tt)
-  happened_fits v (Threw a p) i f = ((tt, (f, (tt, (tt, tt))), tt), tt)
+  happened_fits v (Threw a p) i f = ((tt, (f.0, (tt, (tt, tt))), tt), tt)
   happened_fits v (Settles n x) i f = ((tt, (tt, (name_fits n f.0, (value_fits v x i f.1, tt))), tt), tt)
   happened_fits v (Waits p q) i f = ((tt, (tt, (name_fits p f.0, (name_fits q f.1, tt))), tt), tt)
   happened_fits v (Views p q) i f = ((tt, (tt, (name_fits p f.0, (name_fits q f.1, tt))), tt), tt)
@@ -168,18 +170,18 @@ module _ (vats : List (List ℕ)) (d : List ℕ) (few : length d < 2 ^ 64) where
   abbrev NoteIsOf : List Part → ShownNote → Type 0
   NoteIsOf front note = ShownFits note × AllOf (IsPartOf vats) (note_tells front note).parts × IsRestOf vats (note_tells front note).rest
 
-  delivery_fits : (front : List Part) (b : Bools) (m n : Name) (verb : Words) (ys : Passeds Name) → AllOf (IsPartOf vats) front → NameFits L m → NameFits L n → IsUtf8 verb → PassedsFit L ys
+  delivery_fits : (front : List Part) (b : Bools) (m n : Name) (verb : Words) (ys : Passeds Name) → AllOf (IsPartOf vats) front → NameFits L m → NameFits L n → IsUtf8 verb → PassedsFit L 101 ys
       → NoteIsOf front (shown_delivery d b (shown_msg d m) (shown_name d n) verb (shown_all d ys))
   unfolding shown_delivery
-  delivery_fits front true m n verb ys h f g u k = (u, joined front _ h (tt, (msg_fits m f, (name_fits n g, (u, tt)))), all_fit ys (some_vat m f) k)
-  delivery_fits front false m n verb ys h f g u k = (u, joined front _ h (tt, (msg_fits m f, (name_fits n g, (u, tt)))), all_fit ys (some_vat m f) k)
+  delivery_fits front true m n verb ys h f g u k = (u, joined front _ h (tt, (msg_fits m f, (name_fits n g, (u, tt)))), all_fit 101 ys (some_vat m f) k)
+  delivery_fits front false m n verb ys h f g u k = (u, joined front _ h (tt, (msg_fits m f, (name_fits n g, (u, tt)))), all_fit 101 ys (some_vat m f) k)
 
   note_fits : (front : List Part) (u : ℕ) (n : Note Name) → AllOf (IsPartOf vats) front → IsVat L u → NoteFits L n → NoteIsOf front (shown_note d u n)
   unfolding shown_note
   note_fits front u (Deliver m n verb ys) h i f = delivery_fits front m.asks m.message n verb ys h f.0 f.1 f.2.0 f.3
   note_fits front u (Open k n) h i f = (tt, joined front _ h (tt, (gift_fits u k i, (name_fits n f, tt))), tt)
   note_fits front u (Ask p k n) h i f = (tt, joined front _ h (tt, (name_fits n f.0, (f.1, tt))), tt)
-  note_fits front u (SettledTo n y) h i f = (tt, joined front _ h (tt, (name_fits n f.0, (passed_fits y (some_vat n f.0) f.1, tt))), tt)
+  note_fits front u (SettledTo n y) h i f = (tt, joined front _ h (tt, (name_fits n f.0, (passed_fits 100 y (some_vat n f.0) f.1, tt))), tt)
   note_fits front u (Elsewhere n c) h i f = (tt, joined front _ h (tt, (name_fits n f.0, (f.1, tt))), tt)
   note_fits front u (Shorten n c k) h i f = (tt, joined front _ h (tt, (name_fits n f.0, (gift_fits c k f.1, tt))), tt)
 

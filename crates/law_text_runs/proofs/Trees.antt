@@ -1,9 +1,10 @@
 -- A kernel tree is such that lines can tell it.
-use Rattle.std.specs.Str.{IsUtf8}
+use Rattle.std.specs.Str.{IsUtf8, bytes_eq}
+use Rattle.std.proofs.lemmas.Slice.Eq.{bytes_eq-Decides}
 use Rattle.def_kernel.specs.declared.node.Node.TheVariants.{Lit, Noun, Set, Def, Call, Sequence, If, Escape, Try, Finally, Hide, MatchBind, Object, Method, Matcher, Final, Var, Any, ListPattern, Via}
 use Rattle.law_text.specs.Feeds.{AllOf}
 use Rattle.law_text_runs.specs.Laws.{IsShortLiteral, IsShort}
-use Rattle.std.proofs.Common.{◌≡◌, ◌⊎◌, inl, inr, ℕ, zero, suc, ◌≤◌, ◌<◌, Bool, true, false, List, [], ◌∷◌, Option, Some, if◌then◌else◌, refl, subst, length, arith}
+use Rattle.std.proofs.Common.{◌≡◌, ◌⊎◌, ◌||◌, inl, inr, ℕ, zero, suc, ◌≤◌, ◌<◌, Bool, true, false, List, [], ◌∷◌, Option, Some, if◌then◌else◌, refl, subst, sym, length, codes, arith}
 use Rattle.std.specs.Prelude.{slice_get}
 use Rattle.std.proofs.lemmas.Bool.{cases_lt}
 use Rattle.def_text.specs.Keywords.{is_identifier}
@@ -15,15 +16,25 @@ use Rattle.def_kernel_form.specs.declared.shape.Kind.{Kind}
 use Rattle.law_kernel_form.specs.Trees.{IsLiteral, IsName, Has, Tree, Row, IsTree, literal, noun, set, def, def_exit, call, sequence, choice, escape, escape_catch, try_catch, finally, hide, match_bind, object, method, matcher, final, final_guarded, variable, variable_guarded, any, any_guarded, list, via, named, unnamed, none, one_more}
 use Rattle.law_text.specs.Words.{IsWord}
 use Rattle.law_text.proofs.Quotes.{verb_word}
+use Rattle.law_text_runs.specs.Fitting.{IsObjectName}
 use Rattle.law_text_runs.specs.Spelled.{LiteralFits, NodeFits, TreeFits}
 
 bare : (b : Bool) (x y : List ℕ) → b ≡ true → IsWord (if b then x else y) → IsWord x
 bare true x y e w = w
 bare false x y e w = cc
 
--- a name is a word
-name_word : (name : List ℕ) → IsName name → IsWord name
-name_word name h = bare (is_identifier name) name (quoted name) h.is_one (verb_word name h.utf8)
+-- the name of an object is a word
+pub object_word : (x : List ℕ) → IsObjectName x → IsWord x
+object_word x h = by (is_identifier x) (bytes_eq x (codes "_")) refl refl h.1
+  where
+    by : (a b : Bool) → is_identifier x ≡ a → bytes_eq x (codes "_") ≡ b → (a || b) ≡ true → IsWord x
+    by true b e f i = bare (is_identifier x) x (quoted x) e (verb_word x h.0)
+    by false true e f i = subst IsWord (sym ((bytes_eq-Decides x (codes "_")).0 f)) (λ d. refl)
+    by false false e f i = cc
+
+-- and an identifier may be one
+object_name : (name : List ℕ) → IsName name → IsObjectName name
+object_name name h = (h.utf8, rw h.is_one refl)
 
 -- what a kernel tree tells of a node by itself
 abbrev NodeSpelled : Node → Type 0
@@ -32,7 +43,7 @@ NodeSpelled (Noun x) = IsUtf8 x
 NodeSpelled (Set x e) = IsUtf8 x
 NodeSpelled (Call r verb args) = IsUtf8 verb
 NodeSpelled (Method verb ps b) = IsUtf8 verb
-NodeSpelled (Final x g) = IsUtf8 x × IsWord x
+NodeSpelled (Final x g) = IsUtf8 x × IsObjectName x
 NodeSpelled (Var x g) = IsUtf8 x
 NodeSpelled (Def p j e) = Unit {0}
 NodeSpelled (Sequence es) = Unit {0}
@@ -106,15 +117,15 @@ module _ (nodes : List Node) where
     fit (object {n = n} {a = a} {b = b} {m = m} e p r s) = join n (suc n) m (one n _ e tt) (join (suc n) a m (fit p) (join a b m (row r) (row s)))
     fit (method {n = n} {a = a} {m = m} e u r t) = join n (suc n) m (one n _ e u) (join (suc n) a m (row r) (fit t))
     fit (matcher {n = n} {a = a} {m = m} e p t) = join n (suc n) m (one n _ e tt) (join (suc n) a m (fit p) (fit t))
-    fit (final {n = n} {name = name} e f) = one n _ e (f.utf8, name_word name f)
-    fit (final_guarded {n = n} {m = m} {name = name} e f t) = join n (suc n) m (one n _ e (f.utf8, name_word name f)) (fit t)
+    fit (final {n = n} {name = name} e f) = one n _ e (f.utf8, object_name name f)
+    fit (final_guarded {n = n} {m = m} {name = name} e f t) = join n (suc n) m (one n _ e (f.utf8, object_name name f)) (fit t)
     fit (variable {n = n} e f) = one n _ e f.utf8
     fit (variable_guarded {n = n} {m = m} e f t) = join n (suc n) m (one n _ e f.utf8) (fit t)
     fit (any {n = n} e) = one n _ e tt
     fit (any_guarded {n = n} {m = m} e t) = join n (suc n) m (one n _ e tt) (fit t)
     fit (list {n = n} {m = m} e r) = join n (suc n) m (one n _ e tt) (row r)
     fit (via {n = n} {a = a} {m = m} e t p) = join n (suc n) m (one n _ e tt) (join (suc n) a m (fit t) (fit p))
-    fit (named {n = n} {name = name} e f) = one n _ e (f.utf8, name_word name f)
+    fit (named {n = n} {name = name} e f) = one n _ e (f.utf8, object_name name f)
     fit (unnamed {n = n} e) = one n _ e tt
 
     row : {kind : Kind} {ns : List ℕ} {n m : ℕ} → Row nodes kind ns n m → Fit n m

@@ -272,7 +272,7 @@ module _ (L : Limits) where
     given_fits : (ps : List Program) (ws : List ℕ) → AllOf (IsVat L) ws → NounsFit L (world.given ps ws)
     unfolding world.given any_guard
     given_fits ps [] h = tt
-    given_fits ps (w ∷ ws) h = ((h.0, tt), given_fits ps ws h.1)
+    given_fits ps (w ∷ ws) h = ((h.0, refl), given_fits ps ws h.1)
 
     opens_at : (v : ℕ) (p : Program) (w : World) → AllOf (IsVat L) p.knows → TreeFits p.tree → length w.vats ≡ L.many → (o : Option (Vat Name)) → slice_get w.vats v ≡ o
         → RunFits (WorldFits L w) w (world.within v w (Opens v ∷ []) v (opening (world.names script v) p.tree script.depth (Root v) (world.given script.vats p.knows)) o)

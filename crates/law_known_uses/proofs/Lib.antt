@@ -1,0 +1,15 @@
+pub mod Walk
+pub mod Stood
+pub mod Lines
+pub mod Known
+pub mod InTime
+pub mod Opened
+pub mod Captured
+pub mod Ran
+pub mod Moments
+pub mod Used
+pub mod Texts
+pub mod Shut
+pub mod Asked
+pub mod Back
+pub mod Whole

@@ -1,0 +1,13 @@
+pub mod Counts
+pub mod Room
+pub mod Costs
+pub mod Settling
+pub mod Sends
+pub mod Arriving
+pub mod Turns
+pub mod Classes
+pub mod Entries
+pub mod Moving
+pub mod Standing
+pub mod Runs
+pub mod Promises

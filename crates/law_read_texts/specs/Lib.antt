@@ -1,0 +1,4 @@
+pub mod Found
+pub mod Texts
+pub mod Runs
+pub mod Scripts

@@ -1,0 +1,12 @@
+pub mod Course
+pub mod Begun
+pub mod Facts
+pub mod Standing
+pub mod Stood
+pub mod Given
+pub mod Ran
+pub mod Steps
+pub mod Resting
+pub mod Rings
+pub mod Names
+pub mod Turns

@@ -1,0 +1,6 @@
+pub mod NewsHides
+pub mod NotesSpare
+pub mod Provided
+pub mod Moving
+pub mod Shown
+pub mod Ends

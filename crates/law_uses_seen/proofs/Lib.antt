@@ -1,0 +1,16 @@
+pub mod Same
+pub mod Renaming
+pub mod Telling
+pub mod Facts
+pub mod Reaching
+pub mod Following
+pub mod Knowing
+pub mod Calls
+pub mod Messages
+pub mod Whole
+pub mod Joining
+pub mod Members
+pub mod SeenAlike
+pub mod RenumberedAlike
+pub mod NumbersApart
+pub mod ReadAgain
