@@ -29,12 +29,14 @@ put_if : (b : Bool) (calls now gone there : List OpenedCall) → now ≡ cond b 
 put_if true calls now gone there h g = h
 put_if false calls now gone there h g = h ∙ g
 
-pub put_back : (a : Activation) (calls xs : List OpenedCall) (old mid new : Stacks) → HasStack a [] old mid
-    → ((j : Activation) → lookup (eq-value.it j) new ≡ cond (eq-value.it a j) (Some xs) (lookup (eq-value.it j) mid)) → xs ≡ calls → HasStack a calls old new
+pub put_in : (a : Activation) (xs : List OpenedCall) (old new : Stacks)
+    → ((j : Activation) → lookup (eq-value.it j) new ≡ cond (eq-value.it a j) (Some xs) (lookup (eq-value.it j) old)) → HasStack a xs old new
 unfolding stack
-put_back a calls xs old mid new none put is q =
-    put_if (eq-value.it a q) calls (stack new q) (stack mid q) (stack old q)
-    (updated_if (eq-value.it a q) (lookup (eq-value.it q) new) (lookup (eq-value.it q) mid) xs (put q) ∙ ap (λ (ys : List OpenedCall). cond (eq-value.it a q) ys (stack mid q)) is) (none q)
+put_in a xs old new put q = updated_if (eq-value.it a q) (lookup (eq-value.it q) new) (lookup (eq-value.it q) old) xs (put q)
+
+pub put_back : (a : Activation) (calls xs : List OpenedCall) (old mid new : Stacks) → HasStack a [] old mid → xs ≡ calls → HasStack a xs mid new → HasStack a calls old new
+put_back a calls xs old mid new none is put q =
+    put_if (eq-value.it a q) calls (stack new q) (stack mid q) (stack old q) (put q ∙ ap (λ (ys : List OpenedCall). cond (eq-value.it a q) ys (stack mid q)) is) (none q)
 
 pub opened : (past : List Line) (at : ℕ) (c : Called) (inside now new : Stacks) (b : Bool) → inside ≡ now → (b ≡ true) ↔ AsksAudition at (record { call = c; before = past })
     → HasStack (record { at = at; number = c.activation }) (record { begun = c.begun; asks_audition = b } ∷ stack inside (record { at = at; number = c.activation })) inside new → Opens past at c now new

@@ -1,7 +1,8 @@
 -- Deciding whether names are known, one by one.
 use Rattle.std.proofs.Common.{◌≡◌, ℕ, zero, suc, ◌+◌, ◌≤◌, arith, Bool, true, false, List, [], ◌∷◌, ◌++◌, take, length, slice_get, Option, Some, None, append_assoc, refl, sym, ap, subst, ◌∙◌, inl, inr}
-use Rattle.std.specs.Prelude.{◌↔◌}
+use Rattle.std.specs.Prelude.{◌↔◌, Result, Ok, Err, IfOk}
 use Rattle.std.proofs.lemmas.List.{append-nil}
+use Rattle.ev_base.specs.declared.memory.Memory.{Memory}
 use Rattle.ev_base.specs.declared.names.Name.{Name}
 use Rattle.def_event.specs.declared.shown.Shown.{Shown}
 use Rattle.def_event.specs.declared.event.Event.{Event}
@@ -53,7 +54,7 @@ made_decides k a made n is = record {
   stands = λ past stand. stand;
 }
 
-pub name_decides : (k m : Known) (a : Activation) (made : Option Label) (n : Name) (b : Bool) → (made ≡ Some (label (AName n)) → ⊥)
+name_decides : (k m : Known) (a : Activation) (made : Option Label) (n : Name) (b : Bool) → (made ≡ Some (label (AName n)) → ⊥)
     → ((past : List Line) → KnownStand k past → ((b ≡ true) ↔ KnowsName past a.at a.number n) × KnownStand m past) → DecidesAll k m a made (n ∷ []) b
 name_decides k m a made n b not_made h = record {
   each = λ past o stand is.
@@ -66,6 +67,11 @@ name_decides k m a made n b not_made h = record {
       );
   stands = λ past stand. (h past stand).1;
 }
+
+pub name_found : (r : Result Bool Memory) (k m : Known) (a : Activation) (made : Option Label) (n : Name) → (made ≡ Some (label (AName n)) → ⊥)
+    → ((past : List Line) → KnownStand k past → IfOk r (λ b. ((b ≡ true) ↔ KnowsName past a.at a.number n) × KnownStand m past)) → IfOk r (λ b. DecidesAll k m a made (n ∷ []) b)
+name_found (Ok b) k m a made n not_made h = name_decides k m a made n b not_made h
+name_found (Err e) k m a made n not_made h = tt
 
 -- ---- many values
 

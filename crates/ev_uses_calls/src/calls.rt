@@ -45,6 +45,18 @@ fn take_stack(
     }
 }
 
+/// An activation has these open calls from now on.
+fn put_in(
+    stacks: &mut IndexMap<Activation, Stack>,
+    activation: Activation,
+    calls: Stack,
+) -> Result<(), Memory>
+    ensures { OnOk result (HasStack activation calls stacks.old.entries stacks.new.entries) }
+{
+    stacks.insert(activation, calls)?;
+    Ok(())
+}
+
 /// A call of an activation begins.
 fn push_in(
     alloc: Global,
@@ -56,8 +68,7 @@ fn push_in(
 {
     let mut calls = take_stack(alloc, stacks, activation);
     calls.push(call)?;
-    stacks.insert(activation, calls)?;
-    Ok(())
+    put_in(stacks, activation, calls)
 }
 
 /// The innermost call of an activation ends, if one is open.
@@ -70,8 +81,7 @@ fn pop_in(
 {
     let mut calls = take_stack(alloc, stacks, activation);
     calls.pop();
-    stacks.insert(activation, calls)?;
-    Ok(())
+    put_in(stacks, activation, calls)
 }
 
 /// The innermost open call of an activation.
@@ -98,10 +108,7 @@ fn asks_audition(
         return Ok(false);
     }
     match &called.target {
-        Shown::Name(name) => {
-            let leads = knowledge.leads_to_audition(alloc, at, name)?;
-            Ok(leads)
-        }
+        Shown::Name(name) => knowledge.leads_to_audition(alloc, at, name),
         _ => Ok(false),
     }
 }
@@ -140,16 +147,14 @@ impl Calls {
             begun: called.begun,
             asks_audition: asks,
         };
-        push_in(alloc, &mut self.stacks, Activation { at, number }, call)?;
-        Ok(())
+        push_in(alloc, &mut self.stacks, Activation { at, number }, call)
     }
 
     /// The innermost call of an activation ends, if one is open.
     fn close(&mut self, alloc: Global, at: u64, number: u64) -> Result<(), Memory>
         ensures { OnOk result (Closes at number self.old self.new) }
     {
-        pop_in(alloc, &mut self.stacks, Activation { at, number })?;
-        Ok(())
+        pop_in(alloc, &mut self.stacks, Activation { at, number })
     }
 
     /// What an event at a place begins or ends.
@@ -174,7 +179,6 @@ impl Calls {
 
     /// Notes what a line at a place begins or ends, by what is known by the lines before it. Calls that stand for the lines
     /// before it stand for these and the line.
-    #[tactic(auto, using(crate::proofs::Calling::line_called))]
     pub fn tell_line(
         &mut self,
         alloc: Global,
@@ -184,7 +188,6 @@ impl Calls {
     ) -> Result<(), Memory>
         ensures { (past : List Line) → KnownStand knowledge.now past → CallsStand self.old past → OnOk result (CallsStand self.new (record { at = at; event = event.now } ∷ past)) }
     {
-        self.tell_event(alloc, knowledge, at, event)?;
-        Ok(())
+        self.tell_event(alloc, knowledge, at, event)
     }
 }

@@ -52,17 +52,14 @@ impl Kept {
         if !uses_known(&mut self.knowledge, alloc, at, event)? {
             return Ok(false);
         }
-        let known = gives_back_known(&mut self.knowledge, &self.calls, alloc, at, event)?;
-        Ok(known)
+        gives_back_known(&mut self.knowledge, &self.calls, alloc, at, event)
     }
 
     /// A line at a place is told. What stands for the lines before it stands for these and the line.
-    #[tactic(auto, using(crate::proofs::Giving::both_stand))]
     pub fn tell_line(&mut self, alloc: Global, at: u64, event: &Event) -> Result<(), Memory>
         ensures { (past : List Line) → KeptStand self.old past → OnOk result (KeptStand self.new (record { at = at; event = event.now } ∷ past)) }
     {
         self.calls.tell_line(alloc, &self.knowledge, at, event)?;
-        self.knowledge.tell_line(alloc, at, event)?;
-        Ok(())
+        self.knowledge.tell_line(alloc, at, event)
     }
 }

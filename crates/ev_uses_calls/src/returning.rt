@@ -33,16 +33,14 @@ fn is_name_given_back(
     ensures { (past : List Line) → KnownStand knowledge.old past → CallsStand calls.now past → IfOk result (λ given. (IsTrue given ↔ GivesBack past activation.at activation.number name.now (open_calls past activation.at activation.number)) × KnownStand knowledge.new past) }
 {
     let Some(call) = calls.innermost(activation) else {
-        let known = knowledge.knows(alloc, activation, name)?;
-        return Ok(known);
+        return knowledge.knows(alloc, activation, name);
     };
     if call.asks_audition {
         return Ok(true);
     }
     let at = activation.at;
     let number = number_or(call.begun, activation.number);
-    let known = knowledge.knows(alloc, Activation { at, number }, name)?;
-    Ok(known)
+    knowledge.knows(alloc, Activation { at, number }, name)
 }
 
 /// Whether an activation may be given back a value.
@@ -56,10 +54,7 @@ fn is_given_back(
     ensures { (past : List Line) → KnownStand knowledge.old past → CallsStand calls.now past → IfOk result (λ given. (IsTrue given ↔ GivesBackValue past activation.at activation.number value.now) × KnownStand knowledge.new past) }
 {
     match value {
-        Shown::Name(name) => {
-            let given = is_name_given_back(knowledge, calls, alloc, activation, name)?;
-            Ok(given)
-        }
+        Shown::Name(name) => is_name_given_back(knowledge, calls, alloc, activation, name),
         _ => Ok(true),
     }
 }
@@ -77,8 +72,7 @@ pub fn gives_back_known(
     match event {
         Event::Back(number, value) => {
             let number = *number;
-            let given = is_given_back(knowledge, calls, alloc, Activation { at, number }, value)?;
-            Ok(given)
+            is_given_back(knowledge, calls, alloc, Activation { at, number }, value)
         }
         _ => Ok(true),
     }

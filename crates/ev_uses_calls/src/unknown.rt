@@ -34,6 +34,5 @@ pub fn first_unknown(alloc: Global, events: &[Event]) -> Result<Option<u64>, Mem
 {
     let plan = plan_of(alloc, events)?;
     let mut kept = Kept::new(alloc, plan);
-    let answer = first_failing(alloc, &mut kept, events)?;
-    Ok(answer)
+    first_failing(alloc, &mut kept, events)
 }

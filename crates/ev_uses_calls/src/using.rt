@@ -34,8 +34,7 @@ fn is_name_known(
     if is_made(made, name_label(name)) {
         return Ok(true);
     }
-    let known = knowledge.knows(alloc, activation, name)?;
-    Ok(known)
+    knowledge.knows(alloc, activation, name)
 }
 
 /// Whether what a value names is known or made.
@@ -87,8 +86,7 @@ fn are_all_known(
     if !is_known(knowledge, alloc, activation, made, value)? {
         return Ok(false);
     }
-    let known = are_known(knowledge, alloc, activation, made, values)?;
-    Ok(known)
+    are_known(knowledge, alloc, activation, made, values)
 }
 
 /// Whether what an object captured, and its auditors, are known or made.
@@ -104,8 +102,7 @@ fn are_parts_known(
     if !are_known(knowledge, alloc, activation, made, object.caps.as_slice())? {
         return Ok(false);
     }
-    let known = are_known(knowledge, alloc, activation, made, object.stamps.as_slice())?;
-    Ok(known)
+    are_known(knowledge, alloc, activation, made, object.stamps.as_slice())
 }
 
 /// Whether what two values name is known or made.
@@ -122,8 +119,7 @@ fn are_both_known(
     if !is_known(knowledge, alloc, activation, made, first)? {
         return Ok(false);
     }
-    let known = is_known(knowledge, alloc, activation, made, second)?;
-    Ok(known)
+    is_known(knowledge, alloc, activation, made, second)
 }
 
 /// Whether the receiver of a call does not count.
@@ -236,7 +232,6 @@ fn is_event_known(
 }
 
 /// Whether a line at a place uses only what its activation knows by the lines before it, or what the line makes.
-#[tactic(auto, using(crate::proofs::Deciding::line_decided))]
 pub fn uses_known(
     knowledge: &mut Knowledge,
     alloc: Global,
@@ -247,6 +242,5 @@ pub fn uses_known(
 {
     let number = user(event);
     let by = Activation { at, number };
-    let known = is_event_known(knowledge, alloc, by, made_label(event), event)?;
-    Ok(known)
+    is_event_known(knowledge, alloc, by, made_label(event), event)
 }

@@ -1,4 +1,5 @@
 use Rattle.std.proofs.Common.{subst}
+use Rattle.std.proofs.lemmas.Result.{IfOk-weaker}
 use Rattle.def_trace.specs.Uses.{names, names_of}
 use Rattle.ev_uses_calls.specs.Using.{DecidesAll}
 use Rattle.ev_uses_calls.proofs.Deciding.{decides_both, decides_left}
@@ -11,5 +12,8 @@ returns-then-not-branch c =
 
 pub returns : goal.returns
 returns c =
-    decides_both c.args.knowledge.now c.is_known.new.knowledge c.are_known.new.knowledge c.args.activation c.args.made (names_of c.args.value.now) (names c.args.values.now) c.in_ok-known.known
-    (subst (DecidesAll c.args.knowledge.now c.is_known.new.knowledge c.args.activation c.args.made (names_of c.args.value.now)) c.if-not-branch.false c.in_ok-is_known.ensures) c.in_ok-known.ensures
+    IfOk-weaker c.are_known.result _ _ (
+    λ b rest.
+    decides_both c.args.knowledge.now c.is_known.new.knowledge c.are_known.new.knowledge c.args.activation c.args.made (names_of c.args.value.now) (names c.args.values.now) b
+    (subst (DecidesAll c.args.knowledge.now c.is_known.new.knowledge c.args.activation c.args.made (names_of c.args.value.now)) c.if-not-branch.false c.in_ok-is_known.ensures) rest
+    ) c.are_known.ensures

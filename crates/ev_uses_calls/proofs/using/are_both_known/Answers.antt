@@ -1,4 +1,5 @@
 use Rattle.std.proofs.Common.{subst}
+use Rattle.std.proofs.lemmas.Result.{IfOk-weaker}
 use Rattle.def_trace.specs.Uses.{names_of}
 use Rattle.ev_uses_calls.specs.Using.{DecidesAll}
 use Rattle.ev_uses_calls.proofs.Deciding.{decides_both, decides_left}
@@ -11,5 +12,8 @@ returns-then-not-branch c =
 
 pub returns : goal.returns
 returns c =
-    decides_both c.args.knowledge.now c.is_known.new.knowledge c.is_known-2.new.knowledge c.args.activation c.args.made (names_of c.args.first.now) (names_of c.args.second.now) c.in_ok-known.known
-    (subst (DecidesAll c.args.knowledge.now c.is_known.new.knowledge c.args.activation c.args.made (names_of c.args.first.now)) c.if-not-branch.false c.in_ok-is_known.ensures) c.in_ok-known.ensures
+    IfOk-weaker c.is_known-2.result _ _ (
+    λ b rest.
+    decides_both c.args.knowledge.now c.is_known.new.knowledge c.is_known-2.new.knowledge c.args.activation c.args.made (names_of c.args.first.now) (names_of c.args.second.now) b
+    (subst (DecidesAll c.args.knowledge.now c.is_known.new.knowledge c.args.activation c.args.made (names_of c.args.first.now)) c.if-not-branch.false c.in_ok-is_known.ensures) rest
+    ) c.is_known-2.ensures

@@ -1,4 +1,5 @@
 use Rattle.std.proofs.Common.{◌≡◌, true, false, sym, subst, ◌∙◌}
+use Rattle.std.proofs.lemmas.Result.{IfOk-weaker}
 use Rattle.ev_uses_calls.specs.Kept.{KeptStand, KeptTables}
 use Rattle.ev_uses_calls.proofs.Giving.{both_points, both_stand, first_point}
 use Rattle.ev_uses_calls.proofs.kept.Kept.is_of_known.Goals as goal
@@ -18,7 +19,9 @@ pub returns : goal.returns
 returns c past h =
     let inside = subst (λ (k : KeptTables). KeptStand k past) (sym c.self.view_is) h in
     let uses = c.in_ok-uses_known.ensures past inside.knowledge in
-    let gives = c.in_ok-known.ensures past uses.1 inside.calls in (
-      both_points past (record { at = c.args.at; event = c.args.event.now }) c.in_ok-known.known (uses.0.0 c.if-not-branch.false) gives.0,
+    IfOk-weaker c.gives_back_known.result _ _ (
+    λ b gives. (
+      both_points past (record { at = c.args.at; event = c.args.event.now }) b (uses.0.0 c.if-not-branch.false) gives.0,
       both_stand c.gives_back_known.new.knowledge c.self.inside.calls past gives.1 inside.calls,
     )
+    ) (c.gives_back_known.ensures past uses.1 inside.calls)
