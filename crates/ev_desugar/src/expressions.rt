@@ -44,14 +44,10 @@ pub fn body(alloc: Global, items: Seq<Seq<Node>>) -> Result<Seq<Node>, Memory>
 {
     let mut items = items.into_vec();
     if items.len() > 1 {
-        let piece = seq(alloc, Seq::of(items))?;
-        return Ok(piece);
+        return seq(alloc, Seq::of(items));
     }
     match items.pop() {
-        None => {
-            let piece = null(alloc)?;
-            Ok(piece)
-        }
+        None => null(alloc),
         Some(only) => Ok(only),
     }
 }
@@ -70,10 +66,7 @@ fn sent_verb(alloc: Global, verb: Option<Str>) -> Result<Str, Memory>
     ensures { IfOk result (λ sent. sent ≡ sent_verb verb) }
 {
     match verb {
-        None => {
-            let run = Str::copy_of(alloc, "run")?;
-            Ok(run)
-        }
+        None => { Str::copy_of(alloc, "run") }
         Some(verb) => Ok(verb),
     }
 }
@@ -106,16 +99,12 @@ pub fn assign(
     ensures { IfOk result (λ piece. piece ≡ assign name.now operator.now value) }
 {
     match updating(operator) {
-        None => {
-            let piece = set(alloc, Str::copy_of(alloc, name)?, value)?;
-            Ok(piece)
-        }
+        None => set(alloc, Str::copy_of(alloc, name)?, value),
         Some(verb) => {
             let left = named(alloc, name)?;
             let args = one(alloc, value)?;
             let value = ask(alloc, left, verb, args)?;
-            let piece = set(alloc, Str::copy_of(alloc, name)?, value)?;
-            Ok(piece)
+            set(alloc, Str::copy_of(alloc, name)?, value)
         }
     }
 }
@@ -170,8 +159,7 @@ fn conjunction(alloc: Global, left: Seq<Node>, right: Seq<Node>) -> Result<Seq<N
     let no = falsehood(alloc)?;
     let both = if_(alloc, right, yes, no)?;
     let no = falsehood(alloc)?;
-    let piece = if_(alloc, left, both, no)?;
-    Ok(piece)
+    if_(alloc, left, both, no)
 }
 
 /// `a || b`
@@ -183,8 +171,7 @@ fn disjunction(alloc: Global, left: Seq<Node>, right: Seq<Node>) -> Result<Seq<N
     let no = falsehood(alloc)?;
     let other = if_(alloc, right, yes, no)?;
     let yes = truth(alloc)?;
-    let piece = if_(alloc, left, yes, other)?;
-    Ok(piece)
+    if_(alloc, left, yes, other)
 }
 
 /// `a < b` and its like, and ranges.
@@ -215,10 +202,7 @@ fn computed(
     ensures { IfOk result (λ piece. piece ≡ computed (arithmetic operator.now) left operator.now right) }
 {
     match arithmetic(operator) {
-        None => {
-            let piece = compared(alloc, left, operator, right)?;
-            Ok(piece)
-        }
+        None => compared(alloc, left, operator, right),
         Some(verb) => {
             let args = one(alloc, right)?;
             ask(alloc, left, verb, args)
@@ -251,10 +235,7 @@ fn else_or_null(alloc: Global, other: Option<Seq<Node>>) -> Result<Seq<Node>, Me
     ensures { IfOk result (λ piece. piece ≡ else_or_null other) }
 {
     match other {
-        None => {
-            let piece = null(alloc)?;
-            Ok(piece)
-        }
+        None => null(alloc),
         Some(other) => Ok(other),
     }
 }
@@ -270,6 +251,5 @@ pub fn conditional(
     ensures { IfOk result (λ piece. piece ≡ conditional test yes no) }
 {
     let no = else_or_null(alloc, no)?;
-    let piece = if_(alloc, test, yes, no)?;
-    Ok(piece)
+    if_(alloc, test, yes, no)
 }

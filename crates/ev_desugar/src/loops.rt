@@ -29,8 +29,7 @@ pub(crate) fn leavable(
         return Ok(block);
     }
     let pattern = final_pattern(alloc, Str::copy_of(alloc, name)?, None)?;
-    let piece = escape(alloc, pattern, block)?;
-    Ok(piece)
+    escape(alloc, pattern, block)
 }
 
 /// An object without a name that has one method: `fn p B`.
@@ -45,8 +44,7 @@ pub fn closure(
     let nameless = any(alloc, None)?;
     let run = method(alloc, Str::copy_of(alloc, "run")?, patterns, body)?;
     let members = one(alloc, run)?;
-    let piece = object(alloc, nameless, Seq::new(alloc), members)?;
-    Ok(piece)
+    object(alloc, nameless, Seq::new(alloc), members)
 }
 
 /// `while (t) B`, the block being made already.
@@ -69,10 +67,7 @@ fn key_or_any(alloc: Global, key: Option<Seq<Node>>) -> Result<Seq<Node>, Memory
     ensures { IfOk result (λ piece. piece ≡ key_or_any key) }
 {
     match key {
-        None => {
-            let piece = any(alloc, None)?;
-            Ok(piece)
-        }
+        None => any(alloc, None),
         Some(key) => Ok(key),
     }
 }
@@ -110,8 +105,7 @@ pub fn while_loop(
 {
     let block = leavable(alloc, continues, "__continue", block)?;
     let whole = repeated(alloc, test, block)?;
-    let piece = leavable(alloc, breaks, "__break", whole)?;
-    Ok(piece)
+    leavable(alloc, breaks, "__break", whole)
 }
 
 /// `for k => v in c B`
@@ -129,8 +123,7 @@ pub fn for_loop(
 {
     let block = leavable(alloc, continues, "__continue", block)?;
     let visits = iterated(alloc, key, value, whole, block)?;
-    let piece = leavable(alloc, breaks, "__break", visits)?;
-    Ok(piece)
+    leavable(alloc, breaks, "__break", visits)
 }
 
 /// `escape p B catch q C`
@@ -144,14 +137,8 @@ pub fn escaped(
     ensures { IfOk result (λ piece. piece ≡ escaped pattern block caught) }
 {
     match caught {
-        None => {
-            let piece = escape(alloc, pattern, block)?;
-            Ok(piece)
-        }
-        Some((other, handler)) => {
-            let piece = escape_catch(alloc, pattern, block, other, handler)?;
-            Ok(piece)
-        }
+        None => escape(alloc, pattern, block),
+        Some((other, handler)) => escape_catch(alloc, pattern, block, other, handler),
     }
 }
 
@@ -221,16 +208,13 @@ pub fn tried(
     match last {
         None => {
             if catches.is_empty() {
-                let piece = hide(alloc, block)?;
-                return Ok(piece);
+                return hide(alloc, block);
             }
-            let piece = caught(alloc, block, catches)?;
-            Ok(piece)
+            caught(alloc, block, catches)
         }
         Some(last) => {
             let piece = caught(alloc, block, catches)?;
-            let piece = finally(alloc, piece, last)?;
-            Ok(piece)
+            finally(alloc, piece, last)
         }
     }
 }
@@ -266,10 +250,7 @@ fn settled(
     let block = fulfilled(alloc, block)?;
     match caught {
         None => Ok(block),
-        Some((pattern, handler)) => {
-            let piece = try_catch(alloc, block, pattern, handler)?;
-            Ok(piece)
-        }
+        Some((pattern, handler)) => try_catch(alloc, block, pattern, handler),
     }
 }
 

@@ -45,8 +45,7 @@ pub fn to_method(
     let steps = both_steps(alloc, block, last)?;
     let steps = leavable(alloc, returns, "__return", steps)?;
     let body = guarded(alloc, guard, steps)?;
-    let piece = method(alloc, verb, patterns, body)?;
-    Ok(piece)
+    method(alloc, verb, patterns, body)
 }
 
 /// `method v(p) B`
@@ -61,8 +60,7 @@ pub fn plain_method(
     ensures { IfOk result (λ piece. piece ≡ plain_method verb patterns guard block) }
 {
     let body = guarded(alloc, guard, block)?;
-    let piece = method(alloc, verb, patterns, body)?;
-    Ok(piece)
+    method(alloc, verb, patterns, body)
 }
 
 /// The pattern that names an object.
@@ -71,14 +69,8 @@ fn object_pattern(alloc: Global, name: Option<Str>) -> Result<Seq<Node>, Memory>
     ensures { IfOk result (λ piece. piece ≡ object_pattern name) }
 {
     match name {
-        None => {
-            let piece = any(alloc, None)?;
-            Ok(piece)
-        }
-        Some(name) => {
-            let piece = final_pattern(alloc, name, None)?;
-            Ok(piece)
-        }
+        None => any(alloc, None),
+        Some(name) => final_pattern(alloc, name, None),
     }
 }
 
@@ -93,8 +85,7 @@ pub fn defined_object(
     ensures { IfOk result (λ piece. piece ≡ defined_object name auditors members) }
 {
     let pattern = object_pattern(alloc, name)?;
-    let piece = object(alloc, pattern, auditors, members)?;
-    Ok(piece)
+    object(alloc, pattern, auditors, members)
 }
 
 /// `def f(p) B`
@@ -119,8 +110,7 @@ pub fn defined_function(
         block,
     )?;
     let members = one(alloc, run)?;
-    let piece = defined_object(alloc, Some(name), auditors, members)?;
-    Ok(piece)
+    defined_object(alloc, Some(name), auditors, members)
 }
 
 /// `var x :G exit j := e`
@@ -135,8 +125,7 @@ pub fn defined_var(
     ensures { IfOk result (λ piece. piece ≡ defined_var name guard exit value) }
 {
     let pattern = variable(alloc, name, guard)?;
-    let piece = def(alloc, pattern, exit, value)?;
-    Ok(piece)
+    def(alloc, pattern, exit, value)
 }
 
 /// The value with which a form is left.
@@ -145,10 +134,7 @@ fn value_or_null(alloc: Global, value: Option<Seq<Node>>) -> Result<Seq<Node>, M
     ensures { IfOk result (λ piece. piece ≡ value_or_null value) }
 {
     match value {
-        None => {
-            let piece = null(alloc)?;
-            Ok(piece)
-        }
+        None => null(alloc),
         Some(value) => Ok(value),
     }
 }
@@ -171,8 +157,7 @@ pub fn noun_guard(alloc: Global, name: Str, args: Seq<Seq<Node>>) -> Result<Seq<
     ensures { IfOk result (λ piece. piece ≡ noun_guard name args) }
 {
     if args.is_empty() {
-        let piece = noun(alloc, name)?;
-        return Ok(piece);
+        return noun(alloc, name);
     }
     let guard = noun(alloc, name)?;
     ask(alloc, guard, "get", args)

@@ -149,8 +149,7 @@ fn escape_text(alloc: Global, behind: &str) -> Result<Str, Memory>
     let mut spelling = String::from_str(alloc, "\"")?;
     spelling.push_str(behind)?;
     spelling.push_str("\"")?;
-    let value = text(alloc, spelling.as_str())?;
-    Ok(value)
+    text(alloc, spelling.as_str())
 }
 
 /// The character behind the opening quote of a character token.
@@ -175,9 +174,6 @@ pub fn character(alloc: Global, spelling: &str) -> Result<char, Memory>
 {
     match spelling.strip_prefix('\'') {
         None => Ok('\0'),
-        Some(behind) => {
-            let c = character_behind(alloc, behind)?;
-            Ok(c)
-        }
+        Some(behind) => character_behind(alloc, behind),
     }
 }

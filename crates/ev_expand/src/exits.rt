@@ -30,8 +30,7 @@ pub(crate) fn while_piece(
     let continues = continues_in(marks, block);
     let test = value_at(alloc, done, test)?;
     let block = piece_at(alloc, done, block)?;
-    let piece = while_loop(alloc, breaks, continues, test, block)?;
-    Ok(piece)
+    while_loop(alloc, breaks, continues, test, block)
 }
 
 /// `for`
@@ -53,8 +52,7 @@ pub(crate) fn for_piece(
     let value = piece_at(alloc, done, value)?;
     let whole = value_at(alloc, done, whole)?;
     let block = piece_at(alloc, done, block)?;
-    let piece = for_loop(alloc, breaks, continues, key, value, whole, block)?;
-    Ok(piece)
+    for_loop(alloc, breaks, continues, key, value, whole, block)
 }
 
 /// `escape`
@@ -70,8 +68,7 @@ pub(crate) fn escape_piece(
     let pattern = piece_at(alloc, done, pattern)?;
     let block = piece_at(alloc, done, block)?;
     let caught = pair_if(alloc, done, caught)?;
-    let piece = escaped(alloc, pattern, block, caught)?;
-    Ok(piece)
+    escaped(alloc, pattern, block, caught)
 }
 
 /// `try`
@@ -87,8 +84,7 @@ pub(crate) fn try_piece(
     let block = piece_at(alloc, done, block)?;
     let catches = pairs_at(alloc, done, catches)?;
     let last = piece_if(alloc, done, last)?;
-    let piece = tried(alloc, block, catches, last)?;
-    Ok(piece)
+    tried(alloc, block, catches, last)
 }
 
 /// `when`
@@ -104,8 +100,7 @@ pub(crate) fn when_piece(
     let value = value_at(alloc, done, value)?;
     let block = piece_at(alloc, done, block)?;
     let caught = pair_if(alloc, done, caught)?;
-    let piece = awaited(alloc, value, block, caught)?;
-    Ok(piece)
+    awaited(alloc, value, block, caught)
 }
 
 /// `fn`
@@ -119,6 +114,5 @@ pub(crate) fn function_piece(
 {
     let patterns = pieces_at(alloc, done, patterns)?;
     let block = piece_at(alloc, done, block)?;
-    let piece = closure(alloc, patterns, block)?;
-    Ok(piece)
+    closure(alloc, patterns, block)
 }

@@ -38,8 +38,7 @@ pub(crate) fn list_piece(
     ensures { IfOk result (λ piece. piece ≡ made_list (values_at done.now members.now)) }
 {
     let members = values_at(alloc, done, members)?;
-    let piece = made_list(alloc, members)?;
-    Ok(piece)
+    made_list(alloc, members)
 }
 
 /// A block or the program.
@@ -51,8 +50,7 @@ pub(crate) fn block_piece(
     ensures { IfOk result (λ piece. piece ≡ body (values_at done.now items.now)) }
 {
     let items = values_at(alloc, done, items)?;
-    let piece = body(alloc, items)?;
-    Ok(piece)
+    body(alloc, items)
 }
 
 /// A call of this verb.
@@ -68,8 +66,7 @@ pub(crate) fn call_piece(
     let receiver = value_at(alloc, done, receiver)?;
     let args = values_at(alloc, done, args)?;
     let verb = Str::copy_of(alloc, verb)?;
-    let piece = call(alloc, receiver, verb, args)?;
-    Ok(piece)
+    call(alloc, receiver, verb, args)
 }
 
 /// A call of the verb that is spelled so.
@@ -83,8 +80,7 @@ pub(crate) fn verb_call_piece(
     ensures { IfOk result (λ piece. piece ≡ call (value_at done.now receiver) (verb_behind verb.now) (values_at done.now args.now)) }
 {
     let verb = verb_behind(alloc, verb)?;
-    let piece = call_piece(alloc, done, receiver, verb.as_str(), args)?;
-    Ok(piece)
+    call_piece(alloc, done, receiver, verb.as_str(), args)
 }
 
 /// A send.
@@ -100,8 +96,7 @@ pub(crate) fn send_piece(
     let target = value_at(alloc, done, target)?;
     let verb = verb_if(alloc, verb)?;
     let args = values_at(alloc, done, args)?;
-    let piece = send(alloc, target, verb, args)?;
-    Ok(piece)
+    send(alloc, target, verb, args)
 }
 
 /// A prefix.
@@ -114,8 +109,7 @@ pub(crate) fn prefix_piece(
     ensures { IfOk result (λ piece. piece ≡ prefix operator.now (value_at done.now value)) }
 {
     let value = value_at(alloc, done, value)?;
-    let piece = prefix(alloc, operator, value)?;
-    Ok(piece)
+    prefix(alloc, operator, value)
 }
 
 /// An operator between two expressions.
@@ -130,8 +124,7 @@ pub(crate) fn binary_piece(
 {
     let left = value_at(alloc, done, left)?;
     let right = value_at(alloc, done, right)?;
-    let piece = binary(alloc, left, operator, right)?;
-    Ok(piece)
+    binary(alloc, left, operator, right)
 }
 
 /// `=~`
@@ -145,8 +138,7 @@ pub(crate) fn match_piece(
 {
     let value = value_at(alloc, done, value)?;
     let pattern = piece_at(alloc, done, pattern)?;
-    let piece = match_bind(alloc, value, pattern)?;
-    Ok(piece)
+    match_bind(alloc, value, pattern)
 }
 
 /// An assignment to a noun.
@@ -160,8 +152,7 @@ pub(crate) fn assign_piece(
     ensures { IfOk result (λ piece. piece ≡ assign noun.now operator.now (value_at done.now value)) }
 {
     let value = value_at(alloc, done, value)?;
-    let piece = assign(alloc, noun, operator, value)?;
-    Ok(piece)
+    assign(alloc, noun, operator, value)
 }
 
 /// An assignment to an index form.
@@ -177,8 +168,7 @@ pub(crate) fn put_piece(
     let object = value_at(alloc, done, object)?;
     let args = values_at(alloc, done, args)?;
     let value = value_at(alloc, done, value)?;
-    let piece = put(alloc, object, args, value)?;
-    Ok(piece)
+    put(alloc, object, args, value)
 }
 
 /// `if`
@@ -194,8 +184,7 @@ pub(crate) fn if_piece(
     let test = value_at(alloc, done, test)?;
     let yes = piece_at(alloc, done, yes)?;
     let no = piece_if(alloc, done, no)?;
-    let piece = conditional(alloc, test, yes, no)?;
-    Ok(piece)
+    conditional(alloc, test, yes, no)
 }
 
 /// `return`, `break` or `continue`.
@@ -208,6 +197,5 @@ pub(crate) fn leave_piece(
     ensures { IfOk result (λ piece. piece ≡ leave word.now (value_if done.now value.now)) }
 {
     let value = value_if(alloc, done, value)?;
-    let piece = leave(alloc, word, value)?;
-    Ok(piece)
+    leave(alloc, word, value)
 }

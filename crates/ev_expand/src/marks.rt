@@ -224,10 +224,7 @@ fn object_named(name: &Option<Str>, token: u64, marks: Marks) -> Result<Marks, M
 {
     match name {
         None => Ok(marks),
-        Some(name) => {
-            let made = named_behind(is_reserved(name.as_str()), token, marks)?;
-            Ok(made)
-        }
+        Some(name) => named_behind(is_reserved(name.as_str()), token, marks),
     }
 }
 
@@ -273,8 +270,7 @@ fn node_marks(alloc: Global, done: &[Marks], node: &SugarNode) -> Result<Marks, 
     ensures { IfOk result (λ made. made ≡ node_marks done.now node.now) }
 {
     let marks = inside(alloc, done, &node.form)?;
-    let made = form_marks(&node.form, node.first, marks)?;
-    Ok(made)
+    form_marks(&node.form, node.first, marks)
 }
 
 /// What is known of each node.

@@ -44,8 +44,7 @@ pub(crate) fn object_piece(
     let name = name_if(alloc, name)?;
     let auditors = values_at(alloc, done, auditors)?;
     let members = pieces_at(alloc, done, members)?;
-    let piece = defined_object(alloc, name, auditors, members)?;
-    Ok(piece)
+    defined_object(alloc, name, auditors, members)
 }
 
 /// `def f()`
@@ -68,8 +67,7 @@ pub(crate) fn def_function_piece(
     let guard = piece_if(alloc, done, guard)?;
     let auditors = values_at(alloc, done, auditors)?;
     let block = piece_at(alloc, done, block)?;
-    let piece = defined_function(alloc, returns, name, patterns, guard, auditors, block)?;
-    Ok(piece)
+    defined_function(alloc, returns, name, patterns, guard, auditors, block)
 }
 
 /// `def p := e`
@@ -85,8 +83,7 @@ pub(crate) fn define_piece(
     let pattern = piece_at(alloc, done, pattern)?;
     let exit = value_if(alloc, done, exit)?;
     let value = value_at(alloc, done, value)?;
-    let piece = def(alloc, pattern, exit, value)?;
-    Ok(piece)
+    def(alloc, pattern, exit, value)
 }
 
 /// `var x := e`
@@ -104,8 +101,7 @@ pub(crate) fn var_piece(
     let guard = piece_if(alloc, done, guard)?;
     let exit = value_if(alloc, done, exit)?;
     let value = value_at(alloc, done, value)?;
-    let piece = defined_var(alloc, name, guard, exit, value)?;
-    Ok(piece)
+    defined_var(alloc, name, guard, exit, value)
 }
 
 /// The pattern `_`.
@@ -117,8 +113,7 @@ pub(crate) fn any_piece(
     ensures { IfOk result (λ piece. piece ≡ any (piece_if done.now guard.now)) }
 {
     let guard = piece_if(alloc, done, guard)?;
-    let piece = any(alloc, guard)?;
-    Ok(piece)
+    any(alloc, guard)
 }
 
 /// A noun as a pattern.
@@ -132,8 +127,7 @@ pub(crate) fn final_piece(
 {
     let name = Str::copy_of(alloc, name)?;
     let guard = piece_if(alloc, done, guard)?;
-    let piece = final_pattern(alloc, name, guard)?;
-    Ok(piece)
+    final_pattern(alloc, name, guard)
 }
 
 /// A `var` pattern.
@@ -147,8 +141,7 @@ pub(crate) fn variable_piece(
 {
     let name = Str::copy_of(alloc, name)?;
     let guard = piece_if(alloc, done, guard)?;
-    let piece = variable(alloc, name, guard)?;
-    Ok(piece)
+    variable(alloc, name, guard)
 }
 
 /// A list pattern.
@@ -160,8 +153,7 @@ pub(crate) fn list_pattern_piece(
     ensures { IfOk result (λ piece. piece ≡ list (pieces_at done.now patterns.now)) }
 {
     let patterns = pieces_at(alloc, done, patterns)?;
-    let piece = list(alloc, patterns)?;
-    Ok(piece)
+    list(alloc, patterns)
 }
 
 /// A `via` pattern.
@@ -175,8 +167,7 @@ pub(crate) fn via_piece(
 {
     let value = value_at(alloc, done, value)?;
     let pattern = piece_at(alloc, done, pattern)?;
-    let piece = via(alloc, value, pattern)?;
-    Ok(piece)
+    via(alloc, value, pattern)
 }
 
 /// A noun as a guard.
@@ -190,8 +181,7 @@ pub(crate) fn guard_piece(
 {
     let name = Str::copy_of(alloc, name)?;
     let args = values_at(alloc, done, args)?;
-    let piece = noun_guard(alloc, name, args)?;
-    Ok(piece)
+    noun_guard(alloc, name, args)
 }
 
 /// `to`
@@ -212,8 +202,7 @@ pub(crate) fn to_piece(
     let patterns = pieces_at(alloc, done, patterns)?;
     let guard = piece_if(alloc, done, guard)?;
     let block = piece_at(alloc, done, block)?;
-    let piece = to_method(alloc, returns, verb, patterns, guard, block)?;
-    Ok(piece)
+    to_method(alloc, returns, verb, patterns, guard, block)
 }
 
 /// `method`
@@ -231,8 +220,7 @@ pub(crate) fn method_piece(
     let patterns = pieces_at(alloc, done, patterns)?;
     let guard = piece_if(alloc, done, guard)?;
     let block = piece_at(alloc, done, block)?;
-    let piece = plain_method(alloc, verb, patterns, guard, block)?;
-    Ok(piece)
+    plain_method(alloc, verb, patterns, guard, block)
 }
 
 /// `match`
@@ -246,6 +234,5 @@ pub(crate) fn matcher_piece(
 {
     let pattern = piece_at(alloc, done, pattern)?;
     let block = piece_at(alloc, done, block)?;
-    let piece = matcher(alloc, pattern, block)?;
-    Ok(piece)
+    matcher(alloc, pattern, block)
 }

@@ -32,10 +32,7 @@ fn add_pair(found: &mut Vec<NodeId>, pair: &Option<(NodeId, NodeId)>) -> Result<
 {
     match pair {
         None => Ok(()),
-        Some((pattern, block)) => {
-            add(found, &[*pattern, *block])?;
-            Ok(())
-        }
+        Some((pattern, block)) => add(found, &[*pattern, *block]),
     }
 }
 

@@ -18,14 +18,8 @@ pub(crate) fn piece_at(alloc: Global, done: &[Part], id: NodeId) -> Result<Seq<N
     ensures { IfOk result (λ piece. piece ≡ piece_at done.now id) }
 {
     match done.get(id.0 as usize) {
-        None => {
-            let piece = null(alloc)?;
-            Ok(piece)
-        }
-        Some(part) => {
-            let piece = copied(alloc, &part.piece)?;
-            Ok(piece)
-        }
+        None => null(alloc),
+        Some(part) => copied(alloc, &part.piece),
     }
 }
 
@@ -38,8 +32,7 @@ fn value_of(alloc: Global, part: &Part) -> Result<Seq<Node>, Memory>
     if !part.is_block {
         return Ok(piece);
     }
-    let piece = hide(alloc, piece)?;
-    Ok(piece)
+    hide(alloc, piece)
 }
 
 /// A part as an expression: a block is hidden.
@@ -48,14 +41,8 @@ pub(crate) fn value_at(alloc: Global, done: &[Part], id: NodeId) -> Result<Seq<N
     ensures { IfOk result (λ piece. piece ≡ value_at done.now id) }
 {
     match done.get(id.0 as usize) {
-        None => {
-            let piece = null(alloc)?;
-            Ok(piece)
-        }
-        Some(part) => {
-            let piece = value_of(alloc, part)?;
-            Ok(piece)
-        }
+        None => null(alloc),
+        Some(part) => value_of(alloc, part),
     }
 }
 

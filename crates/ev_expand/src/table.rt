@@ -30,8 +30,7 @@ use std::alloc::Global;
 fn number_piece(alloc: Global, digits: &str) -> Result<Seq<Node>, Memory>
     ensures { IfOk result (λ piece. piece ≡ lit (Int (number digits.now))) }
 {
-    let piece = lit(alloc, Literal::Int(number(digits)))?;
-    Ok(piece)
+    lit(alloc, Literal::Int(number(digits)))
 }
 
 /// A text.
@@ -39,8 +38,7 @@ fn text_piece(alloc: Global, spelling: &str) -> Result<Seq<Node>, Memory>
     ensures { IfOk result (λ piece. piece ≡ lit (Text (text spelling.now))) }
 {
     let value = text(alloc, spelling)?;
-    let piece = lit(alloc, Literal::Text(Shared::of(alloc, value)?))?;
-    Ok(piece)
+    lit(alloc, Literal::Text(Shared::of(alloc, value)?))
 }
 
 /// A character.
@@ -48,16 +46,14 @@ fn character_piece(alloc: Global, spelling: &str) -> Result<Seq<Node>, Memory>
     ensures { IfOk result (λ piece. piece ≡ lit (Char (character spelling.now))) }
 {
     let value = character(alloc, spelling)?;
-    let piece = lit(alloc, Literal::Char(value))?;
-    Ok(piece)
+    lit(alloc, Literal::Char(value))
 }
 
 /// A noun.
 fn noun_piece(alloc: Global, name: &str) -> Result<Seq<Node>, Memory>
     ensures { IfOk result (λ piece. piece ≡ noun name.now) }
 {
-    let piece = noun(alloc, Str::copy_of(alloc, name)?)?;
-    Ok(piece)
+    noun(alloc, Str::copy_of(alloc, name)?)
 }
 
 /// What a form expands to; a block as the block of a form.

@@ -19,7 +19,7 @@ use Rattle.ev_known.specs.Following.{ChainsStand, Table, goal, goal_at, Noted, N
 use Rattle.ev_known.proofs.Keys.{name_same}
 use Rattle.ev_known.proofs.Walking.{follows_one}
 use Rattle.ev_known.proofs.Naming.{object_label}
-use Rattle.ev_known.proofs.Chained.{chains_noted, none_told}
+use Rattle.ev_known.proofs.Chained.{none_told}
 
 abbrev spot : ℕ → Name → Spot
 spot at n = record { at = at; name = label (AName n) }
@@ -189,11 +189,11 @@ none_stand settled viewed plan told s v t p = record {
 }
 
 pub line_followed : (at : ℕ) (e : Event) (past : List Line) (old new : Tables) → NotedFor at (settles e) old.settled new.settled → NotedFor at (views e) old.viewed new.viewed
-    → (ChainsStand old.plan old.told new.settled → ChainsStand new.plan new.told new.settled) → TablesStand old past → TablesStand new (record { at = at; event = e } ∷ past)
+    → ChainsStand new.plan new.told new.settled → TablesStand old past → TablesStand new (record { at = at; event = e } ∷ past)
 line_followed at e past old new s v c h = record {
   settled = settles_first (record { at = at; event = e }) past old.settled new.settled s h.settled;
   viewed = views_first (record { at = at; event = e }) past old.viewed new.viewed v h.viewed;
-  chains = c (chains_noted at (settles e) old.plan old.told old.settled new.settled s h.chains);
+  chains = c;
 }
 
 pub followed_as : (tables : Tables) (past : List Line) (at : ℕ) (n : Name) (object : Option Label) → TablesStand tables past

@@ -251,8 +251,7 @@ fn advance(plan: &Plan, told: &mut Ends, at: u64, from: Label, to: Label) -> Res
         return Ok(());
     }
     let place = end.place;
-    told.put(at, end.chain, End { place, name: to })?;
-    Ok(())
+    told.put(at, end.chain, End { place, name: to })
 }
 
 /// The chain of a name that settled may come further.
@@ -273,10 +272,7 @@ fn advance_from(
         return Ok(());
     };
     match goal {
-        Goal::To(to) => {
-            advance(plan, told, at, from, to)?;
-            Ok(())
-        }
+        Goal::To(to) => advance(plan, told, at, from, to),
         Goal::Data => Ok(()),
     }
 }
@@ -337,8 +333,7 @@ impl Following {
     {
         note_settled(&mut self.settled, at, event)?;
         note_viewed(&mut self.viewed, at, event)?;
-        tell_chain(&self.settled, &self.plan, &mut self.told, at, event)?;
-        Ok(())
+        tell_chain(&self.settled, &self.plan, &mut self.told, at, event)
     }
 
     /// The object to which a name leads at a place.
@@ -346,7 +341,7 @@ impl Following {
         ensures { (past : List Line) → TablesStand self.now past → IfOk result (λ object. FollowedAs past at name.now object) }
     {
         let start = name_label(name);
-        let object = follow_in(
+        follow_in(
             alloc,
             &self.settled,
             &self.viewed,
@@ -354,8 +349,7 @@ impl Following {
             &self.told,
             at,
             start,
-        )?;
-        Ok(object)
+        )
     }
 
     /// Where a name stands in the chains that were planned.

@@ -90,7 +90,6 @@ impl Knowledge {
     }
 
     /// A line at a place is told. What stands for the lines before it stands for these and the line.
-    #[tactic(auto, using(crate::proofs::Growing::found_grows, crate::proofs::Marking::marks_grow))]
     pub fn tell_line(&mut self, alloc: Global, at: u64, event: &Event) -> Result<(), Memory>
         ensures { (past : List Line) → KnownStand self.old past → OnOk result (KnownStand self.new (record { at = at; event = event.now } ∷ past)) }
     {
@@ -100,8 +99,7 @@ impl Knowledge {
         self.facts.tell_line(at, event)?;
         self.following.tell_line(at, event)?;
         self.marks.tell_from(&self.following, &self.facts, first)?;
-        tell_leads(&mut self.links, alloc, at, event)?;
-        Ok(())
+        tell_leads(&mut self.links, alloc, at, event)
     }
 
     /// Whether an activation has a thing by itself.
@@ -218,8 +216,7 @@ impl Knowledge {
         self.found.add(Finding {
             by: activation,
             thing: label,
-        })?;
-        Ok(())
+        })
     }
 
     /// The same for the labels up to a place, from there back to the first.

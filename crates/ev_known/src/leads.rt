@@ -12,20 +12,17 @@ use ev_links::{Label, Link, Links, Way, list_label, name_label};
 use std::alloc::Global;
 
 /// Something leads to a thing.
-#[tactic(auto, using(crate::proofs::Leading::one_added))]
 fn lead_to(links: &mut Links, alloc: Global, link: &Link, to: Label) -> Result<(), Memory>
     ensures { OnOk result (AddsEach link.now (to ∷ []) links.old links.new) }
 {
-    links.add(alloc, to, *link)?;
-    Ok(())
+    links.add(alloc, to, *link)
 }
 
 /// Something leads to a name.
 fn lead_to_name(links: &mut Links, alloc: Global, link: &Link, name: &Name) -> Result<(), Memory>
     ensures { OnOk result (AddsEach link.now (map label (AName name.now ∷ [])) links.old links.new) }
 {
-    lead_to(links, alloc, link, name_label(name))?;
-    Ok(())
+    lead_to(links, alloc, link, name_label(name))
 }
 
 /// Something leads to what a value is.
@@ -34,14 +31,8 @@ fn lead_to_value(links: &mut Links, alloc: Global, link: &Link, value: &Shown) -
     ensures { OnOk result (AddsEach link.now (map label (things_of value.now)) links.old links.new) }
 {
     match value {
-        Shown::Name(name) => {
-            lead_to(links, alloc, link, name_label(name))?;
-            Ok(())
-        }
-        Shown::List(vat, number) => {
-            lead_to(links, alloc, link, list_label(vat, *number))?;
-            Ok(())
-        }
+        Shown::Name(name) => lead_to(links, alloc, link, name_label(name)),
+        Shown::List(vat, number) => lead_to(links, alloc, link, list_label(vat, *number)),
         _ => Ok(()),
     }
 }
@@ -89,33 +80,27 @@ fn tell_event(links: &mut Links, alloc: Global, at: u64, event: &Event) -> Resul
     match event {
         Event::Settle(name, value) => {
             let link = settled_link(at, name_label(name));
-            lead_to_value(links, alloc, &link, value)?;
-            Ok(())
+            lead_to_value(links, alloc, &link, value)
         }
         Event::View(name, view) => {
             let link = settled_link(at, name_label(name));
-            lead_to_name(links, alloc, &link, view)?;
-            Ok(())
+            lead_to_name(links, alloc, &link, view)
         }
         Event::List(_, list, members) => {
             let link = list_link(list_label(&list.0, list.1));
-            lead_to_all(links, alloc, &link, members.as_slice())?;
-            Ok(())
+            lead_to_all(links, alloc, &link, members.as_slice())
         }
         Event::Arrived(list, members) => {
             let link = list_link(list_label(&list.0, list.1));
-            lead_to_all(links, alloc, &link, members.as_slice())?;
-            Ok(())
+            lead_to_all(links, alloc, &link, members.as_slice())
         }
         _ => Ok(()),
     }
 }
 
 /// Adds what a line at a place says of what leads to what. Links that stand for the lines before it stand for these and the line.
-#[tactic(auto, using(crate::proofs::Leading::line_leads))]
 pub fn tell_leads(links: &mut Links, alloc: Global, at: u64, event: &Event) -> Result<(), Memory>
     ensures { (past : List Line) → LinksStand links.old past → OnOk result (LinksStand links.new (record { at = at; event = event.now } ∷ past)) }
 {
-    tell_event(links, alloc, at, event)?;
-    Ok(())
+    tell_event(links, alloc, at, event)
 }

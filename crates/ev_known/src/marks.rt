@@ -124,8 +124,7 @@ impl Marks {
         }
         let name = standing.chain;
         let chain = Spot { at, name };
-        self.put(Mark { holder, chain }, standing.place)?;
-        Ok(())
+        self.put(Mark { holder, chain }, standing.place)
     }
 
     /// A fact may tell what an activation was given, or what an object captured. The code of an object runs at the place of its vat.
@@ -137,13 +136,11 @@ impl Marks {
         match fact {
             Fact::Given(activation, label) => {
                 let holder = Holder::Activation(activation);
-                self.mark(following, holder, activation.at, label)?;
-                Ok(())
+                self.mark(following, holder, activation.at, label)
             }
             Fact::Captured(object, label) => {
                 let at = u64::from(object.host) + 1;
-                self.mark(following, Holder::Object(object), at, label)?;
-                Ok(())
+                self.mark(following, Holder::Object(object), at, label)
             }
             _ => Ok(()),
         }

@@ -74,8 +74,7 @@ impl Runs {
     fn put(&mut self, activation: Activation, object: Label) -> Result<(), Memory>
         ensures { OnOk result (RunsPut activation object self.old self.new) }
     {
-        put_in(&mut self.objects, activation, object)?;
-        Ok(())
+        put_in(&mut self.objects, activation, object)
     }
 
     /// An activation begins with a target, unless it has begun.
@@ -95,8 +94,7 @@ impl Runs {
         let Some(object) = following.follow(alloc, activation.at, target)? else {
             return Ok(());
         };
-        self.put(activation, object)?;
-        Ok(())
+        self.put(activation, object)
     }
 
     /// An activation begins with a target that may be no name.
@@ -112,10 +110,7 @@ impl Runs {
         ensures { (past : List Line) → StandsFor facts.now past → TablesStand following.now past → OnOk result (RunTarget past activation.at activation.number (name_of target.now) self.old self.new) }
     {
         match target {
-            Shown::Name(name) => {
-                self.run(alloc, facts, following, activation, name)?;
-                Ok(())
-            }
+            Shown::Name(name) => self.run(alloc, facts, following, activation, name),
             _ => Ok(()),
         }
     }
@@ -140,8 +135,7 @@ impl Runs {
             following,
             Activation { at, number },
             &called.target,
-        )?;
-        Ok(())
+        )
     }
 
     /// What an event at a place tells.
@@ -166,19 +160,14 @@ impl Runs {
                     following,
                     Activation { at, number },
                     &taken.target,
-                )?;
-                Ok(())
+                )
             }
-            Event::Call(called) => {
-                self.run_call(alloc, facts, following, at, called.get())?;
-                Ok(())
-            }
+            Event::Call(called) => self.run_call(alloc, facts, following, at, called.get()),
             _ => Ok(()),
         }
     }
 
     /// Notes what a line at a place begins, by the facts and tables that stand for the lines before it.
-    #[tactic(auto, using(crate::proofs::Running::line_runs))]
     pub fn tell_line(
         &mut self,
         alloc: Global,
@@ -189,7 +178,6 @@ impl Runs {
     ) -> Result<(), Memory>
         ensures { (past : List Line) → StandsFor facts.now past → TablesStand following.now past → RunsStand self.old past → OnOk result (RunsStand self.new (record { at = at; event = event.now } ∷ past)) }
     {
-        self.tell_event(alloc, facts, following, at, event)?;
-        Ok(())
+        self.tell_event(alloc, facts, following, at, event)
     }
 }

@@ -34,7 +34,7 @@ use Rattle.ev_ways.specs.Rows.{Lane, behind, changed, next_at, next_from, next_t
 use Rattle.ev_ways.specs.Standing.{IsFrame, WaysStand, asks_in, named_message}
 use Rattle.ev_ways.specs.Statements.{Carries, IsCarried, IsTaken}
 use Rattle.ev_ways.specs.declared.frame.Frame.{Frame as Sent}
-use Rattle.ev_world.specs.Carrying.{TellsFrame}
+use Rattle.ev_world.specs.Carrying.{TellsFrame, note_lines}
 use Rattle.ev_world.specs.Standing.{told_so}
 use Rattle.ev_world.proofs.Objects.{is_within}
 use Rattle.ev_world.proofs.Telling.{only}
@@ -137,9 +137,6 @@ module _ (ds es : List ℕ) (n v u : ℕ) (ls : List Way) (rows : List (List Lan
       subst (λ (xs : List Frame). WaysStand es n (with_way (λ (l : Way). record l { frames = xs }) v u ls) rows) (same_tails b.first a.first b.others a.others same_frames) b.stand
 
 -- ---- the lines that it is told by
-
-abbrev pub note_lines : ℕ → ℕ → ℕ → Sent → List ShownEvent
-note_lines k v u x = line.Carry k v u x.note ∷ line.Frame x.bytes ∷ []
 
 pub note_shown : (ds : List ℕ) (k v u : ℕ) (x : Frame) (y : Sent) → IsFrame ds u x y → shown_events ds (Carried k v u x.note (spelling x.op) ∷ []) ≡ note_lines k v u y
 unfolding shown_events shown_event

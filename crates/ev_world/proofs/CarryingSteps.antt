@@ -1,6 +1,6 @@
 -- What a note that arrives comes to in the code, in the run in numbers.
 use Rattle.std.proofs.Common.{◌≡◌, inl, inr, ◌<◌, ℕ, Bool, true, false, List, [], ◌∷◌, ◌++◌, Option, Some, None, Result, Ok, Err, length, refl, sym, ap, subst, ◌∙◌}
-use Rattle.std.specs.Prelude.{slice_get}
+use Rattle.std.specs.Prelude.{IsErr, IsErrAnd, slice_get}
 use Rattle.std.proofs.lemmas.List.{length-map}
 use Rattle.def_event.specs.declared.event.Event.{Event as ShownEvent}
 use Rattle.def_event.specs.declared.event.Event.TheVariants as line
@@ -40,13 +40,14 @@ use Rattle.ev_ways.specs.Standing.{WaysStand}
 use Rattle.ev_ways.specs.Statements.{Carries, IsCarried, IsIdle}
 use Rattle.ev_ways.specs.declared.frame.Frame.{Frame as Sent}
 use Rattle.ev_write.specs.Putting.{table_for}
-use Rattle.ev_world.specs.Carrying.{HeardFrom, TellsFrame}
+use Rattle.ev_world.specs.Carrying.{HeardFrom, HearsFrame, TellsFrame, note_lines}
 use Rattle.ev_world.specs.Midway.{IsMidway, having_of}
 use Rattle.ev_world.specs.Standing.{Comes, HaltsAs, IsWorld, told_so}
 use Rattle.ev_world.specs.Steadily.{StepsSteadily}
+use Rattle.ev_world.specs.declared.carrying.Heard.{Heard}
 use Rattle.ev_world.specs.declared.world.World.{World}
 use Rattle.ev_world.proofs.Acting.{StopsAs, Took, midway_is, numbers_are, ready_is, receiver, stop_halts}
-use Rattle.ev_world.proofs.CarryingFrames.{carried, frame_alike, frame_is, heard_exports, hears_steadily, lines_more, mails_named, note_lines, note_shown, sender_is, sender_other, ways_left_alike}
+use Rattle.ev_world.proofs.CarryingFrames.{carried, frame_alike, frame_is, heard_exports, hears_steadily, lines_more, mails_named, note_shown, sender_is, sender_other, ways_left_alike}
 use Rattle.ev_world.proofs.Cuts.{moved}
 use Rattle.ev_world.proofs.Objects.{is_within, set_other, set_there, table_is}
 use Rattle.ev_world.proofs.Pushes.{history_alike, ways_alike}
@@ -324,3 +325,9 @@ module _ (S : Script) (w : Vats) (v u k : ℕ) (c : World) (fr : Sent) (r : Resi
       let brings_so : BringsSo v receives.0 (frame_heard v receives.0 fr.bytes) news =
       subst (λ (bs : List ℕ). BringsSo v receives.0 (frame_heard v receives.0 bs) news) same (brings_call receives.0 (at.key ∙ sym receiver_was.key) receiver_was.member) in
       hear_comes S w v u k receives.0 c fr at receives.1 next before (read a) first news told mid r q took one brings_so stood steady e tells ways more finished
+
+-- what an answer of a stop says
+pub hears_stops : (S : Script) (w : Vats) (v u k : ℕ) (fr : Sent) (c : World) (r : Result Heard VatStop) (e : VatStop) → IsErr r × IsErrAnd r (λ (x : VatStop). x ≡ e) → HaltsAs e (step_number S k) c.wire (step S (Carry v u) k w) c.history
+    → HearsFrame S w v u k fr c r
+hears_stops S w v u k fr c (Ok h) e is halts = absurd is.1
+hears_stops S w v u k fr c (Err x) e is halts = subst (λ (y : VatStop). HaltsAs y (step_number S k) c.wire (step S (Carry v u) k w) c.history) (sym is.1) halts

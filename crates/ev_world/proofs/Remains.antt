@@ -158,11 +158,9 @@ unfolding all_left
 all_left_behind [] r = append-nil (left_of r)
 all_left_behind (x ∷ rs) r = ap (λ (es : List ShownEvent). left_of x ++ es) (all_left_behind rs r) ∙ sym (append_assoc (left_of x) (all_left rs) (left_of r))
 
-pub one_told : (h g before : List ShownEvent) (rs : List Resident) (r : Resident) (t : Naming) → t ≡ r.names.naming → h ≡ before ++ all_left rs → g ≡ h ++ left_lines t r.member.vat.host.inside.refs
-    → g ≡ before ++ all_left (rs ++ r ∷ [])
-one_told h g before rs r t is so_far more =
+pub one_told : (h g before : List ShownEvent) (rs : List Resident) (r : Resident) → h ≡ before ++ all_left rs → g ≡ h ++ left_of r → g ≡ before ++ all_left (rs ++ r ∷ [])
+one_told h g before rs r so_far more =
     more
-    ∙ ap (λ (x : Naming). h ++ left_lines x r.member.vat.host.inside.refs) is
     ∙ ap (λ (es : List ShownEvent). es ++ left_of r) so_far
     ∙ append_assoc before (all_left rs) (left_of r)
     ∙ ap (λ (es : List ShownEvent). before ++ es) (sym (all_left_behind rs r))

@@ -1,12 +1,12 @@
 //! A note arrives.
 
-ghost use Rattle.std.specs.Prelude.{◌≡◌, ◌++◌, ◌∷◌, [], List, Some, IfOk, OnOk};
+ghost use Rattle.std.specs.Prelude.{◌≡◌, ◌++◌, ◌∷◌, [], ℕ, List, Some, IfOk, OnOk};
 ghost use Rattle.def_event.specs.declared.event.Event.TheVariants as line;
 ghost use Rattle.def_local.specs.Numbers.{Vats, step, step_number};
 ghost use Rattle.def_run.specs.World as their;
 ghost use Rattle.def_run.specs.World.{Script as TheirScript};
 ghost use Rattle.ev_ways.specs.Rows.{Lane, behind, changed, next_at};
-ghost use Rattle.ev_world.specs.Carrying.{TellsFrame, with_ways};
+ghost use Rattle.ev_world.specs.Carrying.{HearsFrame, TellsFrame, with_ways};
 ghost use Rattle.ev_world.specs.Standing.{AreReady, CourseIs, IsWorld, told_so};
 ghost use Rattle.ev_world.specs.Steadily.{StepsSteadily};
 
@@ -17,9 +17,18 @@ use ev_base::{Memory, VatId};
 use ev_event::History;
 use ev_naming::Told;
 use ev_read::News;
-use ev_resident::{Arrival, Resident, VatStop, told_of};
+use ev_resident::{Arrival, Resident, Sending, VatStop, told_of};
 use ev_ways::Frame;
 use std::alloc::Global;
+
+/// What a frame came to at the vat that heard it, which is still to be told.
+#[derive(Drop)]
+struct Heard {
+    /// How much the vat had exported to each before.
+    before: Vec<u64>,
+    told: Told,
+    sendings: Vec<Sending>,
+}
 
 /// What a frame of one vat told another of numbers, once that one heard it. So much of the first vat stood there before.
 fn told_for(
@@ -95,18 +104,17 @@ impl World {
         self.deliver(alloc, from, to, number, frame)
     }
 
-    /// A frame of one vat, which was taken from its way to another, arrives there.
-    fn deliver(
+    /// A vat hears a frame of another, which was taken from its way.
+    fn hear(
         &mut self,
         alloc: Global,
         from: VatId,
         to: VatId,
-        number: u64,
-        frame: Frame,
-    ) -> Result<(), VatStop>
+        frame: &Frame,
+    ) -> Result<Heard, VatStop>
         requires ready { AreReady self.old.residents.items }
-        ensures step { (S : TheirScript) (w : Vats) (rows : List (List Lane)) → IsWorld S w (with_ways rows self.old) → next_at from to rows ≡ Some frame → self.old.ways ≡ changed behind from to rows
-            → StepsSteadily S (their.Carry from to) number w → CourseIs S result (step_number S number) (step S (their.Carry from to) number w) self.new }
+        ensures step { (S : TheirScript) (w : Vats) (rows : List (List Lane)) (k : ℕ) → IsWorld S w (with_ways rows self.old) → next_at from to rows ≡ Some frame.now → self.old.ways ≡ changed behind from to rows
+            → StepsSteadily S (their.Carry from to) k w → HearsFrame S w from to k frame.now self.new result }
         ensures ready { OnOk result (AreReady self.new.residents.items) }
         ensures wire { self.new.wire ≡ self.old.wire }
     {
@@ -128,8 +136,36 @@ impl World {
             to,
             first,
             &news,
-            &frame,
+            frame,
         )?;
+        Ok(Heard {
+            before,
+            told,
+            sendings,
+        })
+    }
+
+    /// A frame of one vat, which was taken from its way to another, arrives there.
+    fn deliver(
+        &mut self,
+        alloc: Global,
+        from: VatId,
+        to: VatId,
+        number: u64,
+        frame: Frame,
+    ) -> Result<(), VatStop>
+        requires ready { AreReady self.old.residents.items }
+        ensures step { (S : TheirScript) (w : Vats) (rows : List (List Lane)) → IsWorld S w (with_ways rows self.old) → next_at from to rows ≡ Some frame → self.old.ways ≡ changed behind from to rows
+            → StepsSteadily S (their.Carry from to) number w → CourseIs S result (step_number S number) (step S (their.Carry from to) number w) self.new }
+        ensures ready { OnOk result (AreReady self.new.residents.items) }
+        ensures wire { self.new.wire ≡ self.old.wire }
+    {
+        let heard = self.hear(alloc, from, to, &frame)?;
+        let Heard {
+            before,
+            told,
+            sendings,
+        } = heard;
         let message = frame.message;
         tell_note(&mut self.history, alloc, self.wire, number, from, to, frame)?;
         self.finish(alloc, to, before.as_slice(), message, told, sendings)?;

@@ -21,10 +21,8 @@ use Rattle.law_acts.proofs.Lists.{every_set}
 module _ (kind : Value → Bool) (base : Base) where
   pub unless_of : (st : Standing) (k new : Known) → KnownOf kind k → KnownOf kind new → KnownOf kind (unless_settled st k new)
   unfolding unless_settled
-  unless_of Unsettled k new a b = b
-  unless_of (WaitsOn q) k new a b = b
-  unless_of (Viewed q) k new a b = b
   unless_of (Settled v) k new a b = a
+  unless_of other k new a b = b
 
   pub with_known : (r : References) (n : ℕ) (k : Known) → ReferencesIn kind base r → KnownOf kind k → ReferencesIn kind base (record r { known = slice_set r.known n k })
   with_known r n k a b = record { known = every_set (KnownOf kind) r.known n k a.known b; queue = a.queue; partition = a.partition; cycle = a.cycle }

@@ -60,17 +60,13 @@ told_is : (w : World) (o : Option Bound) → told_of o ≡ told_by (text_of w) (
 unfolding scopes.guard_told scopes.any_guard
 told_is w None = refl
 told_is w (Some bound.Safe) = refl
-told_is w (Some bound.Itself) = refl
 told_is w (Some (bound.Final (Native n))) = refl
-told_is w (Some (bound.Final (User i))) = refl
-told_is w (Some bound.Mutable) = refl
+told_is w other = refl
 
 told_there : (h : Contents) (b : Bound) → is_there h (bound_told b) ≡ true
 told_there h bound.Safe = refl
-told_there h bound.Itself = refl
 told_there h (bound.Final (Native n)) = refl
-told_there h (bound.Final (User i)) = refl
-told_there h bound.Mutable = refl
+told_there h other = refl
 
 bound_told_met : (w : World) (tree : List Node) (their : scopes.Caller Local) (act : ℕ) (o : Option Bound) (s : Room) → IsSound s
     → Met w a_value s (answer (told_as (option_map bound_told o)) s) (perform.reply (names w) tree their act (told_by (text_of w) (option_map bound_told o)) (vat w s))

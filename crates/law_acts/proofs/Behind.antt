@@ -88,9 +88,8 @@ bound s g = record { holds = g }
 
 named_grows : (p : Option Node) (me : ℕ) (here : Scope) → Grows here (named p me here)
 unfolding named
-named_grows None me here = same here
 named_grows (Some (Final x g)) me here = with_one x (Fixed (held.Obj me) no_guard) here
-named_grows (Some _) me here = same here
+named_grows other me here = same here
 
 made_grows : (node : ℕ) (x : Words) (bs : List Binding) (stamps : List Value) (me : ℕ) (first here : Scope) (s : Room) → Grows first here → GivesMore first (object_made node x bs stamps me here s)
 unfolding object_made ◌>>=◌ ◌>>◌

@@ -72,15 +72,7 @@ module _ (t : ℕ → Words) where
   unfolding native.null_or
   means_guard n k true = refl
   means_guard n kind.Null false = refl
-  means_guard n kind.Any false = refl
-  means_guard n kind.Void false = refl
-  means_guard n kind.Int false = refl
-  means_guard n kind.Boolean false = refl
-  means_guard n kind.Char false = refl
-  means_guard n kind.Text false = refl
-  means_guard n kind.List false = refl
-  means_guard n kind.Near false = refl
-  means_guard n kind.Frozen false = refl
+  means_guard n other false = refl
 
   means_prim : (n : ℕ) (p : Primitive) → reply_by t (null_or_prim n p) ≡ native.null_or {N = Local} n (primitive_in p)
   means_prim n (Guarding g) = means_guard n g.kind g.or_null

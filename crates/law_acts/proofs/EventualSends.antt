@@ -116,32 +116,14 @@ module _ (w : World) (tree : List Node) (s : Interior) (sound : IsSound s) where
       (perform.send_with (names w) tree only act (value_of w x) (value_of w (held.Text id)) (value_of w z) (vat w s))
   unfolding message_in send_some perform.send_with
   list_met only act x id (held.List k) i t = message_met only act x id k i t
-  list_met only act x id held.Null i t = bad_message_met
-  list_met only act x id (held.Bool b) i t = bad_message_met
-  list_met only act x id (held.Int z) i t = bad_message_met
-  list_met only act x id (held.Char c) i t = bad_message_met
-  list_met only act x id (held.Text u) i t = bad_message_met
-  list_met only act x id (held.Prim n) i t = bad_message_met
-  list_met only act x id (held.Obj n) i t = bad_message_met
-  list_met only act x id (held.Prom n) i t = bad_message_met
-  list_met only act x id (held.Far h p) i t = bad_message_met
-  list_met only act x id (held.Broken p) i t = bad_message_met
+  list_met only act x id other i t = bad_message_met
 
   verb_met : (only : Bool) (act : ℕ) (x y z : Held) → is_there s.heap x ≡ true → is_there s.heap y ≡ true
       → Met w a_value s (send_some only act x (message_in s.heap y z) s)
       (perform.send_with (names w) tree only act (value_of w x) (value_of w y) (value_of w z) (vat w s))
   unfolding message_in send_some perform.send_with
   verb_met only act x (held.Text id) z i j = list_met only act x id z i j
-  verb_met only act x held.Null z i j = bad_message_met
-  verb_met only act x (held.Bool b) z i j = bad_message_met
-  verb_met only act x (held.Int n) z i j = bad_message_met
-  verb_met only act x (held.Char c) z i j = bad_message_met
-  verb_met only act x (held.List k) z i j = bad_message_met
-  verb_met only act x (held.Prim n) z i j = bad_message_met
-  verb_met only act x (held.Obj n) z i j = bad_message_met
-  verb_met only act x (held.Prom n) z i j = bad_message_met
-  verb_met only act x (held.Far h p) z i j = bad_message_met
-  verb_met only act x (held.Broken p) z i j = bad_message_met
+  verb_met only act x other z i j = bad_message_met
 
   send_is : (their : scopes.Caller Local) (only : Bool) (act : ℕ) (x v l : Value Local)
       → perform.perform (names w) tree their act (native.SendsTo only x v l) (vat w s)

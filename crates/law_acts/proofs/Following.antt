@@ -25,23 +25,13 @@ module _ (kind : Value → Bool) (names : (n : ℕ) → IsOf kind (held.Prom n))
   onward_of : (on : ℕ → Value) (n : ℕ) (v : Value) → ((m : ℕ) → IsOf kind (on m)) → IsOf kind v → IsOf kind (led_by on n (onward v))
   unfolding led_by
   onward_of on n (held.Prom m) each a = each m
-  onward_of on n held.Null each a = a
-  onward_of on n (held.Bool b) each a = a
-  onward_of on n (held.Int z) each a = a
-  onward_of on n (held.Char c) each a = a
-  onward_of on n (held.Text t) each a = a
-  onward_of on n (held.List k) each a = a
-  onward_of on n (held.Prim m) each a = a
-  onward_of on n (held.Obj i) each a = a
-  onward_of on n (held.Far v p) each a = a
-  onward_of on n (held.Broken t) each a = a
+  onward_of on n other each a = a
 
   from_of : (on : ℕ → Value) (n : ℕ) (st : Standing) → ((m : ℕ) → IsOf kind (on m)) → StandingOf kind st → IsOf kind (led_by on n (step_from st))
   unfolding led_by
-  from_of on n Unsettled each a = names n
-  from_of on n (WaitsOn q) each a = names n
   from_of on n (Viewed q) each a = each q
   from_of on n (Settled v) each a = onward_of on n v each a
+  from_of on n other each a = names n
 
   found_of : (on : ℕ → Value) (n : ℕ) (o : Option Known) → ((m : ℕ) → IsOf kind (on m)) → IfThere (KnownOf kind) o → IsOf kind (led_by on n (step_found o))
   unfolding step_found led_by
@@ -56,16 +46,7 @@ module _ (kind : Value → Bool) (names : (n : ℕ) → IsOf kind (held.Prom n))
   led_of : (ks : List Known) (v : Value) → Every (KnownOf kind) ks → IsOf kind v → IsOf kind (led ks v)
   unfolding led
   led_of ks (held.Prom n) a b = led_on_of (suc (length ks)) ks n a
-  led_of ks held.Null a b = b
-  led_of ks (held.Bool x) a b = b
-  led_of ks (held.Int z) a b = b
-  led_of ks (held.Char c) a b = b
-  led_of ks (held.Text t) a b = b
-  led_of ks (held.List k) a b = b
-  led_of ks (held.Prim n) a b = b
-  led_of ks (held.Obj i) a b = b
-  led_of ks (held.Far v p) a b = b
-  led_of ks (held.Broken t) a b = b
+  led_of ks other a b = b
 
   cut_of : (b : Bool) (x y : Value) → IsOf kind x → IsOf kind y → IsOf kind (if b then x else y)
   cut_of true x y p q = p
@@ -75,15 +56,7 @@ module _ (kind : Value → Bool) (names : (n : ℕ) → IsOf kind (held.Prom n))
   unfolding severed severed_by
   severed_of r (held.Prom n) a b = cut_of (is_in (host_of r n) r.noticed) (held.Broken r.partition) (held.Prom n) a.partition b
   severed_of r (held.Far w p) a b = cut_of (is_in w r.noticed) (held.Broken r.partition) (held.Far w p) a.partition b
-  severed_of r held.Null a b = b
-  severed_of r (held.Bool x) a b = b
-  severed_of r (held.Int z) a b = b
-  severed_of r (held.Char c) a b = b
-  severed_of r (held.Text t) a b = b
-  severed_of r (held.List k) a b = b
-  severed_of r (held.Prim n) a b = b
-  severed_of r (held.Obj i) a b = b
-  severed_of r (held.Broken t) a b = b
+  severed_of r other a b = b
 
   pub followed_of : (r : References) (v : Value) → ReferencesOf kind r → IsOf kind v → IsOf kind (followed r v)
   unfolding followed

@@ -28,11 +28,8 @@ module _ (kind : Value → Bool) (base : Base) (ground : GroundOf kind base) whe
 
   -- what is gone there is gone with a problem of the kind
   abbrev pub PlaceOf : Place → Type 0
-  PlaceOf Near = Unit {0}
-  PlaceOf (Mine n) = Unit {0}
-  PlaceOf (FarPromise w n) = Unit {0}
-  PlaceOf (FarObject w p) = Unit {0}
   PlaceOf (Gone t) = IsOf kind (held.Broken t)
+  PlaceOf other = Unit {0}
 
   mine_or_far : (b : Bool) (n w : ℕ) → PlaceOf (if b then Mine n else FarPromise w n)
   mine_or_far true n w = tt
@@ -41,16 +38,8 @@ module _ (kind : Value → Bool) (base : Base) (ground : GroundOf kind base) whe
   pub placed_of : (r : References) (v : Value) → IsOf kind v → PlaceOf (place_of r v)
   unfolding place_of hosted
   placed_of r (held.Prom n) a = mine_or_far (r.me == host_of r n) n (host_of r n)
-  placed_of r (held.Far w p) a = tt
   placed_of r (held.Broken t) a = a
-  placed_of r held.Null a = tt
-  placed_of r (held.Bool x) a = tt
-  placed_of r (held.Int z) a = tt
-  placed_of r (held.Char c) a = tt
-  placed_of r (held.Text t) a = tt
-  placed_of r (held.List k) a = tt
-  placed_of r (held.Prim n) a = tt
-  placed_of r (held.Obj i) a = tt
+  placed_of r other a = tt
 
 pub follows : (kind : Value → Bool) (base : Base) (i : Interior) → GroundOf kind base → InsideOf kind base i → (v : Value) → IsOf kind v → IsOf kind (followed i.refs v)
 follows kind base i ground good v a = followed_of kind base ground i.refs v good.refs a

@@ -28,9 +28,7 @@ module _ (w : World) (tree : List Node) (s : Room) (sound : Each (IsListed s.hea
   shape_stamps : (live : Bool) (sh : Shape) → scopes.stamps_of (Some (thing_of w (record { shape = sh; alive = live }))) ≡ values_of w (stamps_in sh)
   unfolding scopes.stamps_of
   shape_stamps live (shape.Made node caught stamps) = refl
-  shape_stamps live shape.Ejector = refl
-  shape_stamps live (shape.Resolver p) = refl
-  shape_stamps live (shape.Audition view) = refl
+  shape_stamps live other = refl
 
   stamps_are : (o : Option HeldThing) → scopes.stamps_of (option_map (thing_of w) o) ≡ values_of w (unwrap_or (option_map (λ t. stamps_in t.shape) o) [])
   unfolding scopes.stamps_of
@@ -49,14 +47,7 @@ module _ (w : World) (tree : List Node) (s : Room) (sound : Each (IsListed s.hea
   stamped_is a (held.Obj i) = object_stamped a i
   stamped_is a (held.Prom k) = unfold perform.is_stamped perform.stamps_at perform.has_stamp numbering local_spot in refl
   stamped_is a (held.Far v p) = unfold perform.is_stamped perform.stamps_at perform.has_stamp numbering local_spot in refl
-  stamped_is a held.Null = unfold perform.is_stamped in refl
-  stamped_is a (held.Bool b) = unfold perform.is_stamped in refl
-  stamped_is a (held.Int z) = unfold perform.is_stamped in refl
-  stamped_is a (held.Char c) = unfold perform.is_stamped in refl
-  stamped_is a (held.Text i) = unfold perform.is_stamped in refl
-  stamped_is a (held.Broken i) = unfold perform.is_stamped in refl
-  stamped_is a (held.Prim n) = unfold perform.is_stamped in refl
-  stamped_is a (held.List k) = unfold perform.is_stamped in refl
+  stamped_is a other = unfold perform.is_stamped in refl
 
   object_frozen : (i : ℕ) → perform.is_frozen (names w) tree (vat w s) (Ref (Obj i)) ≡ is_frozen s.heap (held.Obj i)
   unfolding perform.is_frozen

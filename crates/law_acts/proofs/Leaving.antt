@@ -59,9 +59,7 @@ new_ejector_met w tree act s sound =
 dead_is : (w : World) (live : Bool) (sh : Shape) → machine.dead (shape_in w live sh) ≡ shape_in w false sh
 unfolding machine.dead
 dead_is w live (shape.Made node caught stamps) = refl
-dead_is w live shape.Ejector = refl
-dead_is w live (shape.Resolver p) = refl
-dead_is w live (shape.Audition node) = refl
+dead_is w live other = refl
 
 changed_at : (w : World) (ts : List HeldThing) (k : ℕ) (t : HeldThing) → slice_get ts k ≡ Some t
     → machine.change machine.dead k (map (thing_of w) ts) ≡ map (thing_of w) (slice_set ts k (record t { alive = false }))

@@ -129,15 +129,13 @@ captures_are w here so_far (x ∷ xs) =
 
 named_met : (w : World) (p : Option Node) (me : ℕ) (here : Scope) → ((named p me here).act ≡ here.act) × (scope_of w (named p me here) ≡ scopes.named p (Ref (Obj me)) (scope_of w here))
 unfolding named scopes.named scopes.with_noun any_guard
-named_met w None me here = (refl, refl)
 named_met w (Some (Final x g)) me here = (refl, ap (λ (ns : List (Bond Local)). record { act = here.act; nouns = ns }) (onto_more w [] here.nouns (record { noun = x; bound = scope.Fixed (held.Obj me) no_guard })))
-named_met w (Some _) me here = (refl, refl)
+named_met w other me here = (refl, refl)
 
 named_there : (h : Contents) (p : Option Node) (me : ℕ) (here : Scope) → are_bound h here.nouns ≡ true → are_bound h (named p me here).nouns ≡ true
 unfolding named
-named_there h None me here i = i
 named_there h (Some (Final x g)) me here i = bound_more h here.nouns (record { noun = x; bound = scope.Fixed (held.Obj me) no_guard }) i refl
-named_there h (Some _) me here i = i
+named_there h other me here i = i
 
 pub things_are : (w : World) (s : Room) → (vat w s).things ≡ map (thing_of w) s.heap.things
 unfolding vat_of
@@ -241,9 +239,8 @@ picked false b v ps body f r h = h
 one_method : (verb : Words) (n : ℕ) (o f : Option Node) (r : Option scopes.Body) → r ≡ body_of f
     → elim (scopes.suits verb n o) [ Some c ↦ Some c | None ↦ r ] ≡ body_of (if suits verb n o then o else f)
 unfolding suits scopes.suits
-one_method verb n None f r h = h
 one_method verb n (Some (Method v ps b)) f r h = rw (same_is v verb) (picked (bytes_eq v verb) (length ps == n) v ps b f r h)
-one_method verb n (Some _) f r h = h
+one_method verb n other f r h = h
 
 method_more : (tree : List Node) (m : ℕ) (ms : List ℕ) (verb : Words) (n : ℕ)
     → scopes.method_of tree (m ∷ ms) verb n ≡ elim (scopes.suits verb n (slice_get tree m)) [ Some c ↦ Some c | None ↦ scopes.method_of tree ms verb n ]

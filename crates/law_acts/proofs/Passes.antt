@@ -32,9 +32,8 @@ use Rattle.law_acts.proofs.Lists.{every_one}
 -- ---- no text is missing
 
 abbrev Measured : Result ℕ Misfit → Type 0
-Measured (Ok n) = Unit {0}
-Measured (Err misfit.TooHeavy) = Unit {0}
 Measured (Err misfit.Missing) = ⊥
+Measured other = Unit {0}
 
 fits : (b : Bool) (n : ℕ) → Measured (if b then Ok n else Err misfit.TooHeavy)
 fits true n = tt
@@ -94,9 +93,8 @@ module _ (kind : Value → Bool) (base : Base) (ground : GroundOf kind base) whe
 
   list_weighed : (i : Interior) (k : ℕ) (r : Result ℕ Misfit) → Measured r → WeighedOf (weighed_list i k r)
   unfolding weighed_list
-  list_weighed i k (Ok left) a = tt
-  list_weighed i k (Err misfit.TooHeavy) a = tt
   list_weighed i k (Err misfit.Missing) a = a
+  list_weighed i k other a = tt
 
   data_weighed : (v : Value) (o : Option ℕ) (n : ℕ) → o ≡ Some n → WeighedOf (weighed_data v o)
   unfolding weighed_data
@@ -142,8 +140,7 @@ module _ (kind : Value → Bool) (base : Base) (ground : GroundOf kind base) whe
   address_of w y (FarPromise v n) i good = introduce_if (v == w) y v (reference.Promise n) i good
   address_of w y (FarObject v p) i good = introduce_if (v == w) y v (reference.Far v p) i good
   address_of w y (Mine n) i good = then_of kind base Anything Anything (to_tell w n i) _ (to_tell_of kind base w n i good) (λ u a j next. give_of kind base Anything (Plain y) j tt next)
-  address_of w y Near i good = give_of kind base Anything (Plain y) i tt good
-  address_of w y (Gone t) i good = give_of kind base Anything (Plain y) i tt good
+  address_of w y other i good = give_of kind base Anything (Plain y) i tt good
 
   packs_of : (P : Value → Type 0) (f : Value → Act Parcel) (vs : List Value) (i : Interior) → Every P vs
       → ((v : Value) → P v → (j : Interior) → InsideOf kind base j → EndsOf kind base Anything (f v j)) → InsideOf kind base i → EndsOf kind base Anything (packs f vs i)
@@ -206,10 +203,7 @@ module _ (kind : Value → Bool) (base : Base) (ground : GroundOf kind base) whe
   inform_at_of : (p w : ℕ) (y : Value) (q : Place) (i : Interior) → InsideOf kind base i → IsOf kind y → EndsOf kind base Anything (inform_at p w y q i)
   unfolding inform_at
   inform_at_of p w y (FarObject v x) i good a = send_out_of kind base w (Elsewhere p v) i good
-  inform_at_of p w y Near i good a = plainly_of p w y i good a
-  inform_at_of p w y (Mine n) i good a = plainly_of p w y i good a
-  inform_at_of p w y (FarPromise v n) i good a = plainly_of p w y i good a
-  inform_at_of p w y (Gone t) i good a = plainly_of p w y i good a
+  inform_at_of p w y other i good a = plainly_of p w y i good a
 
   inform_if : (b : Bool) (p w : ℕ) (y : Value) (q : Place) (i : Interior) → InsideOf kind base i → IsOf kind y → EndsOf kind base Anything ((if b then give tt else inform_at p w y q) i)
   inform_if true p w y q i good a = give_of kind base Anything tt i tt good

@@ -106,23 +106,11 @@ module _ (w : World) (h : Contents) (sound : Each (IsListed h) h.lists) where
   unfolding scopes.is_plain scopes.plain_by
   plain_within zero (held.List id) t = lowest id t
   plain_within (suc d) (held.List id) t = round d id (plain_within d) t
-  plain_within zero held.Null t = low true 0
-  plain_within zero (held.Bool b) t = low true 0
-  plain_within zero (held.Int z) t = low true 0
-  plain_within zero (held.Char c) t = low true 0
-  plain_within zero (held.Text i) t = low true 0
-  plain_within zero (held.Broken i) t = low true 0
-  plain_within zero (held.Prim n) t = low true 0
   plain_within zero (held.Obj i) t = refl
-  plain_within (suc d) held.Null t = low true (suc d)
-  plain_within (suc d) (held.Bool b) t = low true (suc d)
-  plain_within (suc d) (held.Int z) t = low true (suc d)
-  plain_within (suc d) (held.Char c) t = low true (suc d)
-  plain_within (suc d) (held.Text i) t = low true (suc d)
-  plain_within (suc d) (held.Broken i) t = low true (suc d)
-  plain_within (suc d) (held.Prim n) t = low true (suc d)
   plain_within (suc d) (held.Obj i) t = refl
   plain_within zero (held.Prom k) t = refl
   plain_within zero (held.Far v p) t = refl
   plain_within (suc d) (held.Prom k) t = refl
   plain_within (suc d) (held.Far v p) t = refl
+  plain_within zero other t = low true 0
+  plain_within (suc d) other t = low true (suc d)

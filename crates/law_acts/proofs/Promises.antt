@@ -128,16 +128,7 @@ module _ (w : World) (tree : List Node) (their : scopes.Caller Local) (s : Inter
   breaks_met : (act : ℕ) (y : Held) → is_there s.heap y ≡ true → Met w a_value s (broken_as (broken_of y) s) (perform.reply (names w) tree their act (broken_reply (texts_of w) (broken_of y)) (vat w s))
   unfolding broken_as perform.reply
   breaks_met act (held.Text t) i = give_met w a_value (held.Broken t) s sound i
-  breaks_met act held.Null i = fails_met w a_value BadArgument s sound
-  breaks_met act (held.Bool b) i = fails_met w a_value BadArgument s sound
-  breaks_met act (held.Int z) i = fails_met w a_value BadArgument s sound
-  breaks_met act (held.Char c) i = fails_met w a_value BadArgument s sound
-  breaks_met act (held.List k) i = fails_met w a_value BadArgument s sound
-  breaks_met act (held.Prim n) i = fails_met w a_value BadArgument s sound
-  breaks_met act (held.Obj n) i = fails_met w a_value BadArgument s sound
-  breaks_met act (held.Prom n) i = fails_met w a_value BadArgument s sound
-  breaks_met act (held.Far h p) i = fails_met w a_value BadArgument s sound
-  breaks_met act (held.Broken p) i = fails_met w a_value BadArgument s sound
+  breaks_met act other i = fails_met w a_value BadArgument s sound
 
   pub broken_met : (act : ℕ) (t : Held) → is_there s.heap t ≡ true → Met w a_value s (broken t s) (perform.perform (names w) tree their act (native.Breaks (value_of w t)) (vat w s))
   unfolding broken
@@ -164,26 +155,19 @@ module _ (w : World) (tree : List Node) (their : scopes.Caller Local) (s : Inter
   replied_met act NotResolved i = throw_met w a_value not_resolved_id s sound (known_there s sound not_resolved_id refl)
 
   fulfilled_there : (x : Held) (p : Place) → is_there s.heap x ≡ true → PlaceThere p → ReplyThere s (fulfilled_at x p)
-  fulfilled_there x Near i j = i
-  fulfilled_there x (FarObject h p) i j = i
   fulfilled_there x (Gone t) i j = j
   fulfilled_there x (Mine n) i j = tt
   fulfilled_there x (FarPromise h n) i j = tt
+  fulfilled_there x other i j = i
 
   problem_there : (p : Place) → PlaceThere p → is_there s.heap (problem_at p) ≡ true
-  problem_there Near j = refl
-  problem_there (FarObject h p) j = refl
   problem_there (Gone t) j = j
-  problem_there (Mine n) j = refl
-  problem_there (FarPromise h n) j = refl
+  problem_there other j = refl
 
   told_there : (test : RefTest) (x : Held) (p : Place) → is_there s.heap x ≡ true → PlaceThere p → ReplyThere s (told_at test x p)
-  told_there IsNear x p i j = refl
-  told_there IsFar x p i j = refl
-  told_there IsResolved x p i j = refl
-  told_there IsBroken x p i j = refl
   told_there OptProblem x p i j = problem_there p j
   told_there Fulfillment x p i j = fulfilled_there x p i j
+  told_there other x p i j = refl
 
   hosted_there : (b : Bool) (n h : ℕ) → PlaceThere (if b then Mine n else FarPromise h n)
   hosted_there true n h = tt
@@ -193,15 +177,7 @@ module _ (w : World) (tree : List Node) (their : scopes.Caller Local) (s : Inter
   unfolding place_of hosted
   placed_there (held.Broken t) i = i
   placed_there (held.Prom n) i = hosted_there (s.refs.me == host_of s.refs n) n (host_of s.refs n)
-  placed_there (held.Far h p) i = tt
-  placed_there held.Null i = tt
-  placed_there (held.Bool b) i = tt
-  placed_there (held.Int z) i = tt
-  placed_there (held.Char c) i = tt
-  placed_there (held.Text t) i = tt
-  placed_there (held.List k) i = tt
-  placed_there (held.Prim n) i = tt
-  placed_there (held.Obj n) i = tt
+  placed_there other i = tt
 
   pub test_met : (act : ℕ) (test : RefTest) (x : Held) → is_there s.heap x ≡ true → Met w a_value s (test_value test x s) (perform.perform (names w) tree their act (native.Tells (ref_test_in test) (value_of w x)) (vat w s))
   unfolding test_value
@@ -226,12 +202,11 @@ chosen_is w false false x = refl
 
 asked_is : (w : World) (verb : Words) (args : List Held) → scopes.resolver_ask verb (values_of w args) ≡ ask_by w (resolving verb args)
 unfolding scopes.resolver_ask resolving entry
-asked_is w verb [] = refl
 asked_is w verb (x ∷ []) =
     ap (λ (b : Bool). asks_chosen w b (same_words (codes "smash") verb) x) (same_turned (codes "resolve") verb)
     ∙ ap (λ (b : Bool). asks_chosen w (bytes_eq verb (codes "resolve")) b x) (same_turned (codes "smash") verb)
     ∙ chosen_is w (bytes_eq verb (codes "resolve")) (bytes_eq verb (codes "smash")) x
-asked_is w verb (x ∷ y ∷ zs) = refl
+asked_is w verb other = refl
 
 abbrev AskedThere : Interior → Resolving → Type 0
 AskedThere s (Resolves x) = is_there s.heap x ≡ true
@@ -245,9 +220,8 @@ choice_there s false false x i = tt
 
 asked_there : (s : Interior) (verb : Words) (args : List Held) → are_there s.heap args ≡ true → AskedThere s (resolving verb args)
 unfolding resolving
-asked_there s verb [] i = tt
 asked_there s verb (x ∷ []) i = choice_there s (bytes_eq verb (codes "resolve")) (bytes_eq verb (codes "smash")) x (both (is_there s.heap x) true i).0
-asked_there s verb (x ∷ y ∷ zs) i = tt
+asked_there s verb other i = tt
 
 module _ (w : World) (tree : List Node) (s : Interior) (sound : IsSound s) where
   resolved_met : (r : Resolution) (t : Interior) → IsSound t → Met w a_value t (resolution r t) (resolution_by r (vat w t))

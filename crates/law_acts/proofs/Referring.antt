@@ -53,15 +53,7 @@ module _ (s : Interior) (sound : IsSound s) where
   has_text : (v : Held) → stands_in s v → (n : ℕ) × (own_weight s.heap v ≡ Some n)
   has_text (held.Text id) i = weighed_text s.heap.texts id (below id (length s.heap.texts) i)
   has_text (held.Broken id) i = weighed_text s.heap.texts id (below id (length s.heap.texts) i)
-  has_text (held.List k) i = (1, refl)
-  has_text held.Null i = (1, refl)
-  has_text (held.Bool b) i = (1, refl)
-  has_text (held.Int z) i = (1, refl)
-  has_text (held.Char c) i = (1, refl)
-  has_text (held.Prim n) i = (1, refl)
-  has_text (held.Obj n) i = (1, refl)
-  has_text (held.Prom n) i = (1, refl)
-  has_text (held.Far h p) i = (1, refl)
+  has_text other i = (1, refl)
 
   members_so : (k : ℕ) → members_at (lists_in s.heap) k ≡ answers.members_at s.heap k
   members_so k = ap (λ (o : Option (List Held)). unwrap_or o []) (slice_get-map (λ (l : Listed). l.members) s.heap.lists k)

@@ -52,9 +52,7 @@ module _ (kind : Value → Bool) (base : Base) (ground : GroundOf kind base) whe
   unfolding resolve_placed
   resolve_at p y (Mine n) i good a = waits_of p n i good
   resolve_at p y (FarPromise w n) i good a = waits_of p n i good
-  resolve_at p y Near i good a = settle_of kind base ground p y i good a
-  resolve_at p y (FarObject w x) i good a = settle_of kind base ground p y i good a
-  resolve_at p y (Gone t) i good a = settle_of kind base ground p y i good a
+  resolve_at p y other i good a = settle_of kind base ground p y i good a
 
   pub resolve_of : (p : ℕ) (x : Value) (i : Interior) → InsideOf kind base i → IsOf kind x → EndsOf kind base Anything (resolve p x i)
   unfolding resolve
@@ -126,9 +124,7 @@ module _ (kind : Value → Bool) (base : Base) (ground : GroundOf kind base) whe
   unfolding react_placed
   react_at_of m (Mine n) i good a = react_known_of n m i good a
   react_at_of m (FarPromise w n) i good a = react_known_of n m i good a
-  react_at_of m Near i good a = enqueue_of kind base ground m i good a
-  react_at_of m (FarObject w p) i good a = enqueue_of kind base ground m i good a
-  react_at_of m (Gone t) i good a = enqueue_of kind base ground m i good a
+  react_at_of m other i good a = enqueue_of kind base ground m i good a
 
   react_on_of : (m : Message) (x : Value) (i : Interior) → InsideOf kind base i → MessageOf kind m → EndsOf kind base Anything (react_on m x i)
   unfolding react_on
@@ -146,10 +142,7 @@ module _ (kind : Value → Bool) (base : Base) (ground : GroundOf kind base) whe
   when_at_of : (act : ℕ) (x o y : Value) (p : Place) (w : ℕ) (i : Interior) → InsideOf kind base i → IsOf kind x → IsOf kind y → EndsOf kind base Anything (when_placed act x o y p w i)
   unfolding when_placed some_answer ◌>>=◌
   when_at_of act x o y Near w i good a b = then_of kind base Anything Anything (react_new act x o y w i) _ (react_new_of act x o y w i good a b) (λ n c j next. give_of kind base Anything (Some n) j tt next)
-  when_at_of act x o y (Mine n) w i good a b = give_of kind base Anything None i tt good
-  when_at_of act x o y (FarPromise v n) w i good a b = give_of kind base Anything None i tt good
-  when_at_of act x o y (FarObject v p) w i good a b = give_of kind base Anything None i tt good
-  when_at_of act x o y (Gone t) w i good a b = give_of kind base Anything None i tt good
+  when_at_of act x o y other w i good a b = give_of kind base Anything None i tt good
 
   -- ---- resolvers
 
@@ -161,16 +154,7 @@ module _ (kind : Value → Bool) (base : Base) (ground : GroundOf kind base) whe
   smash_of : (p : ℕ) (y : Value) (i : Interior) → InsideOf kind base i → IsOf kind y → EndsOf kind base Anything (smash_with p y i)
   unfolding smash_with
   smash_of p (held.Text t) i good a = open_of (is_open i.refs p) (settle p (held.Broken t)) i good (settle_of kind base ground p (held.Broken t) i good (ground.broken t a))
-  smash_of p held.Null i good a = give_of kind base Anything BadArgument i tt good
-  smash_of p (held.Bool b) i good a = give_of kind base Anything BadArgument i tt good
-  smash_of p (held.Int z) i good a = give_of kind base Anything BadArgument i tt good
-  smash_of p (held.Char c) i good a = give_of kind base Anything BadArgument i tt good
-  smash_of p (held.List k) i good a = give_of kind base Anything BadArgument i tt good
-  smash_of p (held.Prim n) i good a = give_of kind base Anything BadArgument i tt good
-  smash_of p (held.Obj n) i good a = give_of kind base Anything BadArgument i tt good
-  smash_of p (held.Prom n) i good a = give_of kind base Anything BadArgument i tt good
-  smash_of p (held.Far w x) i good a = give_of kind base Anything BadArgument i tt good
-  smash_of p (held.Broken t) i good a = give_of kind base Anything BadArgument i tt good
+  smash_of p other i good a = give_of kind base Anything BadArgument i tt good
 
   -- ---- the end of a turn
 

@@ -58,10 +58,8 @@ module _ (kind : Value → Bool) (base : Base) where
 
   waiters_of_kind : (st : Standing) (k : Known) → KnownOf kind k → IfThere WaitersOf (waiters_at st k)
   unfolding waiters_at
-  waiters_of_kind Unsettled k a = a.1
-  waiters_of_kind (WaitsOn q) k a = a.1
-  waiters_of_kind (Viewed q) k a = a.1
   waiters_of_kind (Settled v) k a = tt
+  waiters_of_kind other k a = a.1
 
   pub settled_of : (v : Value) (k : Known) → IsOf kind v → KnownOf kind k → KnownOf kind (settled_as v k)
   settled_of v k a b = unless_of kind base k.standing k _ b (a, (tt, tt))
@@ -87,16 +85,7 @@ module _ (kind : Value → Bool) (base : Base) where
   target_of_kind : (r : References) (ls : List (List Value)) (p : ℕ) (v : Value) → IsOf kind (held.Broken r.cycle) → IsOf kind v → IsOf kind (target_of r ls p v)
   unfolding target_of
   target_of_kind r ls p (held.List k) a b = broken_of (leads_back (suc (length ls)) r ls p (held.List k)) r (held.List k) a b
-  target_of_kind r ls p held.Null a b = b
-  target_of_kind r ls p (held.Bool x) a b = b
-  target_of_kind r ls p (held.Int z) a b = b
-  target_of_kind r ls p (held.Char c) a b = b
-  target_of_kind r ls p (held.Text t) a b = b
-  target_of_kind r ls p (held.Prim n) a b = b
-  target_of_kind r ls p (held.Obj i) a b = b
-  target_of_kind r ls p (held.Prom n) a b = b
-  target_of_kind r ls p (held.Far w x) a b = b
-  target_of_kind r ls p (held.Broken t) a b = b
+  target_of_kind r ls p other a b = b
 
 module _ (kind : Value → Bool) (base : Base) (ground : GroundOf kind base) where
   abbrev known_at : (n : ℕ) (i : Interior) → InsideOf kind base i → IfThere (KnownOf kind) (slice_get i.refs.known n)

@@ -176,9 +176,7 @@ module _ {a b : Contents} (g : Grown a b) where
 
   shape_on : (sh : Shape) → IsPlainShape a sh → IsPlainShape b sh
   shape_on (Made node caught stamps) p = (p.0, (p.1.0, (all_on stamps p.1.1.0, scope_on p.0 p.1.1.1)))
-  shape_on Ejector p = tt
-  shape_on (Resolver k) p = tt
-  shape_on (Audition view) p = tt
+  shape_on other p = tt
 
   pub things_on : (ts : List Thing) → Each (IsPlainThing a) ts → Each (IsPlainThing b) ts
   things_on ts h = each_on (IsPlainThing a) (IsPlainThing b) ts (λ t p. shape_on t.shape p) h
@@ -198,10 +196,8 @@ module _ {a b : Contents} (g : Grown a b) where
   messages_on ms h = every_on (MessageOf (is_there a)) (MessageOf (is_there b)) (λ m p. (there_on m.target p.0, every_there m.args p.1)) ms h
 
   standing_on : (st : Standing) → StandingOf (is_there a) st → StandingOf (is_there b) st
-  standing_on Unsettled p = tt
-  standing_on (WaitsOn q) p = tt
-  standing_on (Viewed q) p = tt
   standing_on (Settled v) p = there_on v p
+  standing_on other p = tt
 
   known_on : (k : Known) → KnownOf (is_there a) k → KnownOf (is_there b) k
   known_on k p = (standing_on k.standing p.0, (messages_on k.held p.1.0, messages_on k.reactions p.1.1))

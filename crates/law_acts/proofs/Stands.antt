@@ -300,37 +300,11 @@ activation_met w x s sound = record {
 
 problem_text : (w : World) (p : Problem) → text_of w (problem_id p) ≡ problem_words p
 problem_text w (Arithmetic Overflow) = refl
-problem_text w (Arithmetic ZeroDivisor) = refl
-problem_text w (Arithmetic NegativePower) = refl
-problem_text w NotInt = refl
-problem_text w NoMethod = refl
-problem_text w NotChar = refl
-problem_text w NotBoolean = refl
-problem_text w NotText = refl
-problem_text w NotList = refl
-problem_text w OutOfRange = refl
-problem_text w BadArgument = refl
-problem_text w NotComparable = refl
-problem_text w TooHeavy = refl
-problem_text w Unthrowable = refl
-problem_text w DeadEjector = refl
+problem_text w other = refl
 
 problem_small : (p : Problem) → nat_lt (problem_id p) 47 ≡ true
 problem_small (Arithmetic Overflow) = refl
-problem_small (Arithmetic ZeroDivisor) = refl
-problem_small (Arithmetic NegativePower) = refl
-problem_small NotInt = refl
-problem_small NoMethod = refl
-problem_small NotChar = refl
-problem_small NotBoolean = refl
-problem_small NotText = refl
-problem_small NotList = refl
-problem_small OutOfRange = refl
-problem_small BadArgument = refl
-problem_small NotComparable = refl
-problem_small TooHeavy = refl
-problem_small Unthrowable = refl
-problem_small DeadEjector = refl
+problem_small other = refl
 
 known_among : (n : ℕ) (more : List Words) → nat_lt n 47 ≡ true → nat_lt n (length (problems ++ more)) ≡ true
 known_among n more h =

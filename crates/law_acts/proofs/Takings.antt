@@ -28,28 +28,12 @@ use Rattle.law_acts.proofs.Stands.{vat, place_is}
 plain_text : (w : World) (k : Kind) → text_of w (refusal_id (record { kind = k; or_null = false })) ≡ codes "not " ++ guard_name (kind_in k)
 unfolding guard_name
 plain_text w kind.Any = refl
-plain_text w kind.Void = refl
-plain_text w kind.Int = refl
-plain_text w kind.Boolean = refl
-plain_text w kind.Char = refl
-plain_text w kind.Text = refl
-plain_text w kind.List = refl
-plain_text w kind.Null = refl
-plain_text w kind.Near = refl
-plain_text w kind.Frozen = refl
+plain_text w other = refl
 
 null_text : (w : World) (k : Kind) → text_of w (refusal_id (record { kind = k; or_null = true })) ≡ codes "not " ++ guard_name (OrNull (kind_in k))
 unfolding guard_name
 null_text w kind.Any = refl
-null_text w kind.Void = refl
-null_text w kind.Int = refl
-null_text w kind.Boolean = refl
-null_text w kind.Char = refl
-null_text w kind.Text = refl
-null_text w kind.List = refl
-null_text w kind.Null = refl
-null_text w kind.Near = refl
-null_text w kind.Frozen = refl
+null_text w other = refl
 
 refusal_by : (w : World) (k : Kind) (b : Bool) → text_of w (refusal_id (record { kind = k; or_null = b })) ≡ codes "not " ++ guard_name (guard_in (record { kind = k; or_null = b }))
 refusal_by w k true = null_text w k
@@ -115,8 +99,6 @@ module _ (w : World) (tree : List Node) (s : Room) (sound : Each (IsListed s.hea
 
   kind_is : (k : Kind) → option_map (value_of w) (kind_takes s.heap k x y) ≡ perform.taken (names w) tree (vat w s) (kind_in k) (value_of w x) (value_of w y)
   unfolding perform.taken
-  kind_is kind.Any = refl
-  kind_is kind.Void = refl
   kind_is kind.Int = where_is w _ _ y (int_is y)
   kind_is kind.Boolean = where_is w _ _ y (boolean_is y)
   kind_is kind.Char = where_is w _ _ y (char_is y)
@@ -125,6 +107,7 @@ module _ (w : World) (tree : List Node) (s : Room) (sound : Each (IsListed s.hea
   kind_is kind.Null = where_is w _ _ y (null_is y)
   kind_is kind.Near = where_is w _ _ y (near_is y)
   kind_is kind.Frozen = where_is w _ _ y (frozen_is w tree s sound y t)
+  kind_is other = refl
 
   null_or_is : (k : Kind) (a b : Bool) → a ≡ b
       → option_map (value_of w) (if b then Some held.Null else kind_takes s.heap k x y)

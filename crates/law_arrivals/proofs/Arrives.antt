@@ -58,8 +58,7 @@ use Rattle.law_arrivals.proofs.Leaving.{Sounds, leaves_inside, leaves_on, leaves
 -- what is known stands in each heap
 pub named_there : (s : Interior) (r : Reference) → is_there s.heap (value_at r) ≡ true
 named_there s (reference.Object i) = refl
-named_there s (reference.Promise n) = refl
-named_there s (reference.Far h p) = refl
+named_there s other = refl
 
 pub come_sounds : (v : ℕ) → Sounds (within (come v))
 come_sounds v = sounds_within (come v) (λ s sound. come_of (is_there s.heap) (base_of s) (ground_of s sound) v s (inside_of s sound))
@@ -176,9 +175,7 @@ break_name_sounds n h sound = settle_ends n (held.Broken h.inside.refs.partition
 break_by_sounds : (n : ℕ) (st : Standing) → Sounds (break_by n st)
 unfolding break_by
 break_by_sounds n (Settled v) = sounds_give tt
-break_by_sounds n Unsettled = break_name_sounds n
-break_by_sounds n (WaitsOn q) = break_name_sounds n
-break_by_sounds n (Viewed q) = break_name_sounds n
+break_by_sounds n other = break_name_sounds n
 
 break_at_sounds : (n : ℕ) → Sounds (break_at n)
 unfolding break_at
@@ -186,10 +183,9 @@ break_at_sounds n h sound = break_by_sounds n (standing_now h.inside.refs n) h s
 
 break_hosted_by_sounds : (n : ℕ) (st : Standing) → Sounds (break_hosted_by n st)
 unfolding break_hosted_by
-break_hosted_by_sounds n (Settled v) = sounds_give tt
-break_hosted_by_sounds n (Viewed q) = sounds_give tt
 break_hosted_by_sounds n Unsettled = break_name_sounds n
 break_hosted_by_sounds n (WaitsOn q) = break_name_sounds n
+break_hosted_by_sounds n other = sounds_give tt
 
 break_hosted_sounds : (n : ℕ) → Sounds (break_hosted n)
 unfolding break_hosted
@@ -248,9 +244,7 @@ break_orphan_sounds p i n h sound =
 tell_by_sounds : (n v : ℕ) (st : Standing) → Sounds (tell_by n v st)
 unfolding tell_by
 tell_by_sounds n v (Settled x) = inform_sounds n v
-tell_by_sounds n v Unsettled = to_tell_sounds v n
-tell_by_sounds n v (WaitsOn q) = to_tell_sounds v n
-tell_by_sounds n v (Viewed q) = to_tell_sounds v n
+tell_by_sounds n v other = to_tell_sounds v n
 
 tell_asker_sounds : (n v : ℕ) → Sounds (tell_asker n v)
 unfolding tell_asker
@@ -295,10 +289,7 @@ arrive_elsewhere_sounds x c = sounds_then (learn_subject x) (λ n. settled_at n 
 shorten_to_sounds : (i : ℕ) (p : Place) → Sounds (shorten_to i p)
 unfolding shorten_to
 shorten_to_sounds i (FarObject v p) = send_sounds v _
-shorten_to_sounds i Near = sounds_give tt
-shorten_to_sounds i (Mine n) = sounds_give tt
-shorten_to_sounds i (FarPromise v n) = sounds_give tt
-shorten_to_sounds i (Gone t) = sounds_give tt
+shorten_to_sounds i other = sounds_give tt
 
 shorten_value_sounds : (i : ℕ) (v : Value) → Sounds (shorten_value i v)
 unfolding shorten_value

@@ -31,16 +31,7 @@ AllThere h vs = are_there h vs ≡ true
 
 kept_there : (h : Contents) (v : Value) → is_kept h v ≡ true → is_there h v ≡ true
 kept_there h (held.Text id) i = i
-kept_there h (held.Broken id) i = i
-kept_there h (held.List id) i = i
-kept_there h held.Null i = i
-kept_there h (held.Bool b) i = i
-kept_there h (held.Int z) i = i
-kept_there h (held.Char c) i = i
-kept_there h (held.Prim n) i = i
-kept_there h (held.Obj n) i = i
-kept_there h (held.Prom n) i = i
-kept_there h (held.Far c p) i = i
+kept_there h other i = i
 
 -- ---- lists
 

@@ -93,11 +93,7 @@ break_subject_sounds x =
 break_back_sounds : (note : Heard) → Sounds (break_back note)
 unfolding break_back
 break_back_sounds (Elsewhere x c) = break_subject_sounds x
-break_back_sounds (Deliver m asks x verb args) = sounds_give tt
-break_back_sounds (Open i x) = sounds_give tt
-break_back_sounds (Ask p i) = sounds_give tt
-break_back_sounds (Settled x y) = sounds_give tt
-break_back_sounds (Shorten x i) = sounds_give tt
+break_back_sounds other = sounds_give tt
 
 by_ends : (nothing back : Bool) (from : ℕ) (note : Heard) (h : Host) → IsSound h.inside → NoteFits h.inside.heap note → EndsSound h.inside (receive_by nothing back from note h)
 unfolding receive_by

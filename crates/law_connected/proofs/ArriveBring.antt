@@ -20,15 +20,8 @@ module _ (word : ℕ → ℕ) (home : ℕ) (past : Past) where
 
   pub brings_learn_value : (x1 : Value (Incoming Name Name)) → Brings past (arrive.learn_value (naming word home) x1)
   unfolding arrive.learn_value
-  brings_learn_value Null = search (brings) depth 14
-  brings_learn_value (Flag b) = search (brings) depth 14
-  brings_learn_value (Number z) = search (brings) depth 14
-  brings_learn_value (Letter c) = search (brings) depth 14
-  brings_learn_value (Text t) = search (brings) depth 14
-  brings_learn_value (Prim n) = search (brings) depth 14
-  brings_learn_value (Broken p) = search (brings) depth 14
-  brings_learn_value (Items k) = search (brings) depth 14
   brings_learn_value (Ref x) = search (brings, brings_learn_name) depth 14
+  brings_learn_value other = search (brings) depth 14
 
   pub brings_ask_for : (x1 : ℕ) → (x2 : ℕ) → (x3 : ℕ) → (x4 : Name) → Brings past (arrive.ask_for (naming word home) x1 x2 x3 x4)
   unfolding arrive.ask_for
@@ -218,10 +211,9 @@ module _ (word : ℕ → ℕ) (home : ℕ) (past : Past) where
 
   pub brings_break_hosted : (x1 : ℕ) → (x2 : Name) → (x3 : Words) → (x4 : Standing Name) → Brings past (arrive.break_hosted (naming word home) x1 x2 x3 x4)
   unfolding arrive.break_hosted
-  brings_break_hosted w n p Unsettled = search (brings, brings_settle) depth 14
-  brings_break_hosted w n p (WaitsOn q) = search (brings, brings_settle) depth 14
   brings_break_hosted w n p (Viewed q) = search (brings) depth 14
   brings_break_hosted w n p (Settled y) = search (brings) depth 14
+  brings_break_hosted w n p other = search (brings, brings_settle) depth 14
 
   pub brings_notice_name : (x1 : ℕ) → (x2 : Known Name) → Brings past (arrive.notice_name (naming word home) x1 x2)
   unfolding arrive.notice_name

@@ -113,9 +113,7 @@ module _ {N W : Type 0} (K : Naming N W) (E : Start N W) where
   breaks_at : (n : N) (p : Words) (x : Standing N) (s : Vat N) → Causes K E s → SettlesWell K E s.happened n (Broken p) → Ends K E s (Any K E) (arrive.break_at K n p x s)
   unfolding arrive.break_at
   breaks_at n p (Settled y) s c w = (steady_give K E tt).after s c
-  breaks_at n p (Viewed q) s c w = settles_well K E n (Broken p) s c w
-  breaks_at n p (WaitsOn q) s c w = settles_well K E n (Broken p) s c w
-  breaks_at n p Unsettled s c w = settles_well K E n (Broken p) s c w
+  breaks_at n p other s c w = settles_well K E n (Broken p) s c w
 
   breaks_unopened : (n : N) (b : Bool) (s : Vat N) → Causes K E s → (w : ℕ) → IsNoticed K E w → IsOf K E w n → Ends K E s (Any K E) (arrive.break_unopened K n b s)
   unfolding arrive.break_unopened ◌>>=◌ look and_then
@@ -125,9 +123,7 @@ module _ {N W : Type 0} (K : Naming N W) (E : Start N W) where
   tells_asker : (n : N) (w : ℕ) (x : Standing N) (s : Vat N) → Causes K E s → Ends K E s (Any K E) (arrive.tell_asker K n w x s)
   unfolding arrive.tell_asker
   tells_asker n w (Settled y) s c = (steady_inform K E n w).after s c
-  tells_asker n w (Viewed q) s c = (steady_to_tell K E w n).after s c
-  tells_asker n w (WaitsOn q) s c = (steady_to_tell K E w n).after s c
-  tells_asker n w Unsettled s c = (steady_to_tell K E w n).after s c
+  tells_asker n w other s c = (steady_to_tell K E w n).after s c
 
   -- ---- arrival
 
@@ -223,10 +219,7 @@ module _ {N W : Type 0} (K : Naming N W) (E : Start N W) where
   shortens_to : (i : ℕ) (p : Place N) (s : Vat N) → Causes K E s → Ends K E s (Any K E) (arrive.shorten_to K i p s)
   unfolding arrive.shorten_to
   shortens_to i (Away h n true) s c = (steady_out K E h (Open i n)).after s c
-  shortens_to i (Away h n false) s c = (steady_give K E tt).after s c
-  shortens_to i refs.Near s c = (steady_give K E tt).after s c
-  shortens_to i (refs.Mine n) s c = (steady_give K E tt).after s c
-  shortens_to i (refs.Gone p) s c = (steady_give K E tt).after s c
+  shortens_to i other s c = (steady_give K E tt).after s c
 
   shortens_well : (x : Incoming N W) (i : ℕ) (s : Vat N) → Causes K E s → Ends K E s (Any K E) (arrive.arrive_shorten K x i s)
   unfolding arrive.arrive_shorten ◌>>=◌ look and_then
@@ -246,10 +239,9 @@ module _ {N W : Type 0} (K : Naming N W) (E : Start N W) where
   module _ (w : ℕ) (is : E.step ≡ Notices w) where
     breaks_hosted : (n : N) (x : Standing N) (s : Vat N) → Causes K E s → IsOf K E w n → Ends K E s (Any K E) (arrive.break_hosted K w n (codes "partition") x s)
     unfolding arrive.break_hosted
-    breaks_hosted n Unsettled s c o = settles_well K E n (Broken (codes "partition")) s c (inr (w, inr is, o, refl))
-    breaks_hosted n (WaitsOn q) s c o = settles_well K E n (Broken (codes "partition")) s c (inr (w, inr is, o, refl))
     breaks_hosted n (Viewed q) s c o = (steady_give K E tt).after s c
     breaks_hosted n (Settled y) s c o = (steady_give K E tt).after s c
+    breaks_hosted n other s c o = settles_well K E n (Broken (codes "partition")) s c (inr (w, inr is, o, refl))
 
     notices_name : (k : Known N) (s : Vat N) → Causes K E s → IsAmong k E.vat.known → Ends K E s (Any K E) (arrive.notice_name K w k s)
     unfolding arrive.notice_name ◌>>=◌ look and_then

@@ -52,9 +52,8 @@ module _ {N W : Type 0} (K : Naming N W) (E : Start N W) where
 
     mutual
       pub learnt_more : (y : Passed (Incoming N W)) (v : Value N) → IsLearntAs K E so y v → IsLearntAs K E (so ++ more) y v
-      learnt_more (Plain y) v h = h
-      learnt_more (AGift w i) v h = h
       learnt_more (Many ys) v h = (h.0, h.1, h.2, among_more _ so more h.3, learnt_all_more ys h.1 h.4)
+      learnt_more other v h = h
 
       pub learnt_all_more : (ys : Passeds (Incoming N W)) (vs : List (Value N)) → AreLearntAs K E so ys vs → AreLearntAs K E (so ++ more) ys vs
       learnt_all_more NoMore [] h = tt
@@ -65,13 +64,7 @@ module _ {N W : Type 0} (K : Naming N W) (E : Start N W) where
     says_more : (step : Step N W) (p : N) (v : Value N) → Says K E so step p v → Says K E (so ++ more) step p v
     says_more (Receives from (SettledTo x y)) p v h = (h.0, learnt_more y v h.1)
     says_more (Receives from (Open i x)) p v h = h
-    says_more (Receives from (Deliver d x verb ys)) p v h = absurd h
-    says_more (Receives from (Ask q i x)) p v h = absurd h
-    says_more (Receives from (Elsewhere x c)) p v h = absurd h
-    says_more (Receives from (Shorten x c i)) p v h = absurd h
-    says_more (Opens tree depth root given) p v h = absurd h
-    says_more (Takes tree depth m) p v h = absurd h
-    says_more (Notices w) p v h = absurd h
+    says_more other p v h = absurd h
 
     pub waits_more : (p q : N) → WaitsFor K E so p q → WaitsFor K E (so ++ more) p q
     waits_more p q (inl h) = inl h
@@ -228,15 +221,11 @@ module _ {N W : Type 0} (K : Naming N W) (E : Start N W) where
       → ((a : A) (t : Vat N) → Further s t → Causes t → Q a t → Ends t R (f a t)) → Ends s R (and_then d f)
   unfolding and_then
   ends_then s (Gives a t) f Q R h k = ends_from s t R (f a t) h.0 (k a t h.0 h.1 h.2)
-  ends_then s (Throws p t) f Q R h k = h
-  ends_then s (Ejects n v t) f Q R h k = h
-  ends_then s (Stops c t) f Q R h k = h
+  ends_then s other f Q R h k = h
 
   pub ends_more : {A : Type 0} (s : Vat N) (d : Done N A) (Q R : A → Vat N → Type 0) → Ends s Q d → ((a : A) (t : Vat N) → Further s t → Q a t → R a t) → Ends s R d
   ends_more s (Gives a t) Q R h k = (h.0, h.1, k a t h.0 h.2)
-  ends_more s (Throws p t) Q R h k = h
-  ends_more s (Ejects n v t) Q R h k = h
-  ends_more s (Stops c t) Q R h k = h
+  ends_more s other Q R h k = h
 
   -- what needs no more than that all has its cause
   abbrev pub SteadyBy : Property N
@@ -352,9 +341,7 @@ module _ {N W : Type 0} (K : Naming N W) (E : Start N W) where
   unless_told : (so : List (Happened N)) (x : Standing N) (k new : Known N) → EntryTold so k → EntryTold so new → EntryTold so (unless_settled x k new)
   unfolding unless_settled
   unless_told so (Settled y) k new h i = h
-  unless_told so (Viewed q) k new h i = i
-  unless_told so (WaitsOn q) k new h i = i
-  unless_told so Unsettled k new h i = i
+  unless_told so other k new h i = i
 
   either_told : (so : List (Happened N)) (n : N) (c : Change N) (k : Known N) (ks : List (Known N)) (b : Bool) → K.same k.name n ≡ b → Suits so n c → EntryTold so k → AllOf (EntryTold so) ks → AllOf (EntryTold so) (with_change K c n ks)
       → AllOf (EntryTold so) (elim b [ true ↦ changed c k ∷ ks | false ↦ k ∷ with_change K c n ks ])

@@ -50,9 +50,7 @@ module _ {N : Type 0} (low : ℕ) where
   bind_after : {A B : Type 0} (d : Done N A) (f : A → Act N B) → Ends d → ((a : A) → Counts (f a)) → Ends (and_then d f)
   unfolding and_then
   bind_after (Gives a t) f h k = (k a).after t h
-  bind_after (Throws p t) f h k = h
-  bind_after (Ejects n v t) f h k = h
-  bind_after (Stops c t) f h k = h
+  bind_after other f h k = h
 
   pub counts_bind : {A B : Type 0} {m : Act N A} {f : A → Act N B} → Counts m → ((a : A) → Counts (f a)) → Counts (m >>= f)
   unfolding ◌>>=◌

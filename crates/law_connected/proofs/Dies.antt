@@ -35,9 +35,7 @@ live_end (x ∷ ts) t (suc i) e = on_end (live_end ts t i e)
 dead_not : {N : Type 0} (t : Thing N) → is_live (dead t) ≡ true → ⊥
 unfolding dead is_live
 dead_not (Made node caught stamps) e = false_true e
-dead_not (Ejector live) e = false_true e
-dead_not (Audition live view) e = false_true e
-dead_not (Resolver p) e = false_true e
+dead_not other e = false_true e
 
 killed : {N : Type 0} (ts : List (Thing N)) (j i : ℕ) → live_at (change dead j ts) i ≡ true → (live_at ts i ≡ true) × (i ≡ j → ⊥)
 unfolding change live_at
@@ -65,30 +63,22 @@ pub record Closes {N A : Type 0} (j : ℕ) (m : Act N A) : Type 0 where
 
 module _ {N : Type 0} where
   widen : {A : Type 0} (s t : Vat N) → WasLive s t → (d : Done N A) → LeavesDead t d → LeavesDead s d
-  widen s t r (Gives a u) h = λ i e. r i (h i e)
-  widen s t r (Throws p u) h = λ i e. r i (h i e)
-  widen s t r (Ejects n v u) h = λ i e. r i (h i e)
   widen s t r (Stops c u) h = tt
+  widen s t r other h = λ i e. r i (h i e)
 
   -- dead before, and dead after
   widen_dead : {A : Type 0} (j : ℕ) (s t : Vat N) → ((i : ℕ) → live_at t.things i ≡ true → (live_at s.things i ≡ true) × (i ≡ j → ⊥)) → (d : Done N A) → LeavesDead t d → Dead j s d
-  widen_dead j s t r (Gives a u) h = λ i e. r i (h i e)
-  widen_dead j s t r (Throws p u) h = λ i e. r i (h i e)
-  widen_dead j s t r (Ejects n v u) h = λ i e. r i (h i e)
   widen_dead j s t r (Stops c u) h = tt
+  widen_dead j s t r other h = λ i e. r i (h i e)
 
   later_dead : {A : Type 0} (j : ℕ) (s t : Vat N) → WasLive s t → (d : Done N A) → Dead j t d → Dead j s d
-  later_dead j s t r (Gives a u) h = λ i e. (r i (h i e).0, (h i e).1)
-  later_dead j s t r (Throws p u) h = λ i e. (r i (h i e).0, (h i e).1)
-  later_dead j s t r (Ejects n v u) h = λ i e. (r i (h i e).0, (h i e).1)
   later_dead j s t r (Stops c u) h = tt
+  later_dead j s t r other h = λ i e. (r i (h i e).0, (h i e).1)
 
   bind_after : {A B : Type 0} (s : Vat N) (d : Done N A) (f : A → Act N B) → LeavesDead s d → ((a : A) → Dies (f a)) → LeavesDead s (and_then d f)
   unfolding and_then
   bind_after s (Gives a t) f h k = widen s t h (f a t) ((k a).after t)
-  bind_after s (Throws p t) f h k = h
-  bind_after s (Ejects n v t) f h k = h
-  bind_after s (Stops c t) f h k = h
+  bind_after s other f h k = h
 
   pub dies_bind : {A B : Type 0} {m : Act N A} {f : A → Act N B} → Dies m → ((a : A) → Dies (f a)) → Dies (m >>= f)
   unfolding ◌>>=◌
@@ -139,22 +129,12 @@ module _ {N : Type 0} where
 
   -- what is done with what was made leaves it dead
   made_after : {B : Type 0} (s : Vat N) (t : Thing N) (d : Done N B) → Dead (length s.things) (record s { things = s.things ++ t ∷ [] }) d → LeavesDead s d
-  made_after s t (Gives a u) h = λ i e. fits i (live_end s.things t i (h i e).0) (h i e).1
-    where
-      fits : (i : ℕ) → (live_at s.things i ≡ true) ⊎ ((i ≡ length s.things) × (is_live t ≡ true)) → (i ≡ length s.things → ⊥) → live_at s.things i ≡ true
-      fits i (inl g) k = g
-      fits i (inr g) k = absurd (k g.0)
-  made_after s t (Throws p u) h = λ i e. fits i (live_end s.things t i (h i e).0) (h i e).1
-    where
-      fits : (i : ℕ) → (live_at s.things i ≡ true) ⊎ ((i ≡ length s.things) × (is_live t ≡ true)) → (i ≡ length s.things → ⊥) → live_at s.things i ≡ true
-      fits i (inl g) k = g
-      fits i (inr g) k = absurd (k g.0)
-  made_after s t (Ejects n v u) h = λ i e. fits i (live_end s.things t i (h i e).0) (h i e).1
-    where
-      fits : (i : ℕ) → (live_at s.things i ≡ true) ⊎ ((i ≡ length s.things) × (is_live t ≡ true)) → (i ≡ length s.things → ⊥) → live_at s.things i ≡ true
-      fits i (inl g) k = g
-      fits i (inr g) k = absurd (k g.0)
   made_after s t (Stops c u) h = tt
+  made_after s t other h = λ i e. fits i (live_end s.things t i (h i e).0) (h i e).1
+    where
+      fits : (i : ℕ) → (live_at s.things i ≡ true) ⊎ ((i ≡ length s.things) × (is_live t ≡ true)) → (i ≡ length s.things → ⊥) → live_at s.things i ≡ true
+      fits i (inl g) k = g
+      fits i (inr g) k = absurd (k g.0)
 
   pub dies_audition : {B : Type 0} (view : View N) (f : ℕ → Act N B) → ((j : ℕ) → Closes j (f j)) → Dies (new_thing (Audition true view) >>= f)
   unfolding new_thing ◌>>=◌ and_then
@@ -170,9 +150,7 @@ module _ {N : Type 0} where
   closes_bind_after : {A B : Type 0} (j : ℕ) (s : Vat N) (d : Done N A) (f : A → Act N B) → Dead j s d → ((a : A) → Dies (f a)) → Dead j s (and_then d f)
   unfolding and_then
   closes_bind_after j s (Gives a t) f h k = widen_dead j s t h (f a t) ((k a).after t)
-  closes_bind_after j s (Throws p t) f h k = h
-  closes_bind_after j s (Ejects n v t) f h k = h
-  closes_bind_after j s (Stops c t) f h k = h
+  closes_bind_after j s other f h k = h
 
   pub closes_bind : {A B : Type 0} {j : ℕ} {m : Act N A} {f : A → Act N B} → Closes j m → ((a : A) → Dies (f a)) → Closes j (m >>= f)
   unfolding ◌>>=◌
@@ -309,9 +287,8 @@ module _ {N W : Type 0} (K : Naming N W) where
 
   dull : (t : Thing N) → IsDull t → Dies (new_thing t)
   dull (Made node caught stamps) h = dies_object node caught stamps
-  dull (Ejector live) h = absurd h
-  dull (Audition live view) h = absurd h
   dull (Resolver p) h = dies_resolver p
+  dull other h = absurd h
 
   -- however it ends, it is dead after it
   closes_leaving : {A : Type 0} (tree : List Node) (n : ℕ) (m : Act N A) → Dies m → Closes n (leaving K tree n m)

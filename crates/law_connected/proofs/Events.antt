@@ -36,57 +36,35 @@ here_same u v f e i = (cc, cc)
 event_here : (ls : List Link) (v u : ℕ) (f e : Happened Name) → IsAmong (Here u f) (world.event_of ls v e) → (u ≡ v) × (f ≡ e)
 unfolding world.event_of
 event_here ls v u f (Took a m) (inl e) = here_same u v f (Took a m) e
-event_here ls v u f (Took a m) (inr i) = absurd i
 event_here ls v u f (Called a x verb args b) (inl e) = here_same u v f (Called a x verb args b) e
-event_here ls v u f (Called a x verb args b) (inr i) = absurd i
 event_here ls v u f (Back a y) (inl e) = here_same u v f (Back a y) e
-event_here ls v u f (Back a y) (inr i) = absurd i
 event_here ls v u f (Thrown a t) (inl e) = here_same u v f (Thrown a t) e
-event_here ls v u f (Thrown a t) (inr i) = absurd i
 event_here ls v u f (Left a) (inl e) = here_same u v f (Left a) e
-event_here ls v u f (Left a) (inr i) = absurd i
 event_here ls v u f (Got a y) (inl e) = here_same u v f (Got a y) e
-event_here ls v u f (Got a y) (inr i) = absurd i
 event_here ls v u f (SlotMade a k y) (inl e) = here_same u v f (SlotMade a k y) e
-event_here ls v u f (SlotMade a k y) (inr i) = absurd i
 event_here ls v u f (SlotRead a k y) (inl e) = here_same u v f (SlotRead a k y) e
-event_here ls v u f (SlotRead a k y) (inr i) = absurd i
 event_here ls v u f (SlotWrote a k y) (inl e) = here_same u v f (SlotWrote a k y) e
-event_here ls v u f (SlotWrote a k y) (inr i) = absurd i
 event_here ls v u f (ListMade a k ys) (inl e) = here_same u v f (ListMade a k ys) e
-event_here ls v u f (ListMade a k ys) (inr i) = absurd i
 event_here ls v u f (ListCame k ys) (inl e) = here_same u v f (ListCame k ys) e
-event_here ls v u f (ListCame k ys) (inr i) = absurd i
 event_here ls v u f (EjectorMade a j) (inl e) = here_same u v f (EjectorMade a j) e
-event_here ls v u f (EjectorMade a j) (inr i) = absurd i
 event_here ls v u f (AuditionMade a j) (inl e) = here_same u v f (AuditionMade a j) e
-event_here ls v u f (AuditionMade a j) (inr i) = absurd i
 event_here ls v u f (PromiseMade a p r) (inl e) = here_same u v f (PromiseMade a p r) e
-event_here ls v u f (PromiseMade a p r) (inr i) = absurd i
 event_here ls v u f (ObjectMade a me x caught stamps) (inl e) = here_same u v f (ObjectMade a me x caught stamps) e
-event_here ls v u f (ObjectMade a me x caught stamps) (inr i) = absurd i
 event_here ls v u f (Sends a m) (inl e) = here_same u v f (Sends a m) e
-event_here ls v u f (Sends a m) (inr i) = absurd i
 event_here ls v u f (Reacts a x o m) (inl e) = here_same u v f (Reacts a x o m) e
-event_here ls v u f (Reacts a x o m) (inr i) = absurd i
 event_here ls v u f (Finished a y) (inl e) = here_same u v f (Finished a y) e
-event_here ls v u f (Finished a y) (inr i) = absurd i
 event_here ls v u f (Threw a t) (inl e) = here_same u v f (Threw a t) e
-event_here ls v u f (Threw a t) (inr i) = absurd i
 event_here ls v u f (Settles n y) (inl e) = here_same u v f (Settles n y) e
-event_here ls v u f (Settles n y) (inr i) = absurd i
 event_here ls v u f (Waits n q) (inl e) = here_same u v f (Waits n q) e
-event_here ls v u f (Waits n q) (inr i) = absurd i
 event_here ls v u f (Views n q) (inl e) = here_same u v f (Views n q) e
-event_here ls v u f (Views n q) (inr i) = absurd i
 event_here ls v u f (Lost m) (inl e) = here_same u v f (Lost m) e
-event_here ls v u f (Lost m) (inr i) = absurd i
 event_here ls v u f (Posted w m) i = absurd (either (world.is_cut v w ls) i)
   where
     either : (b : Bool) → IsAmong (Here u f) (pick b (LostCut m ∷ []) []) → ⊥
     either true (inl e) = cc
     either true (inr j) = j
     either false j = j
+event_here ls v u f other (inr i) = absurd i
 
 pub events_here : (ls : List Link) (v u : ℕ) (f : Happened Name) (es : List (Happened Name)) → IsAmong (Here u f) (world.events_of ls v es) → (u ≡ v) × IsAmong f es
 unfolding world.events_of

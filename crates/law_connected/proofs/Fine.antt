@@ -121,34 +121,28 @@ dead_objects : {N : Type 0} (ts : List (Thing N)) (k i : ℕ) (node : ℕ) (caug
 unfolding change dead
 dead_objects [] k i node caught stamps e = e
 dead_objects (Made a b c ∷ ts) zero zero node caught stamps e = cc
-dead_objects (Ejector b ∷ ts) zero zero node caught stamps e = cc
-dead_objects (Audition b v ∷ ts) zero zero node caught stamps e = cc
-dead_objects (Resolver p ∷ ts) zero zero node caught stamps e = cc
 dead_objects (t ∷ ts) zero (suc i) node caught stamps e = e
 dead_objects (t ∷ ts) (suc k) zero node caught stamps e = e
 dead_objects (t ∷ ts) (suc k) (suc i) node caught stamps e = dead_objects ts k i node caught stamps e
+dead_objects other zero zero node caught stamps e = cc
 
 dead_auditions : {N : Type 0} (ts : List (Thing N)) (k i : ℕ) (view : View N) → slice_get (change dead k ts) i ≡ Some (Audition true view) → slice_get ts i ≡ Some (Audition true view)
 unfolding change dead
 dead_auditions [] k i view e = e
 dead_auditions (Made a b c ∷ ts) zero zero view e = cc
-dead_auditions (Ejector b ∷ ts) zero zero view e = cc
-dead_auditions (Audition b v ∷ ts) zero zero view e = cc
-dead_auditions (Resolver p ∷ ts) zero zero view e = cc
 dead_auditions (t ∷ ts) zero (suc i) view e = e
 dead_auditions (t ∷ ts) (suc k) zero view e = e
 dead_auditions (t ∷ ts) (suc k) (suc i) view e = dead_auditions ts k i view e
+dead_auditions other zero zero view e = cc
 
 were_objects : {N : Type 0} (ts : List (Thing N)) (k i : ℕ) (node : ℕ) (caught : List (Binding N)) (stamps : List (Value N)) → slice_get (change dead k ts) i ≡ Some (Made node caught stamps) → slice_get ts i ≡ Some (Made node caught stamps)
 unfolding change dead
 were_objects [] k i node caught stamps e = e
 were_objects (Made a b c ∷ ts) zero zero node caught stamps e = cc
-were_objects (Ejector b ∷ ts) zero zero node caught stamps e = cc
-were_objects (Audition b v ∷ ts) zero zero node caught stamps e = cc
-were_objects (Resolver p ∷ ts) zero zero node caught stamps e = cc
 were_objects (t ∷ ts) zero (suc i) node caught stamps e = e
 were_objects (t ∷ ts) (suc k) zero node caught stamps e = e
 were_objects (t ∷ ts) (suc k) (suc i) node caught stamps e = were_objects ts k i node caught stamps e
+were_objects other zero zero node caught stamps e = cc
 
 dead_length : {N : Type 0} (ts : List (Thing N)) (k : ℕ) → length (change dead k ts) ≡ length ts
 unfolding change
@@ -196,10 +190,9 @@ module _ {N W : Type 0} (K : Naming N W) (E : Ground N W) (a : ℕ) where
   AskedKnown s q = AskedHas (Knew K E s a) q
 
   abbrev pub AuditionAskKnown : Vat N → Words → AuditionAsk N → Type 0
-  AuditionAskKnown s verb GetsForm = Unit {0}
   AuditionAskKnown s verb (GetsGuard x) = same_words (codes "getGuard") verb ≡ true
   AuditionAskKnown s verb (Asks x) = Knew K E s a x
-  AuditionAskKnown s verb NoAuditionAsk = Unit {0}
+  AuditionAskKnown s verb other = Unit {0}
 
   abbrev pub Handed : Vat N → ℕ → Value N → Type 0
   Handed s n v = (b : ℕ) × (x : Value N) × (verb : Words) × (args : List (Value N)) × IsAmong (Called b x verb args None) s.happened × IsThing K E.start.vat.known s.happened x n × IsAmong v (Null ∷ args)
@@ -214,9 +207,8 @@ module _ {N W : Type 0} (K : Naming N W) (E : Ground N W) (a : ℕ) where
   abbrev pub ThingThere : Vat N → ℕ → Thing N → Type 0
   ThingThere s i (Made node caught stamps) = slice_get s.things i ≡ Some (Made node caught stamps)
   ThingThere s i (Audition true view) = Judged K E s i view
-  ThingThere s i (Audition false view) = Unit {0}
-  ThingThere s i (Ejector b) = Unit {0}
   ThingThere s i (Resolver p) = IsResolver K E.start s.happened i p
+  ThingThere s i other = Unit {0}
 
   abbrev pub AskHas : Vat N → ℕ → ResolverAsk N → Type 0
   AskHas s i (Resolves v) = IsHanded K E.start s.happened i (codes "resolve") v
@@ -304,34 +296,26 @@ module _ {N W : Type 0} (K : Naming N W) (E : Ground N W) (a : ℕ) where
 
     reply_up : (r : Reply N) → ReplyHas (Knew K E s a) r → ReplyHas (Knew K E t a) r
     reply_up (Says v) h = knew_up v h
-    reply_up (Writes w) h = tt
     reply_up (Listed vs) h = all_map _ _ knew_up vs h
     reply_up (Iterates o vs) h = (knew_up o h.0, all_map _ _ knew_up vs h.1)
-    reply_up (Fails p) h = tt
+    reply_up other h = tt
 
     asked_up : (q : Asked N) → AskedKnown s q → AskedKnown t q
     asked_up (MakesList vs) h = all_map _ _ knew_up vs h
-    asked_up (Ranges b x y) h = tt
-    asked_up (SameEver x y) h = tt
-    asked_up (Compares c x y) h = tt
     asked_up (Loops o) h = knew_up o h
     asked_up (SendsTo only x v l) h = (knew_up x h.0, knew_up v h.1, knew_up l h.2)
     asked_up (CallsTo x v l) h = (knew_up x h.0, knew_up v h.1, knew_up l h.2)
-    asked_up MakesPromise h = tt
     asked_up (Breaks x) h = knew_up x h
     asked_up (Tells c x) h = knew_up x h
     asked_up (Whens x o) h = (knew_up x h.0, knew_up o h.1)
-    asked_up (ThrowsIt x) h = tt
-    asked_up (IsStamped b x) h = tt
     asked_up (Coerces k x j) h = (knew_up x h.0, knew_up j h.1)
     asked_up (AddsNull x) h = knew_up x h
-    asked_up NoMethod h = tt
+    asked_up other h = tt
 
     ask_up : (verb : Words) (q : AuditionAsk N) → AuditionAskKnown s verb q → AuditionAskKnown t verb q
-    ask_up verb GetsForm h = tt
     ask_up verb (GetsGuard x) h = h
     ask_up verb (Asks x) h = knew_up x h
-    ask_up verb NoAuditionAsk h = tt
+    ask_up verb other h = tt
 
     pub handed_up : (n : ℕ) (v : Value N) → Handed s n v → Handed t n v
     handed_up n v h = (h.0, h.1, h.2, h.3, among_up K E s t g (Called h.0 h.1 h.2 h.3 None) h.4, thing_up K E s t g h.1 n h.5, h.6)
@@ -343,9 +327,8 @@ module _ {N W : Type 0} (K : Naming N W) (E : Ground N W) (a : ℕ) where
     there_up : (i : ℕ) (x : Thing N) → ThingThere s i x → ThingThere t i x
     there_up i (Made node caught stamps) h = g.grown.objects i node caught stamps h
     there_up i (Audition true view) h = judged_up K E s t g i view h
-    there_up i (Audition false view) h = tt
-    there_up i (Ejector b) h = tt
     there_up i (Resolver p) h = resolver_up K E s t g i p h
+    there_up i other h = tt
 
     told_up : (F : List (Happened N) → Type 0) → ((so more : List (Happened N)) → F so → F (so ++ more)) → F s.happened → F t.happened
     told_up F f h = subst F (sym g.lines) (f s.happened g.more h)
@@ -364,7 +347,6 @@ module _ {N W : Type 0} (K : Naming N W) (E : Ground N W) (a : ℕ) where
     pub holds_up : (F : Fact N) → Keeps s t F → Holds s F → Holds t F
     holds_up Nothing e h = tt
     holds_up (Also A B) e h = (holds_up A e.0 h.0, holds_up B e.1 h.1)
-    holds_up (IsAct b) e h = h
     holds_up (IsValue v) e h = knew_up v h
     holds_up (IsGuard v) e h = has_up K E s t g a (AGuard v) h
     holds_up (IsCallee x verb args) e h = has_up K E s t g a (callee x verb args) h
@@ -391,51 +373,22 @@ module _ {N W : Type 0} (K : Naming N W) (E : Ground N W) (a : ℕ) where
     holds_up (IsJudged i view) e h = judged_up K E s t g i view h
     holds_up (MayGive x verb v) e h = given_up K E s t g a x verb None v e h
     holds_up (MayThing i o) e h = may_up _ _ (there_up i) o h
-    holds_up (IsPlaced y p) e h = h
     holds_up (IsLine l) e h = among_up K E s t g l h
     holds_up (ResolverOf i p) e h = resolver_up K E s t g i p h
     holds_up (HandedTo i name v) e h = handed_to_up i name v h
     holds_up (MayAsk i q) e h = ask_has_up i q h
     holds_up (GivenTo p x) e h = told_up (λ so. IsGiven K E.start so p x) (λ so more k. given_more K E.start so more p x k) h
     holds_up (MaySettle p y) e h = told_up (λ so. SettlesWell K E.start so p y) (λ so more k. settles_more K E.start so more p y k) h
+    holds_up other e h = h
 
   all_keep : (s t : Vat N) → opens t ≡ opens s → (F : Fact N) → Keeps s t F
-  all_keep s t e Nothing = tt
   all_keep s t e (Also A B) = (all_keep s t e A, all_keep s t e B)
-  all_keep s t e (IsAct b) = tt
-  all_keep s t e (IsValue v) = tt
-  all_keep s t e (IsGuard v) = tt
-  all_keep s t e (IsCallee x verb args) = tt
-  all_keep s t e (AreValues vs) = tt
-  all_keep s t e (AreLists vss) = tt
-  all_keep s t e (IsSlot k) = tt
-  all_keep s t e (IsBound b) = tt
   all_keep s t e (IsScope here) = e
-  all_keep s t e (MayValue o) = tt
-  all_keep s t e (MayBound o) = tt
-  all_keep s t e (MayCell k o) = tt
-  all_keep s t e (WasPut k v) = tt
-  all_keep s t e (Leads x y) = tt
-  all_keep s t e (IsReply r) = tt
-  all_keep s t e (IsAsked q) = tt
-  all_keep s t e (IsAuditionAsk verb q) = tt
-  all_keep s t e (MadeEjector j) = tt
-  all_keep s t e (WasHanded n v) = tt
-  all_keep s t e (MayHand n o) = tt
   all_keep s t e (WasCalled x verb args) = e
-  all_keep s t e (IsAt x i) = tt
   all_keep s t e (AskedOf x verb i) = e
   all_keep s t e (IsJudging view) = e
-  all_keep s t e (IsJudged i view) = tt
   all_keep s t e (MayGive x verb v) = e
-  all_keep s t e (MayThing i o) = tt
-  all_keep s t e (IsPlaced y p) = tt
-  all_keep s t e (IsLine l) = tt
-  all_keep s t e (ResolverOf i p) = tt
-  all_keep s t e (HandedTo i name v) = tt
-  all_keep s t e (MayAsk i q) = tt
-  all_keep s t e (GivenTo p x) = tt
-  all_keep s t e (MaySettle p y) = tt
+  all_keep s t e other = tt
 
   pub still_holds : (s t : Vat N) → Passes s t → (F : Fact N) → Holds s F → Holds t F
   still_holds s t p F h = holds_up s t p.0 F (all_keep s t p.1 F) h
@@ -458,9 +411,7 @@ module _ {N W : Type 0} (K : Naming N W) (E : Ground N W) (a : ℕ) where
       → ((x : A) → Fine (Also C (P x)) (f x) H) → Ends H s (and_then d f)
   unfolding and_then
   bind_ends C P H s (Gives x t) f c h k = widen H s t (f x t) h.0 ((k x).after t h.1 (still_holds s t h.0 C c, h.2))
-  bind_ends C P H s (Throws p t) f c h k = h
-  bind_ends C P H s (Ejects n v t) f c h k = h
-  bind_ends C P H s (Stops r t) f c h k = h
+  bind_ends C P H s other f c h k = h
 
   pub fine_bind : {A B : Type 0} {C : Fact N} {m : Act N A} {f : A → Act N B} {H : B → Fact N} (P : A → Fact N) → Fine C m P → ((x : A) → Fine (Also C (P x)) (f x) H) → Fine C (m >>= f) H
   unfolding ◌>>=◌
@@ -470,9 +421,7 @@ module _ {N W : Type 0} (K : Naming N W) (E : Ground N W) (a : ℕ) where
       → ((x : A) → Fine C (f x) H) → Ends H s (and_then d f)
   unfolding and_then
   less_ends C P H s (Gives x t) f c h k = widen H s t (f x t) h.0 ((k x).after t h.1 (still_holds s t h.0 C c))
-  less_ends C P H s (Throws p t) f c h k = h
-  less_ends C P H s (Ejects n v t) f c h k = h
-  less_ends C P H s (Stops r t) f c h k = h
+  less_ends C P H s other f c h k = h
 
   pub fine_less : {A B : Type 0} {C : Fact N} {m : Act N A} {f : A → Act N B} {H : B → Fact N} (P : A → Fact N) → Fine C m P → ((x : A) → Fine C (f x) H) → Fine C (m >>= f) H
   unfolding ◌>>=◌
@@ -527,9 +476,7 @@ module _ {N W : Type 0} (K : Naming N W) (E : Ground N W) (a : ℕ) where
 
   more_ends : {A : Type 0} (P H : A → Fact N) (s : Vat N) (d : Done N A) → ((x : A) → Gets (P x) (H x)) → Ends P s d → Ends H s d
   more_ends P H s (Gives x t) g h = (h.0, h.1, (g x).at t h.2)
-  more_ends P H s (Throws p t) g h = h
-  more_ends P H s (Ejects n v t) g h = h
-  more_ends P H s (Stops r t) g h = h
+  more_ends P H s other g h = h
 
   pub fine_more : {A : Type 0} {C : Fact N} {m : Act N A} (P H : A → Fact N) → Fine C m P → ((x : A) → Gets (P x) (H x)) → Fine C m H
   fine_more {m = m} P H h g = record { after = λ s i c. more_ends P H s (m s) g (h.after s i c) }
@@ -594,10 +541,9 @@ module _ {N W : Type 0} (K : Naming N W) (E : Ground N W) (a : ℕ) where
 
   -- what is no object and no audition
   abbrev pub IsInert : Thing N → Type 0
-  IsInert (Made node caught stamps) = ⊥
   IsInert (Ejector b) = Unit {0}
   IsInert (Resolver p) = Unit {0}
-  IsInert (Audition b view) = ⊥
+  IsInert other = ⊥
 
   grown_thing : (s : Vat N) (x : Thing N) → laws.Grown (held K E s) (held K E (record s { things = s.things ++ x ∷ [] }))
   grown_thing s x = record { objects = λ i node caught stamps e. get_append s.things (x ∷ []) i (Made node caught stamps) e; lists = λ k vs e. e; guards = λ k c e. (c, e, refl); before = refl; given = refl }
@@ -606,16 +552,14 @@ module _ {N W : Type 0} (K : Naming N W) (E : Ground N W) (a : ℕ) where
   grows_thing s x = grows_by K E s (record s { things = s.things ++ x ∷ [] }) refl (grown_thing s x)
 
   no_audition : (x : Thing N) (view : View N) → IsInert x → x ≡ Audition true view → ⊥
-  no_audition (Made node caught stamps) view n e = elim n [ ]
   no_audition (Ejector b) view n e = cc
   no_audition (Resolver p) view n e = cc
-  no_audition (Audition b v) view n e = elim n [ ]
+  no_audition other view n e = elim n [ ]
 
   no_object : (x : Thing N) (node : ℕ) (caught : List (Binding N)) (stamps : List (Value N)) → IsInert x → x ≡ Made node caught stamps → ⊥
-  no_object (Made m c ys) node caught stamps n e = elim n [ ]
   no_object (Ejector b) node caught stamps n e = cc
   no_object (Resolver p) node caught stamps n e = cc
-  no_object (Audition b v) node caught stamps n e = elim n [ ]
+  no_object other node caught stamps n e = elim n [ ]
 
   pub old_thing : (ts : List (Thing N)) (x y : Thing N) (i : ℕ) → (x ≡ y → ⊥) → (slice_get ts i ≡ Some y) ⊎ ((i ≡ length ts) × (x ≡ y)) → slice_get ts i ≡ Some y
   old_thing ts x y i n (inl e) = e
@@ -650,12 +594,10 @@ module _ {N W : Type 0} (K : Naming N W) (E : Ground N W) (a : ℕ) where
   unfolding change dead
   dead_resolvers [] k i p e = e
   dead_resolvers (Made m c ys ∷ ts) zero zero p e = cc
-  dead_resolvers (Ejector b ∷ ts) zero zero p e = cc
-  dead_resolvers (Audition b v ∷ ts) zero zero p e = cc
-  dead_resolvers (Resolver q ∷ ts) zero zero p e = cc
   dead_resolvers (t ∷ ts) zero (suc i) p e = e
   dead_resolvers (t ∷ ts) (suc k) zero p e = e
   dead_resolvers (t ∷ ts) (suc k) (suc i) p e = dead_resolvers ts k i p e
+  dead_resolvers other zero zero p e = cc
 
   grown_dead : (s : Vat N) (n : ℕ) → laws.Grown (held K E s) (held K E (record s { things = change dead n s.things }))
   grown_dead s n = record { objects = λ i node caught stamps e. dead_objects s.things n i node caught stamps e; lists = λ k vs e. e; guards = λ k c e. (c, e, refl); before = refl; given = refl }

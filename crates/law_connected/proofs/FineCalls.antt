@@ -176,21 +176,16 @@ module _ {N W : Type 0} (K : Naming N W) (E : Ground N W) (spots : (i : ℕ) →
   pub fine_perform : {a : ℕ} {C : Fact N} → (again : Caller N) → GoodCaller K E a again → (act : ℕ) → Gets K E a C (IsAct act) → (q : Asked N) → Gets K E a C (IsAsked q) → Fine K E a C (perform.perform K tree again act q) IsValue
   unfolding perform.perform
   fine_perform {a = a} {C = C} again g_again act g_act (MakesList vs) g_q = let d : Gets K E a C (AreValues vs) = record { at = λ s h. g_q.at s h } in search (fine, fine_make_list) depth 30
-  fine_perform {a = a} {C = C} again g_again act g_act (Ranges last x y) g_q = search (fine, fine_reply) depth 30
-  fine_perform {a = a} {C = C} again g_again act g_act (SameEver x y) g_q = search (fine, fine_reply) depth 30
-  fine_perform {a = a} {C = C} again g_again act g_act (Compares test x y) g_q = search (fine, fine_reply) depth 30
   fine_perform {a = a} {C = C} again g_again act g_act (Loops o) g_q = let d : Gets K E a C (IsValue o) = record { at = λ s h. g_q.at s h } in search (fine, fine_loop) depth 30
   fine_perform {a = a} {C = C} again g_again act g_act (SendsTo only x v l) g_q = let d0 : Gets K E a C (IsValue x) = record { at = λ s h. (g_q.at s h).0 } in let d1 : Gets K E a C (IsValue v) = record { at = λ s h. (g_q.at s h).1 } in let d2 : Gets K E a C (IsValue l) = record { at = λ s h. (g_q.at s h).2 } in search (fine, fine_send_with) depth 30
   fine_perform {a = a} {C = C} again g_again act g_act (CallsTo x v l) g_q = let d0 : Gets K E a C (IsValue x) = record { at = λ s h. (g_q.at s h).0 } in let d1 : Gets K E a C (IsValue v) = record { at = λ s h. (g_q.at s h).1 } in let d2 : Gets K E a C (IsValue l) = record { at = λ s h. (g_q.at s h).2 } in search (fine, fine_call_with) depth 30
   fine_perform {a = a} {C = C} again g_again act g_act MakesPromise g_q = search (fine, fine_make_promise) depth 30
-  fine_perform {a = a} {C = C} again g_again act g_act (Breaks t) g_q = search (fine, fine_reply) depth 30
   fine_perform {a = a} {C = C} again g_again act g_act (Tells test x) g_q = let d : Gets K E a C (IsValue x) = record { at = λ s h. g_q.at s h } in search (fine, fine_reply) depth 30
   fine_perform {a = a} {C = C} again g_again act g_act (Whens x o) g_q = let d0 : Gets K E a C (IsValue x) = record { at = λ s h. (g_q.at s h).0 } in let d1 : Gets K E a C (IsValue o) = record { at = λ s h. (g_q.at s h).1 } in search (fine, fine_when_resolved) depth 30
-  fine_perform {a = a} {C = C} again g_again act g_act (ThrowsIt t) g_q = search (fine, fine_reply) depth 30
   fine_perform {a = a} {C = C} again g_again act g_act (IsStamped b x) g_q = bind_flag K E a (fine_look K E a _) (λ b. fine_give K E a (Flag b) (got_flag K E a C b))
   fine_perform {a = a} {C = C} again g_again act g_act (Coerces g x j) g_q = let d0 : Gets K E a C (IsValue x) = record { at = λ s h. (g_q.at s h).0 } in let d1 : Gets K E a C (IsValue j) = record { at = λ s h. (g_q.at s h).1 } in search (fine, fine_native_coerce) depth 30
-  fine_perform {a = a} {C = C} again g_again act g_act (AddsNull g) g_q = search (fine, fine_reply) depth 30
   fine_perform {a = a} {C = C} again g_again act g_act NoMethod g_q = search (fine) depth 30
+  fine_perform {a = a} {C = C} again g_again act g_act other g_q = search (fine, fine_reply) depth 30
 
   pub fine_leave : {a : ℕ} {C : Fact N} {A : Type 0} {H : A → Fact N} → (j : ℕ) → (m : Act N A) → Fine K E a C m H → Fine K E a C (calls.leave K tree {A = A} j m) H
   unfolding calls.leave
@@ -273,16 +268,12 @@ module _ {N W : Type 0} (K : Naming N W) (E : Ground N W) (spots : (i : ℕ) →
   unfolding perform.reply give throw
   guard_ends a again act x verb s (Says v) g h = (passes_same K E a s, g, h)
   guard_ends a again act x verb s (Fails p) g h = (passes_same K E a s, g)
-  guard_ends a again act x verb s (Writes t) g h = absurd h
-  guard_ends a again act x verb s (Listed vs) g h = absurd h
-  guard_ends a again act x verb s (Iterates o vs) g h = absurd h
+  guard_ends a again act x verb s other g h = absurd h
 
   reply_map : (a : ℕ) (P Q : Value N → Type 0) → ((v : Value N) → P v → Q v) → (r : Reply N) → GuardReply K E a tree P r → GuardReply K E a tree Q r
   reply_map a P Q f (Says v) h = f v h
   reply_map a P Q f (Fails p) h = tt
-  reply_map a P Q f (Writes t) h = absurd h
-  reply_map a P Q f (Listed vs) h = absurd h
-  reply_map a P Q f (Iterates o vs) h = absurd h
+  reply_map a P Q f other h = absurd h
 
   -- the guard that an audition tells is known as a guard to who evaluates what it judges
   guard_given : {a : ℕ} {C : Fact N} (again : Caller N) (act : ℕ) (view : View N) (x : Value N) (verb : Words) (y : Value N) (i : ℕ) → ((s : Vat N) → Holds K E a s C → same_words (codes "getGuard") verb ≡ true) → Gets K E a C (AskedOf x verb i) → Gets K E a C (IsJudged i view)
@@ -316,9 +307,7 @@ module _ {N W : Type 0} (K : Naming N W) (E : Ground N W) (spots : (i : ℕ) →
   pub audition_dead : {a : ℕ} {C : Fact N} {H : Value N → Fact N} (again : Caller N) (act : ℕ) (view : View N) (q : AuditionAsk N) → Fine K E a C (calls.audition_answer K tree again act false view q) H
   unfolding calls.audition_answer
   audition_dead {a = a} again act view GetsForm = fine_throw K E a _
-  audition_dead {a = a} again act view (GetsGuard y) = fine_throw K E a _
-  audition_dead {a = a} again act view (Asks y) = fine_throw K E a _
-  audition_dead {a = a} again act view NoAuditionAsk = fine_throw K E a _
+  audition_dead {a = a} again act view other = fine_throw K E a _
 
   ejector_called : {a : ℕ} {C : Fact N} {H : Value N → Fact N} (i : ℕ) (live : Bool) (o : Option (Value N)) → Gets K E a C (MayHand i o) → Fine K E a C (calls.ejector_answer K tree i live o) H
   unfolding calls.ejector_answer
@@ -387,18 +376,12 @@ module _ {N W : Type 0} (K : Naming N W) (E : Ground N W) (spots : (i : ℕ) →
   -- what held of a thing before it was called
   abbrev asked_of : Value N → Words → ℕ → Thing N → Fact N
   asked_of x verb i (Audition true view) = AskedOf x verb i
-  asked_of x verb i (Audition false view) = Nothing
-  asked_of x verb i (Made node caught stamps) = Nothing
-  asked_of x verb i (Ejector live) = Nothing
-  asked_of x verb i (Resolver q) = Nothing
+  asked_of x verb i other = Nothing
 
   asked_now : (a : ℕ) (s : Vat N) (x : Value N) (verb : Words) (args : List (Value N)) (i : ℕ) (t : Thing N) → Holds K E a s (MayThing i (Some t)) → Holds K E a s (IsAt x i) → Holds K E a (with_line s (Called a x verb args None)) (asked_of x verb i t)
   unfolding open_after
   asked_now a s x verb args i (Audition true view) j p = let m = judges_told K (held K E s) s.happened j.0 i j.1 in (args, s.happened, [], refl, opens_last s (Called a x verb args None), p, m.0, m.1, m.2, m.3)
-  asked_now a s x verb args i (Audition false view) j p = tt
-  asked_now a s x verb args i (Made node caught stamps) j p = tt
-  asked_now a s x verb args i (Ejector live) j p = tt
-  asked_now a s x verb args i (Resolver q) j p = tt
+  asked_now a s x verb args i other j p = tt
 
   -- what an ejector, an audition or a resolver answers to a call
   thing_called : {a : ℕ} {C : Fact N} (again : Caller N) → GoodCaller K E a again → (act : ℕ) → Gets K E a C (IsAct act) → (i : ℕ) (t : Thing N) → Gets K E a C (MayThing i (Some t)) → (x : Value N) (verb : Words) (args : List (Value N)) → Gets K E a C (AreValues args)

@@ -120,8 +120,7 @@ module _ {N W : Type 0} (K : Naming N W) (E : Ground N W) (spots : (i : ℕ) →
     turn_spot_ends : (p : Spot) → ((i : ℕ) → p ≡ Own i → Runs K (held K E s) s.happened a i) → ((i : ℕ) → p ≡ Own i → (name : Words) (v : Value N) → args ≡ v ∷ [] → same_words name verb ≡ true → IsHanded K E.start s.happened i name v) → Ends K E a IsValue s (calls.turn_spot K tree rec a p verb args s)
     unfolding calls.turn_spot look ◌>>=◌ and_then stop
     turn_spot_ends (Own i) r h = turn_thing_ends i (slice_get s.things i) refl (r i refl) (h i refl)
-    turn_spot_ends (Foreign w) r h = g
-    turn_spot_ends NoObject r h = g
+    turn_spot_ends other r h = g
 
     turn_data : (y : Value N) → Knew K E s a y → Ends K E a IsValue s (perform.data_answer K tree (calls.call K tree rec) a y verb args s)
     turn_data y k = (fine_data_answer K E spots tree {C = Also (IsValue y) (AreValues args)} (calls.call K tree rec) (λ D act i x h v xs j. fine_call K E spots tree {C = D} rec good act i x h v xs j) a act_itself y (record { at = λ s h. h.0 }) verb args (record { at = λ s h. h.1 })).after s g (k, has)
@@ -181,8 +180,7 @@ module _ {N W : Type 0} (K : Naming N W) where
   first_told : (ks : List (Known N)) (so : List (Happened N)) (x : Standing N) (n : N) → standing_of K ks n ≡ x → IsTold K ks so n x
   first_told ks so (Settled y) n e = settled e
   first_told ks so (Viewed q) n e = viewed e
-  first_told ks so (WaitsOn q) n e = tt
-  first_told ks so Unsettled n e = tt
+  first_told ks so other n e = tt
 
   each_among : {A : Type 0} (P : A → Type 0) (xs : List A) → ((x : A) → IsAmong x xs → P x) → AllOf P xs
   each_among P [] f = tt
@@ -225,10 +223,8 @@ module _ {N W : Type 0} (K : Naming N W) (spots : (i : ℕ) → K.spot (K.object
   ground step s = first_ground (given_to s step) step s
 
   ends_good : (E : Ground N W) (a : ℕ) {A : Type 0} (G : A → Fact N) (r s : Vat N) (d : Done N A) → Ends K E a G s d → After (λ s t. Good K E t) r d
-  ends_good E a G r s (Gives x t) h = h.1
-  ends_good E a G r s (Throws p t) h = h.1
-  ends_good E a G r s (Ejects n v t) h = h.1
   ends_good E a G r s (Stops c t) h = h
+  ends_good E a G r s other h = h.1
 
   steps_good : (step : Step N W) (s : Vat N) → s.happened ≡ [] → ((i : ℕ) → live_at s.things i ≡ false) → After (λ r t. Good K (ground step s) t) s (does K step s)
   unfolding does given_to
@@ -244,9 +240,7 @@ module _ {N W : Type 0} (K : Naming N W) (spots : (i : ℕ) → K.spot (K.object
   good_connected : (step : Step N W) (s : Vat N) (d : Done N (Unit {0})) → After (λ r t. Good K (ground step s) t) s d → After (λ s t. Connected K (held_from step s t) t.happened) s d
   unfolding held_from
   good_connected step s (Gives x t) h = h.lines
-  good_connected step s (Throws p t) h = h.lines
-  good_connected step s (Ejects n v t) h = h.lines
-  good_connected step s (Stops c t) h = h.lines
+  good_connected step s other h = h.lines
 
   member_has : {A : Type 0} (P : A → Type 0) (xs : List A) → AllOf P xs → (x : A) → IsAmong x xs → P x
   member_has P [] h x m = absurd m
@@ -265,16 +259,12 @@ module _ {N W : Type 0} (K : Naming N W) (spots : (i : ℕ) → K.spot (K.object
 
   good_new : (step : Step N W) (s : Vat N) (d : Done N (Unit {0})) → After (λ r t. Good K (ground step s) t) s d → After (MadeNew K) s d
   good_new step s (Gives x t) h = (h.things_rise, h.slots_rise, h.lists_told)
-  good_new step s (Throws p t) h = (h.things_rise, h.slots_rise, h.lists_told)
-  good_new step s (Ejects n v t) h = (h.things_rise, h.slots_rise, h.lists_told)
-  good_new step s (Stops c t) h = (h.things_rise, h.slots_rise, h.lists_told)
+  good_new step s other h = (h.things_rise, h.slots_rise, h.lists_told)
 
   good_timely : (step : Step N W) (s : Vat N) (d : Done N (Unit {0})) → After (λ r t. Good K (ground step s) t) s d → After (λ s t. AllInTime K (held_from step s s) [] t.happened) s d
   unfolding held_from
   good_timely step s (Gives x t) h = h.timely
-  good_timely step s (Throws p t) h = h.timely
-  good_timely step s (Ejects n v t) h = h.timely
-  good_timely step s (Stops c t) h = h.timely
+  good_timely step s other h = h.timely
 
   pub steps_in_time : StepsInTime K
   steps_in_time step s e still = good_timely step s (does K step s) (steps_good step s e still)

@@ -47,24 +47,7 @@ module _ {N : Type 0} (slots : List (Cell N)) where
   idle_read so (Lost m) k = tt
   idle_read so (Posted w m) k = tt
   idle_read so (ListCame n vs) k = tt
-  idle_read so (Took _ _) k = elim k [ ]
-  idle_read so (Called _ _ _ _ _) k = elim k [ ]
-  idle_read so (Back _ _) k = elim k [ ]
-  idle_read so (Thrown _ _) k = elim k [ ]
-  idle_read so (Left _) k = elim k [ ]
-  idle_read so (Got _ _) k = elim k [ ]
-  idle_read so (SlotMade _ _ _) k = elim k [ ]
-  idle_read so (SlotRead _ _ _) k = elim k [ ]
-  idle_read so (SlotWrote _ _ _) k = elim k [ ]
-  idle_read so (ListMade _ _ _) k = elim k [ ]
-  idle_read so (EjectorMade _ _) k = elim k [ ]
-  idle_read so (AuditionMade _ _) k = elim k [ ]
-  idle_read so (PromiseMade _ _ _) k = elim k [ ]
-  idle_read so (ObjectMade _ _ _ _ _) k = elim k [ ]
-  idle_read so (Sends _ _) k = elim k [ ]
-  idle_read so (Reacts _ _ _ _) k = elim k [ ]
-  idle_read so (Finished _ _) k = elim k [ ]
-  idle_read so (Threw _ _) k = elim k [ ]
+  idle_read so other k = elim k [ ]
 
   idles_read : (so es : List (Happened N)) → AllOf IsIdle es → ReadsTold slots so es
   idles_read so [] k = tt
@@ -94,27 +77,11 @@ module _ {N W : Type 0} (K : Naming N W) (h later : Holdings N W) (grown : laws.
   comes_later same so (Back a v) k = back_later so a v (open_from [] so) k
   comes_later same so (Got a v) k = (k.0, k.1, k.2, k.3, k.4, k.5, k.6, thing_later so k.2 k.1 k.7, k.8, k.9, k.10)
   comes_later same so (SlotMade a n v) k = let d = grown.guards n k.0 k.1 in (d.0, d.1, subst (λ g. Knows K later so a (AValue g)) d.2 (knows_later K h later grown so a (AValue k.0.guard) k.2))
-  comes_later same so (Took a m) k = tt
-  comes_later same so (Called a x verb args b) k = tt
-  comes_later same so (Thrown a p) k = tt
-  comes_later same so (Left a) k = tt
-  comes_later same so (SlotRead a n v) k = tt
-  comes_later same so (SlotWrote a n v) k = tt
-  comes_later same so (ListMade a n vs) k = tt
-  comes_later same so (ListCame n vs) k = tt
-  comes_later same so (EjectorMade a j) k = tt
-  comes_later same so (AuditionMade a j) k = tt
-  comes_later same so (PromiseMade a p r) k = tt
-  comes_later same so (ObjectMade a me x bs ys) k = tt
-  comes_later same so (Sends a m) k = tt
   comes_later same so (Reacts a x o m) k = subst (λ z. Follows K z so o m.target) same k
-  comes_later same so (Finished a v) k = tt
-  comes_later same so (Threw a p) k = tt
   comes_later same so (Settles p y) k = subst (λ x. IsCaused K x so (Settles p y)) same k
   comes_later same so (Waits p q) k = subst (λ x. IsCaused K x so (Waits p q)) same k
   comes_later same so (Views p q) k = subst (λ x. IsCaused K x so (Views p q)) same k
-  comes_later same so (Lost m) k = tt
-  comes_later same so (Posted w m) k = tt
+  comes_later same so other k = tt
 
   uses_later : (so : List (Happened N)) (Q : List (Item N)) (us : List (ℕ × Item N)) → AllOf (λ u. Knows K h so u.0 u.1 ⊎ IsAmong u.1 Q) us → AllOf (λ u. Knows K later so u.0 u.1 ⊎ IsAmong u.1 Q) us
   uses_later so Q us k = all_map _ _ one us k
@@ -150,24 +117,7 @@ module _ {N W : Type 0} (K : Naming N W) (h : Holdings N W) where
   idle_well so (Lost m) k c = (tt, tt)
   idle_well so (Posted w m) k c = (tt, tt)
   idle_well so (ListCame n vs) k c = (tt, tt)
-  idle_well so (Took _ _) k c = elim k [ ]
-  idle_well so (Called _ _ _ _ _) k c = elim k [ ]
-  idle_well so (Back _ _) k c = elim k [ ]
-  idle_well so (Thrown _ _) k c = elim k [ ]
-  idle_well so (Left _) k c = elim k [ ]
-  idle_well so (Got _ _) k c = elim k [ ]
-  idle_well so (SlotMade _ _ _) k c = elim k [ ]
-  idle_well so (SlotRead _ _ _) k c = elim k [ ]
-  idle_well so (SlotWrote _ _ _) k c = elim k [ ]
-  idle_well so (ListMade _ _ _) k c = elim k [ ]
-  idle_well so (EjectorMade _ _) k c = elim k [ ]
-  idle_well so (AuditionMade _ _) k c = elim k [ ]
-  idle_well so (PromiseMade _ _ _) k c = elim k [ ]
-  idle_well so (ObjectMade _ _ _ _ _) k c = elim k [ ]
-  idle_well so (Sends _ _) k c = elim k [ ]
-  idle_well so (Reacts _ _ _ _) k c = elim k [ ]
-  idle_well so (Finished _ _) k c = elim k [ ]
-  idle_well so (Threw _ _) k c = elim k [ ]
+  idle_well so other k c = elim k [ ]
 
   idles_connected : (so es : List (Happened N)) → AllOf IsIdle es → CausedAfter K h.start so es → ConnectedAfter K h so es
   idles_connected so [] k c = tt
@@ -201,24 +151,7 @@ module _ {N : Type 0} where
   idle_open cs (Lost m) k = refl
   idle_open cs (Posted w m) k = refl
   idle_open cs (ListCame n vs) k = refl
-  idle_open cs (Took _ _) k = elim k [ ]
-  idle_open cs (Called _ _ _ _ _) k = elim k [ ]
-  idle_open cs (Back _ _) k = elim k [ ]
-  idle_open cs (Thrown _ _) k = elim k [ ]
-  idle_open cs (Left _) k = elim k [ ]
-  idle_open cs (Got _ _) k = elim k [ ]
-  idle_open cs (SlotMade _ _ _) k = elim k [ ]
-  idle_open cs (SlotRead _ _ _) k = elim k [ ]
-  idle_open cs (SlotWrote _ _ _) k = elim k [ ]
-  idle_open cs (ListMade _ _ _) k = elim k [ ]
-  idle_open cs (EjectorMade _ _) k = elim k [ ]
-  idle_open cs (AuditionMade _ _) k = elim k [ ]
-  idle_open cs (PromiseMade _ _ _) k = elim k [ ]
-  idle_open cs (ObjectMade _ _ _ _ _) k = elim k [ ]
-  idle_open cs (Sends _ _) k = elim k [ ]
-  idle_open cs (Reacts _ _ _ _) k = elim k [ ]
-  idle_open cs (Finished _ _) k = elim k [ ]
-  idle_open cs (Threw _ _) k = elim k [ ]
+  idle_open cs other k = elim k [ ]
 
   idles_open : (cs : List (Open N)) (es more : List (Happened N)) → AllOf IsIdle more → open_from cs (es ++ more) ≡ open_from cs es
   unfolding open_from
@@ -243,9 +176,7 @@ module _ {N W : Type 0} (K : Naming N W) (E : Ground N W) where
   -- the guard that an audition tells, where there is one
   abbrev pub FreedomKnown : Vat N → ℕ → Freedom N → Type 0
   FreedomKnown s a (IsFinal g) = Has s a (AGuard g)
-  FreedomKnown s a IsSafe = Unit {0}
-  FreedomKnown s a IsItself = Unit {0}
-  FreedomKnown s a IsVar = Unit {0}
+  FreedomKnown s a other = Unit {0}
 
   abbrev pub ViewKnown : Vat N → ℕ → View N → Type 0
   ViewKnown s a view = AllOf (λ f. FreedomKnown s a f.freedom) view.free
@@ -389,9 +320,7 @@ module _ {N W : Type 0} (K : Naming N W) (E : Ground N W) where
 
     freedom_up : (a : ℕ) (f : Freedom N) → FreedomKnown s a f → FreedomKnown t a f
     freedom_up a (IsFinal v) k = has_up a (AGuard v) k
-    freedom_up a IsSafe k = tt
-    freedom_up a IsItself k = tt
-    freedom_up a IsVar k = tt
+    freedom_up a other k = tt
 
     pub view_up : (a : ℕ) (view : View N) → ViewKnown s a view → ViewKnown t a view
     view_up a view k = all_map _ _ (λ f i. freedom_up a f.freedom i) view.free k
@@ -518,24 +447,7 @@ module _ {N W : Type 0} (K : Naming N W) (E : Ground N W) where
   idle_thing (Lost m) k = refl
   idle_thing (Posted w m) k = refl
   idle_thing (ListCame n vs) k = refl
-  idle_thing (Took _ _) k = elim k [ ]
-  idle_thing (Called _ _ _ _ _) k = elim k [ ]
-  idle_thing (Back _ _) k = elim k [ ]
-  idle_thing (Thrown _ _) k = elim k [ ]
-  idle_thing (Left _) k = elim k [ ]
-  idle_thing (Got _ _) k = elim k [ ]
-  idle_thing (SlotMade _ _ _) k = elim k [ ]
-  idle_thing (SlotRead _ _ _) k = elim k [ ]
-  idle_thing (SlotWrote _ _ _) k = elim k [ ]
-  idle_thing (ListMade _ _ _) k = elim k [ ]
-  idle_thing (EjectorMade _ _) k = elim k [ ]
-  idle_thing (AuditionMade _ _) k = elim k [ ]
-  idle_thing (PromiseMade _ _ _) k = elim k [ ]
-  idle_thing (ObjectMade _ _ _ _ _) k = elim k [ ]
-  idle_thing (Sends _ _) k = elim k [ ]
-  idle_thing (Reacts _ _ _ _) k = elim k [ ]
-  idle_thing (Finished _ _) k = elim k [ ]
-  idle_thing (Threw _ _) k = elim k [ ]
+  idle_thing other k = elim k [ ]
 
   idle_slot : (e : Happened N) → IsIdle e → slot_made e ≡ None
   idle_slot (Settles p y) k = refl
@@ -544,24 +456,7 @@ module _ {N W : Type 0} (K : Naming N W) (E : Ground N W) where
   idle_slot (Lost m) k = refl
   idle_slot (Posted w m) k = refl
   idle_slot (ListCame n vs) k = refl
-  idle_slot (Took _ _) k = elim k [ ]
-  idle_slot (Called _ _ _ _ _) k = elim k [ ]
-  idle_slot (Back _ _) k = elim k [ ]
-  idle_slot (Thrown _ _) k = elim k [ ]
-  idle_slot (Left _) k = elim k [ ]
-  idle_slot (Got _ _) k = elim k [ ]
-  idle_slot (SlotMade _ _ _) k = elim k [ ]
-  idle_slot (SlotRead _ _ _) k = elim k [ ]
-  idle_slot (SlotWrote _ _ _) k = elim k [ ]
-  idle_slot (ListMade _ _ _) k = elim k [ ]
-  idle_slot (EjectorMade _ _) k = elim k [ ]
-  idle_slot (AuditionMade _ _) k = elim k [ ]
-  idle_slot (PromiseMade _ _ _) k = elim k [ ]
-  idle_slot (ObjectMade _ _ _ _ _) k = elim k [ ]
-  idle_slot (Sends _ _) k = elim k [ ]
-  idle_slot (Reacts _ _ _ _) k = elim k [ ]
-  idle_slot (Finished _ _) k = elim k [ ]
-  idle_slot (Threw _ _) k = elim k [ ]
+  idle_slot other k = elim k [ ]
 
   idles_grown : (s t : Vat N) → Idles s t → laws.Grown (held s) (held t)
   idles_grown s t i = record {

@@ -83,9 +83,7 @@ module _ {N : Type 0} where
   bind_after : {A B : Type 0} (s : Vat N) (d : Done N A) (f : A → Act N B) → IdleEnds s d → ((a : A) → Idle (f a)) → IdleEnds s (and_then d f)
   unfolding and_then
   bind_after s (Gives a t) f h k = widen s t h (f a t) ((k a).after t)
-  bind_after s (Throws p t) f h k = h
-  bind_after s (Ejects n v t) f h k = h
-  bind_after s (Stops c t) f h k = h
+  bind_after s other f h k = h
 
   pub idle_bind : {A B : Type 0} {m : Act N A} {f : A → Act N B} → Idle m → ((a : A) → Idle (f a)) → Idle (m >>= f)
   unfolding ◌>>=◌
@@ -217,27 +215,7 @@ idle_line : {N : Type 0} (e : Happened N) → IsOfRefs e → Idle (tell e)
 idle_line (Waits p q) h = tells_waits p q
 idle_line (Lost m) h = tells_lost m
 idle_line (Posted w m) h = tells_posted w m
-idle_line (Took _ _) h = absurd h
-idle_line (Called _ _ _ _ _) h = absurd h
-idle_line (Back _ _) h = absurd h
-idle_line (Thrown _ _) h = absurd h
-idle_line (Left _) h = absurd h
-idle_line (Got _ _) h = absurd h
-idle_line (SlotMade _ _ _) h = absurd h
-idle_line (SlotRead _ _ _) h = absurd h
-idle_line (SlotWrote _ _ _) h = absurd h
-idle_line (ListMade _ _ _) h = absurd h
-idle_line (ListCame _ _) h = absurd h
-idle_line (EjectorMade _ _) h = absurd h
-idle_line (AuditionMade _ _) h = absurd h
-idle_line (PromiseMade _ _ _) h = absurd h
-idle_line (ObjectMade _ _ _ _ _) h = absurd h
-idle_line (Sends _ _) h = absurd h
-idle_line (Reacts _ _ _ _) h = absurd h
-idle_line (Finished _ _) h = absurd h
-idle_line (Threw _ _) h = absurd h
-idle_line (Settles _ _) h = absurd h
-idle_line (Views _ _) h = absurd h
+idle_line other h = absurd h
 
 pub idle_in_refs : {N : Type 0} → InRefs (IdleBy {N = N})
 idle_in_refs = record { tells = idle_line; spends = idle_spend; queues = idle_enqueue; puts = λ to n h. idle_out to n }

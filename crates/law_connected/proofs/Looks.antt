@@ -57,10 +57,8 @@ module _ {N W : Type 0} (K : Naming N W) (E : Ground N W) (a : ℕ) where
 
   known_callee : (s : Vat N) (x : Value N) (verb : Words) (args : List (Value N)) → Knew K E s a x → Has K E s a (callee x verb args)
   unfolding callee
-  known_callee s x verb [] h = h
-  known_callee s x verb (v ∷ []) h = h
   known_callee s x verb (v ∷ j ∷ []) h = either_has (Has K E s a) (same_words (codes "coerce") verb) (AGuard x) (AValue x) (serves h) h
-  known_callee s x verb (v ∷ j ∷ k ∷ ks) h = h
+  known_callee s x verb other h = h
 
   pub got_callee : (C : Fact N) (x : Value N) (verb : Words) (args : List (Value N)) → Gets K E a C (IsValue x) → Gets K E a C (IsCallee x verb args)
   got_callee C x verb args g = record { at = λ s h. known_callee s x verb args (g.at s h) }
@@ -121,8 +119,7 @@ module _ {N W : Type 0} (K : Naming N W) (E : Ground N W) (a : ℕ) where
   literal_knew : (s : Vat N) (l : Literal) → Knew K E s a (form.literal_value l)
   unfolding form.literal_value
   literal_knew s (literal.Int z) = plain tt
-  literal_knew s (literal.Char c) = plain tt
-  literal_knew s (literal.Text t) = plain tt
+  literal_knew s other = plain tt
 
   pub got_literal : (C : Fact N) (l : Literal) → Gets K E a C (IsValue (form.literal_value l))
   got_literal C l = record { at = λ s h. literal_knew s l }
@@ -180,9 +177,8 @@ module _ {N W : Type 0} (K : Naming N W) (E : Ground N W) (a : ℕ) where
   -- what a resolver may be asked, of one argument
   pub resolver_asked : (s : Vat N) (i : ℕ) (verb : Words) (args : List (Value N)) → ((name : Words) (v : Value N) → args ≡ v ∷ [] → same_words name verb ≡ true → IsHanded K E.start s.happened i name v) → AskHas K E a s i (scopes.resolver_ask verb args)
   unfolding scopes.resolver_ask
-  resolver_asked s i verb [] f = tt
   resolver_asked s i verb (y ∷ []) f = entry_at (AskHas K E a s i) _ _ verb (f (codes "resolve") y refl, (f (codes "smash") y refl, tt)) tt
-  resolver_asked s i verb (y ∷ z ∷ zs) f = tt
+  resolver_asked s i verb other f = tt
 
   pub got_may_ask : (C : Fact N) (i : ℕ) (x : Value N) (verb : Words) (args : List (Value N)) → Gets K E a C (WasCalled x verb args) → Gets K E a C (IsAt x i) → Gets K E a C (MayAsk i (scopes.resolver_ask verb args))
   got_may_ask C i x verb args g k = record { at = λ s h. let c = g.at s h in let t = k.at s h in resolver_asked s i verb args (λ name v e q. inl (c.0, x, verb, subst (λ xs. IsAmong (Called c.0 x verb xs None) s.happened) e c.1, q, t)) }
@@ -246,10 +242,8 @@ module _ {N W : Type 0} (K : Naming N W) (E : Ground N W) (a : ℕ) where
   thing_there : (s : Vat N) → Good K E s → (i : ℕ) (o : Option (Thing N)) → slice_get s.things i ≡ o → MayBe (ThingThere K E a s i) o
   thing_there s g i (Some (Made node caught stamps)) e = e
   thing_there s g i (Some (Audition true view)) e = g.judged i view e
-  thing_there s g i (Some (Audition false view)) e = tt
-  thing_there s g i (Some (Ejector b)) e = tt
   thing_there s g i (Some (Resolver p)) e = g.resolvers i p e
-  thing_there s g i None e = tt
+  thing_there s g i other e = tt
 
   pub look_thing : {C : Fact N} (i : ℕ) → Fine K E a C (look (λ s. slice_get s.things i)) (MayThing i)
   look_thing i = fine_sees K E a (λ s. slice_get s.things i) (MayThing i) (λ s h c. thing_there s h i (slice_get s.things i) refl)
@@ -262,14 +256,7 @@ module _ {N W : Type 0} (K : Naming N W) (E : Ground N W) (a : ℕ) where
   none_coerces : (s : Vat N) (y v j w k : Value N) → ReplyHas (Knew K E s a) (native.data_reply s.lists y (codes "coerce") (v ∷ j ∷ []) (w ∷ k ∷ []))
   unfolding native.data_reply native.int_reply native.flag_reply native.letter_reply native.text_reply native.list_reply native.no_method entry same_words
   none_coerces s Null v j w k = tt
-  none_coerces s (Flag b) v j w k = tt
-  none_coerces s (Number z) v j w k = tt
-  none_coerces s (Letter c) v j w k = tt
-  none_coerces s (Text t) v j w k = tt
-  none_coerces s (Prim n) v j w k = tt
-  none_coerces s (Broken p) v j w k = tt
-  none_coerces s (Items n) v j w k = tt
-  none_coerces s (Ref n) v j w k = tt
+  none_coerces s other v j w k = tt
 
   pub look_coerce : {C : Fact N} (y v j : Value N) → Fine K E a C (look (λ s. native.data_reply s.lists y (codes "coerce") (v ∷ j ∷ []) (map (follow K s) (v ∷ j ∷ [])))) IsReply
   look_coerce y v j = fine_sees K E a (λ s. native.data_reply s.lists y (codes "coerce") (v ∷ j ∷ []) (map (follow K s) (v ∷ j ∷ []))) IsReply (λ s h c. none_coerces s y v j (follow K s v) (follow K s j))
@@ -319,15 +306,8 @@ module _ {N W : Type 0} (K : Naming N W) (E : Ground N W) (a : ℕ) (tree : List
 
   broken_known : (s : Vat N) (x : Value N) → ReplyHas (Knew K E s a) (perform.broken_text K tree x)
   unfolding perform.broken_text
-  broken_known s Null = tt
-  broken_known s (Flag b) = tt
-  broken_known s (Number z) = tt
-  broken_known s (Letter c) = tt
   broken_known s (Text t) = plain tt
-  broken_known s (Prim n) = tt
-  broken_known s (Broken p) = tt
-  broken_known s (Items k) = tt
-  broken_known s (Ref n) = tt
+  broken_known s other = tt
 
   pub look_broken : {C : Fact N} (x : Value N) → Fine K E a C (look (λ s. perform.broken_text K tree (follow K s x))) IsReply
   look_broken x = fine_sees K E a (λ s. perform.broken_text K tree (follow K s x)) IsReply (λ s h c. broken_known s (follow K s x))
@@ -335,14 +315,7 @@ module _ {N W : Type 0} (K : Naming N W) (E : Ground N W) (a : ℕ) (tree : List
   thrown_known : (s : Vat N) (x : Value N) → ReplyHas (Knew K E s a) (perform.thrown_text K tree x)
   unfolding perform.thrown_text
   thrown_known s Null = tt
-  thrown_known s (Flag b) = tt
-  thrown_known s (Number z) = tt
-  thrown_known s (Letter c) = tt
-  thrown_known s (Text t) = tt
-  thrown_known s (Prim n) = tt
-  thrown_known s (Broken p) = tt
-  thrown_known s (Items k) = tt
-  thrown_known s (Ref n) = tt
+  thrown_known s other = tt
 
   pub look_thrown : {C : Fact N} (x : Value N) → Fine K E a C (look (λ s. perform.thrown_text K tree (follow K s x))) IsReply
   look_thrown x = fine_sees K E a (λ s. perform.thrown_text K tree (follow K s x)) IsReply (λ s h c. thrown_known s (follow K s x))
@@ -350,27 +323,20 @@ module _ {N W : Type 0} (K : Naming N W) (E : Ground N W) (a : ℕ) (tree : List
   problem_known : (s : Vat N) (p : Place N) → Knew K E s a (perform.problem_of K tree p)
   unfolding perform.problem_of
   problem_known s Near = plain tt
-  problem_known s (Mine n) = plain tt
-  problem_known s (Away h n o) = plain tt
-  problem_known s (Gone t) = plain tt
+  problem_known s other = plain tt
 
   fulfilled_known : (s : Vat N) (x : Value N) (p : Place N) → Knew K E s a x → ReplyHas (Knew K E s a) (perform.fulfilled K tree x p)
   unfolding perform.fulfilled
   fulfilled_known s x Near i = i
-  fulfilled_known s x (Mine n) i = tt
   fulfilled_known s x (Away h n true) i = i
-  fulfilled_known s x (Away h n false) i = tt
-  fulfilled_known s x (Gone t) i = tt
+  fulfilled_known s x other i = tt
 
   test_known : (s : Vat N) (t : RefTest) (x : Value N) (p : Place N) → Knew K E s a x → ReplyHas (Knew K E s a) (perform.test_reply K tree t x p)
   unfolding perform.test_reply
-  test_known s IsNear x p i = plain tt
-  test_known s IsFar x p i = plain tt
-  test_known s IsResolved x p i = plain tt
-  test_known s IsBroken x p i = plain tt
   test_known s OptProblem x p i = problem_known s p
   test_known s Fulfillment x p i = fulfilled_known s x p i
   test_known s NoTest x p i = tt
+  test_known s other x p i = plain tt
 
   pub look_test : {C : Fact N} (t : RefTest) (x : Value N) → Gets K E a C (IsValue x) → Fine K E a C (look (λ s. perform.test_reply K tree t x (refs.place K s (follow K s x)))) IsReply
   look_test t x g = fine_sees K E a (λ s. perform.test_reply K tree t x (refs.place K s (follow K s x))) IsReply (λ s h c. test_known s t x (refs.place K s (follow K s x)) (g.at s c))
@@ -400,8 +366,7 @@ module _ {N W : Type 0} (K : Naming N W) (E : Ground N W) (a : ℕ) (tree : List
   freedom_bound : (s : Vat N) (o : Option (Bound N)) (x : Words) → MayBe (BoundKnown K E a s) o → FreedomKnown K E s a (scopes.freedom_of_bound o x)
   unfolding scopes.freedom_of_bound
   freedom_bound s (Some (Fixed v g)) x h = h.1
-  freedom_bound s (Some (Slot k)) x h = tt
-  freedom_bound s None x h = tt
+  freedom_bound s other x h = tt
 
   free_known : (s : Vat N) (own : Option Words) (ns : List (Binding N)) (xs : List Words) → AllOf (NounKnown K E a s) ns → AllOf (λ (f : FreeName N). FreedomKnown K E s a f.freedom) (scopes.free_names own ns xs)
   unfolding scopes.free_names scopes.freedom_of
@@ -418,18 +383,14 @@ module _ {N W : Type 0} (K : Naming N W) (E : Ground N W) (a : ℕ) (tree : List
 
   told_known : (s : Vat N) (b : ℕ) (f : Freedom N) → FreedomKnown K E s b f → Has K E s b (AGuard (scopes.guard_told f))
   unfolding scopes.guard_told any_guard
-  told_known s b IsSafe h = serves (plain tt)
-  told_known s b IsItself h = serves (plain tt)
   told_known s b (IsFinal g) h = h
-  told_known s b IsVar h = serves (plain tt)
+  told_known s b other h = serves (plain tt)
 
   -- a guard that is told, or no reply
   abbrev pub GuardReply : (Value N → Type 0) → Reply N → Type 0
   GuardReply P (Says v) = P v
-  GuardReply P (Writes t) = ⊥
-  GuardReply P (Listed vs) = ⊥
-  GuardReply P (Iterates o vs) = ⊥
   GuardReply P (Fails p) = Unit {0}
+  GuardReply P other = ⊥
 
   guard_at_known : (s : Vat N) (b : ℕ) (fs : List (FreeName N)) (x : Words) → AllOf (λ (f : FreeName N). FreedomKnown K E s b f.freedom) fs → GuardReply (λ v. Has K E s b (AGuard v)) (scopes.guard_at fs x)
   unfolding scopes.guard_at
@@ -439,11 +400,4 @@ module _ {N W : Type 0} (K : Naming N W) (E : Ground N W) (a : ℕ) (tree : List
   pub guard_asked_known : (s : Vat N) (b : ℕ) (fs : List (FreeName N)) (x : Value N) → AllOf (λ (f : FreeName N). FreedomKnown K E s b f.freedom) fs → GuardReply (λ v. Has K E s b (AGuard v)) (scopes.guard_asked fs x)
   unfolding scopes.guard_asked
   guard_asked_known s b fs (Text t) h = guard_at_known s b fs t h
-  guard_asked_known s b fs Null h = tt
-  guard_asked_known s b fs (Flag c) h = tt
-  guard_asked_known s b fs (Number z) h = tt
-  guard_asked_known s b fs (Letter c) h = tt
-  guard_asked_known s b fs (Prim n) h = tt
-  guard_asked_known s b fs (Broken p) h = tt
-  guard_asked_known s b fs (Items k) h = tt
-  guard_asked_known s b fs (Ref n) h = tt
+  guard_asked_known s b fs other h = tt

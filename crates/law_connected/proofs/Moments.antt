@@ -52,9 +52,8 @@ module _ (list : ℕ → List (Value Name) → Type 0) where
 module _ (list lists : ℕ → List (Value Name) → Type 0) (g : (k : ℕ) (vs : List (Value Name)) → list k vs → lists k vs) where
   mutual
     pub learnt_map : (y : Passed (Incoming Name Name)) (v : Value Name) → LearntAs list y v → LearntAs lists y v
-    learnt_map (Plain y) v h = h
-    learnt_map (AGift w i) v h = h
     learnt_map (Many ys) v h = (h.0, h.1, h.2, g h.0 h.1 h.3, learnt_all_map ys h.1 h.4)
+    learnt_map other v h = h
 
     pub learnt_all_map : (ys : Passeds (Incoming Name Name)) (vs : List (Value Name)) → LearntAll list ys vs → LearntAll lists ys vs
     learnt_all_map NoMore [] h = tt
@@ -68,43 +67,18 @@ abbrev pub StandTold : (Happened Name → Type 0) → Name → Standing Name →
 StandTold = IsToldStanding
 
 pub stand_map : (line more : Happened Name → Type 0) → Kept line more → (n : Name) (x : Standing Name) → StandTold line n x → StandTold more n x
-stand_map line more f n Unsettled h = tt
-stand_map line more f n (WaitsOn q) h = tt
 stand_map line more f n (Viewed q) h = f.1 n q h
 stand_map line more f n (Settled y) h = f.0 n y h
+stand_map line more f n other h = tt
 
 abbrev pub IsTaken : Step Name Name → Message Name → Type 0
 IsTaken (Takes tree depth m) n = n ≡ m
-IsTaken (Opens tree depth root given) n = ⊥
-IsTaken (Receives from x) n = ⊥
-IsTaken (Notices w) n = ⊥
+IsTaken other n = ⊥
 
 -- a line that says which message is taken says it of that with which the step begins
 abbrev pub TookFine : Step Name Name → Happened Name → Type 0
 TookFine step (Took a m) = IsTaken step m
-TookFine step (Called a x verb args b) = Unit {0}
-TookFine step (Back a v) = Unit {0}
-TookFine step (Thrown a p) = Unit {0}
-TookFine step (Left a) = Unit {0}
-TookFine step (Got a v) = Unit {0}
-TookFine step (SlotMade a k v) = Unit {0}
-TookFine step (SlotRead a k v) = Unit {0}
-TookFine step (SlotWrote a k v) = Unit {0}
-TookFine step (ListMade a k vs) = Unit {0}
-TookFine step (ListCame k vs) = Unit {0}
-TookFine step (EjectorMade a j) = Unit {0}
-TookFine step (AuditionMade a n) = Unit {0}
-TookFine step (PromiseMade a p r) = Unit {0}
-TookFine step (ObjectMade a me x caught stamps) = Unit {0}
-TookFine step (Sends a m) = Unit {0}
-TookFine step (Reacts a x o m) = Unit {0}
-TookFine step (Finished a v) = Unit {0}
-TookFine step (Threw a t) = Unit {0}
-TookFine step (Settles n y) = Unit {0}
-TookFine step (Waits n q) = Unit {0}
-TookFine step (Views n q) = Unit {0}
-TookFine step (Lost m) = Unit {0}
-TookFine step (Posted w m) = Unit {0}
+TookFine step other = Unit {0}
 
 abbrev pub Members : Vat Name → ℕ → List (Value Name) → Type 0
 Members s k vs = slice_get s.lists k ≡ Some vs
@@ -115,17 +89,11 @@ Offers s h i n = IsAmong (record { to = h; note = Open i n }) s.outbox
 -- a message that the note of this step brought
 abbrev pub CameBy : Vat Name → Note (Incoming Name Name) → Message Name → Type 0
 CameBy s (Deliver x z verb ys) m = (name_in x.message ≡ m.id) × (verb ≡ m.verb) × (m.target ≡ Ref (name_in z)) × LearntAll (Members s) ys m.args
-CameBy s (Open i x) m = ⊥
-CameBy s (Ask p i x) m = ⊥
-CameBy s (SettledTo x y) m = ⊥
-CameBy s (Elsewhere x c) m = ⊥
-CameBy s (Shorten x c i) m = ⊥
+CameBy s other m = ⊥
 
 abbrev pub Came : Vat Name → Step Name Name → Message Name → Type 0
-Came s (Opens tree depth root given) m = ⊥
-Came s (Takes tree depth n) m = ⊥
 Came s (Receives from n) m = CameBy s n m
-Came s (Notices w) m = ⊥
+Came s other m = ⊥
 
 -- a message that a line of this step sent
 abbrev pub SentIn : Vat Name → Message Name → Type 0
@@ -149,14 +117,7 @@ later_on s t u h k = (λ e i. k.0 e (h.0 e i), λ n vs i. k.1 n vs (h.1 n vs i),
 
 came_later : (s t : Vat Name) → Later s t → (step : Step Name Name) (m : Message Name) → Came s step m → Came t step m
 came_later s t l (Receives from (Deliver x z verb ys)) m h = (h.0, h.1, h.2, learnt_all_map (Members s) (Members t) l.1 ys m.args h.3)
-came_later s t l (Receives from (Open i x)) m h = h
-came_later s t l (Receives from (Ask p i x)) m h = h
-came_later s t l (Receives from (SettledTo x y)) m h = h
-came_later s t l (Receives from (Elsewhere x c)) m h = h
-came_later s t l (Receives from (Shorten x c i)) m h = h
-came_later s t l (Opens tree depth root given) m h = h
-came_later s t l (Takes tree depth n) m h = h
-came_later s t l (Notices w) m h = h
+came_later s t l other m h = h
 
 sent_later : (s t : Vat Name) → Later s t → (m : Message Name) → SentIn s m → SentIn t m
 sent_later s t l m h = (h.0, l.0 _ h.1)
@@ -191,11 +152,9 @@ module _ (p : Past) where
 
   abbrev pub NoteFine : Vat Name → Note Name → Type 0
   NoteFine s (Deliver i n verb ys) = (m : Message Name) × Fine s m × (m.id ≡ i.message) × (m.verb ≡ verb) × LeadsTo (Line s) m.target (Ref n) × PassingAll s m.args ys
-  NoteFine s (Open i n) = Unit {0}
-  NoteFine s (Ask q i n) = Unit {0}
   NoteFine s (SettledTo n y) = Passing s (Ref n) y
   NoteFine s (Elsewhere n c) = (i : ℕ) × LeadsTo (Line s) (Ref n) (Ref (Object c i))
-  NoteFine s (Shorten n c i) = Unit {0}
+  NoteFine s other = Unit {0}
 
   abbrev pub KnownFine : Vat Name → Known Name → Type 0
   KnownFine s k = AllOf (Fine s) k.held × AllOf (ReactionFine s) k.reactions × StandTold (Line s) k.name k.standing
@@ -238,11 +197,9 @@ module _ (p : Past) where
 
   note_later : (s t : Vat Name) → Later s t → (n : Note Name) → NoteFine s n → NoteFine t n
   note_later s t l (Deliver i n verb ys) h = (h.0, fine_later s t l h.0 h.1, h.2, h.3, lead_later s t l h.0.target (Ref n) h.4, passing_all_later s t l h.0.args ys h.5)
-  note_later s t l (Open i n) h = tt
-  note_later s t l (Ask q i n) h = tt
   note_later s t l (SettledTo n y) h = passing_later s t l (Ref n) y h
   note_later s t l (Elsewhere n c) h = (h.0, lead_later s t l (Ref n) (Ref (Object c h.0)) h.1)
-  note_later s t l (Shorten n c i) h = tt
+  note_later s t l other h = tt
 
   pub known_later : (s t : Vat Name) → Later s t → (k : Known Name) → KnownFine s k → KnownFine t k
   known_later s t l k h = (all_map (Fine s) (Fine t) (fine_later s t l) k.held h.0, all_map (ReactionFine s) (ReactionFine t) (reaction_later s t l) k.reactions h.1, stand_map (Line s) (Line t) (kept_all (Line s) (Line t) (line_later s t l)) k.name k.standing h.2)
@@ -280,9 +237,7 @@ module _ (p : Past) where
   bind_after : {A B : Type 0} (s : Vat Name) (d : Done Name A) (f : A → Act Name B) (Q : A → Vat Name → Type 0) (R : B → Vat Name → Type 0) → Ends s Q d → ((a : A) (t : Vat Name) → Later s t → Good t → Q a t → Ends t R (f a t)) → Ends s R (and_then d f)
   unfolding and_then
   bind_after s (Gives a t) f Q R h k = ends_from s t R (f a t) h.0 (k a t h.0 h.1 h.2)
-  bind_after s (Throws x t) f Q R h k = h
-  bind_after s (Ejects n v t) f Q R h k = h
-  bind_after s (Stops c t) f Q R h k = h
+  bind_after s other f Q R h k = h
 
   pub brings_bind : {A B : Type 0} {m : Act Name A} {f : A → Act Name B} → Brings m → ((a : A) → Brings (f a)) → Brings (m >>= f)
   unfolding ◌>>=◌
@@ -367,9 +322,7 @@ module _ (p : Past) where
 
   keep_ends : {A : Type 0} (s : Vat Name) (F : Vat Name → Type 0) (Q : A → Vat Name → Type 0) (d : Done Name A) → Lasting F → F s → Ends s Q d → Ends s (λ a t. F t × Q a t) d
   keep_ends s F Q (Gives a t) l f h = (h.0, h.1, (l s t h.0 f, h.2))
-  keep_ends s F Q (Throws x t) l f h = h
-  keep_ends s F Q (Ejects n v t) l f h = h
-  keep_ends s F Q (Stops c t) l f h = h
+  keep_ends s F Q other l f h = h
 
   -- beside it, what stays so
   pub does_also : {A : Type 0} (F : Vat Name → Type 0) {P : Vat Name → Type 0} {Q : A → Vat Name → Type 0} {m : Act Name A} → Lasting F → Does P Q m → Does (λ s. F s × P s) (λ a t. F t × Q a t) m
@@ -383,9 +336,7 @@ module _ (p : Past) where
 
   map_ends : {A : Type 0} (s : Vat Name) (Q R : A → Vat Name → Type 0) (d : Done Name A) → ((a : A) (t : Vat Name) → Q a t → R a t) → Ends s Q d → Ends s R d
   map_ends s Q R (Gives a t) f h = (h.0, h.1, f a t h.2)
-  map_ends s Q R (Throws x t) f h = h
-  map_ends s Q R (Ejects n v t) f h = h
-  map_ends s Q R (Stops c t) f h = h
+  map_ends s Q R other f h = h
 
   pub does_to : {A : Type 0} {P : Vat Name → Type 0} {Q R : A → Vat Name → Type 0} {m : Act Name A} → ((a : A) (t : Vat Name) → Q a t → R a t) → Does P Q m → Does P R m
   does_to {Q = Q} {R = R} {m = m} f h = record { after = λ s i g. map_ends s Q R (m s) f (h.after s i g) }

@@ -34,17 +34,13 @@ same_number n = eq-eqb n n refl
 
 module _ {N : Type 0} where
   pub widen : {A : Type 0} (s t : Vat N) → left_open t ≡ left_open s → (d : Done N A) → Ends t d → Ends s d
-  widen s t r (Gives a u) h = h ∙ r
-  widen s t r (Throws p u) h = h ∙ r
-  widen s t r (Ejects n v u) h = h ∙ r
   widen s t r (Stops c u) h = λ n. h (n.0, r ∙ n.1)
+  widen s t r other h = h ∙ r
 
   bind_after : {A B : Type 0} (s : Vat N) (d : Done N A) (f : A → Act N B) → Ends s d → ((a : A) → Nests (f a)) → Ends s (and_then d f)
   unfolding and_then
   bind_after s (Gives a t) f h k = widen s t h (f a t) ((k a).after t)
-  bind_after s (Throws p t) f h k = h
-  bind_after s (Ejects n v t) f h k = h
-  bind_after s (Stops c t) f h k = h
+  bind_after s other f h k = h
 
   pub nests_bind : {A B : Type 0} {m : Act N A} {f : A → Act N B} → Nests m → ((a : A) → Nests (f a)) → Nests (m >>= f)
   unfolding ◌>>=◌

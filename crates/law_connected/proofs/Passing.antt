@@ -84,9 +84,8 @@ module _ (line : Happened Name → Type 0) where
 module _ (list lists : ℕ → List (Value Name) → Type 0) (g : (k : ℕ) (vs : List (Value Name)) → list k vs → lists k vs) where
   mutual
     pub comes_map : (y : Passed Name) (v : Value Name) → ComesAs list y v → ComesAs lists y v
-    comes_map (Plain y) v h = h
-    comes_map (AGift w i) v h = h
     comes_map (Many ys) v h = (h.0, h.1, h.2, g h.0 h.1 h.3, come_all_map ys h.1 h.4)
+    comes_map other v h = h
 
     pub come_all_map : (ys : Passeds Name) (vs : List (Value Name)) → ComeAll list ys vs → ComeAll lists ys vs
     come_all_map NoMore [] h = tt

@@ -56,21 +56,13 @@ module _ (word : ℕ → ℕ) (v : ℕ) (past : Past) where
   unfolding refs.led
   led_leads s n (Settled y) on h f = settled n y h (f y)
   led_leads s n (Viewed q) on h f = viewed n q h (f (Ref q))
-  led_leads s n (WaitsOn q) on h f = itself
-  led_leads s n Unsettled on h f = itself
+  led_leads s n other on h f = itself
 
   follow_leads : (s : Vat Name) → AllOf (KnownFine past s) s.known → (d : ℕ) (x : Value Name) → LeadsTo (Line past s) x (refs.follow_at (naming word v) d s.known x)
   unfolding refs.follow_at
   follow_leads s h zero x = itself
   follow_leads s h (suc d) (Ref n) = led_leads s n (refs.standing_of (naming word v) s.known n) (λ y. refs.follow_at (naming word v) d s.known y) (told_entry s n s.known h) (follow_leads s h d)
-  follow_leads s h (suc d) Null = itself
-  follow_leads s h (suc d) (Flag b) = itself
-  follow_leads s h (suc d) (Number z) = itself
-  follow_leads s h (suc d) (Letter c) = itself
-  follow_leads s h (suc d) (Text t) = itself
-  follow_leads s h (suc d) (Prim i) = itself
-  follow_leads s h (suc d) (Broken t) = itself
-  follow_leads s h (suc d) (Items k) = itself
+  follow_leads s h (suc d) other = itself
 
   -- what a value is followed to: what lines lead to, or a problem
   abbrev Follows : Vat Name → Value Name → Value Name → Type 0
@@ -93,14 +85,7 @@ module _ (word : ℕ → ℕ) (v : ℕ) (past : Past) where
   severs : (s : Vat Name) (x y : Value Name) → LeadsTo (Line past s) x y → Follows s x (refs.severed (naming word v) s y)
   unfolding refs.severed
   severs s x (Ref n) l = at_spot s x n _ l
-  severs s x Null l = inl l
-  severs s x (Flag b) l = inl l
-  severs s x (Number z) l = inl l
-  severs s x (Letter c) l = inl l
-  severs s x (Text t) l = inl l
-  severs s x (Prim i) l = inl l
-  severs s x (Broken t) l = inl l
-  severs s x (Items k) l = inl l
+  severs s x other l = inl l
 
   follows : (s : Vat Name) → Good past s → (x : Value Name) → Follows s x (refs.follow (naming word v) s x)
   unfolding refs.follow
@@ -122,13 +107,7 @@ module _ (word : ℕ → ℕ) (v : ℕ) (past : Past) where
   plain_passes s x (Letter c) (inl l) f = l
   plain_passes s x (Text t) (inl l) f = l
   plain_passes s x (Prim i) (inl l) f = l
-  plain_passes s x (Ref n) (inr h) f = let e = h.2 in cc
-  plain_passes s x Null (inr h) f = let e = h.2 in cc
-  plain_passes s x (Flag b) (inr h) f = let e = h.2 in cc
-  plain_passes s x (Number z) (inr h) f = let e = h.2 in cc
-  plain_passes s x (Letter c) (inr h) f = let e = h.2 in cc
-  plain_passes s x (Text t) (inr h) f = let e = h.2 in cc
-  plain_passes s x (Prim i) (inr h) f = let e = h.2 in cc
+  plain_passes s x other (inr h) f = let e = h.2 in cc
 
   list_leads : (s : Vat Name) (x : Value Name) (k : ℕ) → Follows s x (Items k) → LeadsTo (Line past s) x (Items k)
   list_leads s x k (inl l) = l
@@ -189,21 +168,13 @@ module _ (word : ℕ → ℕ) (v : ℕ) (past : Past) where
 
   spot_ref : (s : Vat Name) (m n : Name) (h : ℕ) (o : Bool) (k : Spot) → refs.spotted (naming word v) s m k ≡ Away h n o → Ref m ≡ Ref n
   unfolding refs.spotted refs.hosted
-  spot_ref s m n h o (Own i) e = cc
-  spot_ref s m n h o (Foreign w) e = cc
   spot_ref s m n h o NoObject e = room_ref m n _ h _ o e
+  spot_ref s m n h o other e = cc
 
   away_ref : (s : Vat Name) (y : Value Name) (h : ℕ) (n : Name) (o : Bool) → refs.place (naming word v) s y ≡ Away h n o → y ≡ Ref n
   unfolding refs.place
   away_ref s (Ref m) h n o e = spot_ref s m n h o _ e
-  away_ref s Null h n o e = cc
-  away_ref s (Flag b) h n o e = cc
-  away_ref s (Number z) h n o e = cc
-  away_ref s (Letter c) h n o e = cc
-  away_ref s (Text t) h n o e = cc
-  away_ref s (Prim i) h n o e = cc
-  away_ref s (Broken t) h n o e = cc
-  away_ref s (Items k) h n o e = cc
+  away_ref s other h n o e = cc
 
   does_if : {A : Type 0} {P : Vat Name → Type 0} {Q : A → Vat Name → Type 0} (b : Bool) {m n : Act Name A} → Does past P Q m → Does past P Q n → Does past P Q (if b then m else n)
   does_if true h k = h
@@ -301,16 +272,14 @@ module _ (word : ℕ → ℕ) (v : ℕ) (past : Past) where
 
   -- a target is followed to what has that place; nothing is asked where it is broken
   abbrev ToPlace : Value Name → Value Name → Place Name → Vat Name → Type 0
-  ToPlace x y Near s = LeadsTo (Line past s) x y
-  ToPlace x y (Mine n) s = LeadsTo (Line past s) x y
   ToPlace x y (Away h n o) s = LeadsTo (Line past s) x y × (y ≡ Ref n)
   ToPlace x y (Gone t) s = Unit {0}
+  ToPlace x y other s = LeadsTo (Line past s) x y
 
   place_lasts : (x y : Value Name) (o : Place Name) → Lasting past (ToPlace x y o)
-  place_lasts x y Near s t l h = lead_lasts x y s t l h
-  place_lasts x y (Mine n) s t l h = lead_lasts x y s t l h
   place_lasts x y (Away w n o) s t l h = (lead_lasts x y s t l h.0, h.1)
   place_lasts x y (Gone p) s t l h = tt
+  place_lasts x y other s t l h = lead_lasts x y s t l h
 
   broken_place : (s : Vat Name) (x y : Value Name) (o : Place Name) → refs.place (naming word v) s y ≡ o → IsBroken y → ToPlace x y o s
   unfolding refs.place
@@ -349,11 +318,8 @@ module _ (word : ℕ → ℕ) (v : ℕ) (past : Past) where
 
   -- an object elsewhere is one of that vat
   abbrev OffAt : Value Name → Place Name → Type 0
-  OffAt y Near = Unit {0}
-  OffAt y (Mine n) = Unit {0}
   OffAt y (Away h n true) = (i : ℕ) × (y ≡ Ref (Object h i))
-  OffAt y (Away h n false) = Unit {0}
-  OffAt y (Gone t) = Unit {0}
+  OffAt y other = Unit {0}
 
   hosted_off : (s : Vat Name) (n : Name) (h : ℕ) → OffAt (Ref n) (refs.hosted (naming word v) s.number n h)
   unfolding refs.hosted
@@ -379,14 +345,7 @@ module _ (word : ℕ → ℕ) (v : ℕ) (past : Past) where
   placed_off : (s : Vat Name) (y : Value Name) → OffAt y (refs.place (naming word v) s y)
   unfolding refs.place naming
   placed_off s (Ref n) = spotted_off s n
-  placed_off s (Broken t) = tt
-  placed_off s Null = tt
-  placed_off s (Flag b) = tt
-  placed_off s (Number z) = tt
-  placed_off s (Letter c) = tt
-  placed_off s (Text t) = tt
-  placed_off s (Prim i) = tt
-  placed_off s (Items k) = tt
+  placed_off s other = tt
 
   -- what is broken leads to nothing else
   broken_leads : (s : Vat Name) (x z : Value Name) (t : Words) → x ≡ Broken t → LeadsTo (Line past s) x z → z ≡ Broken t
@@ -436,10 +395,7 @@ module _ (word : ℕ → ℕ) (v : ℕ) (past : Past) where
   unfolding refs.inform_of
   does_inform_of p w y (Away h n true) = does_to past (λ b t i. tt) (does_from past (λ s i. (i.1.0, object_leads s (Ref p) y h i.1.0 i.0 i.1.1))
       (does_out past w (Elsewhere p h) (λ s t l i. (i.0, lead_lasts (Ref p) (Ref (Object h i.0)) s t l i.1))))
-  does_inform_of p w y (Away h n false) = does_from past (λ s i. i.0) (does_tell_passed p w y)
-  does_inform_of p w y Near = does_from past (λ s i. i.0) (does_tell_passed p w y)
-  does_inform_of p w y (Mine n) = does_from past (λ s i. i.0) (does_tell_passed p w y)
-  does_inform_of p w y (Gone t) = does_from past (λ s i. i.0) (does_tell_passed p w y)
+  does_inform_of p w y other = does_from past (λ s i. i.0) (does_tell_passed p w y)
 
   does_inform_unless : (p : Name) (w : ℕ) (y : Value Name) (o : Place Name) (b : Bool) → Does past (λ s. Follows s (Ref p) y × OffAt y o) (Any past) (if b then give tt else refs.inform_of (naming word v) p w y o)
   does_inform_unless p w y o true = does_from past (λ s i. tt) (does_any past (brings_give past tt))
@@ -469,9 +425,7 @@ module _ (word : ℕ → ℕ) (v : ℕ) (past : Past) where
   does_settle_standing : (settle : Name → Value Name → Act Name (Unit {0})) → GoodSettler past settle → (p : Name) (y : Value Name) (k : Known Name) (x : Standing Name) → Does past (HasFine k) (Any past) (refs.settle_standing (naming word v) settle p y k x)
   unfolding refs.settle_standing
   does_settle_standing settle h p y k (Settled z) = does_from past (λ s i. tt) (does_any past (brings_give past tt))
-  does_settle_standing settle h p y k Unsettled = does_settle_known settle h p y k
-  does_settle_standing settle h p y k (WaitsOn q) = does_settle_known settle h p y k
-  does_settle_standing settle h p y k (Viewed q) = does_settle_known settle h p y k
+  does_settle_standing settle h p y k other = does_settle_known settle h p y k
 
   abbrev EntryFine : Option (Known Name) → Vat Name → Type 0
   EntryFine None s = Unit {0}
@@ -562,9 +516,7 @@ module _ (word : ℕ → ℕ) (v : ℕ) (past : Past) where
   unfolding refs.react_at
   does_react_at m (Mine n) = does_alter word v past (React m) n
   does_react_at m (Away h n false) = does_alter word v past (React m) n
-  does_react_at m (Away h n true) = does_from past (λ s i. inr i) (does_enqueue past m)
-  does_react_at m Near = does_from past (λ s i. inr i) (does_enqueue past m)
-  does_react_at m (Gone t) = does_from past (λ s i. inr i) (does_enqueue past m)
+  does_react_at m other = does_from past (λ s i. inr i) (does_enqueue past m)
 
   reaction_fine : (s : Vat Name) (act : ℕ) (x o near : Value Name) (id n : Name) → IsAmong (Reacts act x o (refs.reaction (naming word v) id near x n)) s.happened → ReactionFine past s (refs.reaction (naming word v) id near x n)
   unfolding refs.reaction

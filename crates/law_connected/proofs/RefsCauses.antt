@@ -37,14 +37,7 @@ module _ {N W : Type 0} (K : Naming N W) (E : Start N W) where
     severed_follows : (y : Value N) → Reaches K E.vat.known s.happened x y → Follows K E s.happened x (refs.severed K s y)
     unfolding refs.severed
     severed_follows (Ref n) r = at_spot n (K.spot n) r
-    severed_follows Null r = inl r
-    severed_follows (Flag b) r = inl r
-    severed_follows (Number z) r = inl r
-    severed_follows (Letter l) r = inl r
-    severed_follows (Text t) r = inl r
-    severed_follows (Prim p) r = inl r
-    severed_follows (Broken p) r = inl r
-    severed_follows (Items k) r = inl r
+    severed_follows other r = inl r
 
     pub follows_now : Follows K E s.happened x (refs.follow K s x)
     unfolding refs.follow
@@ -75,13 +68,7 @@ module _ {N W : Type 0} (K : Naming N W) (E : Start N W) where
   unfolding refs.place
   placed s (Ref n) = spotted_at s n (K.spot n)
   placed s (Broken p) = refl
-  placed s Null = tt
-  placed s (Flag b) = tt
-  placed s (Number z) = tt
-  placed s (Letter l) = tt
-  placed s (Text t) = tt
-  placed s (Prim p) = tt
-  placed s (Items k) = tt
+  placed s other = tt
 
   -- ---- passing and telling, which settle nothing
 
@@ -212,14 +199,7 @@ module _ {N W : Type 0} (K : Naming N W) (E : Start N W) where
     target_well : (s : Vat N) (p : N) (y : Value N) → SettlesWell K E s.happened p y → SettlesWell K E s.happened p (refs.target_of K s p y)
     unfolding refs.target_of
     target_well s p (Items k) h = cut_well s.happened p k _ h
-    target_well s p (Ref n) h = h
-    target_well s p Null h = h
-    target_well s p (Flag b) h = h
-    target_well s p (Number z) h = h
-    target_well s p (Letter c) h = h
-    target_well s p (Text t) h = h
-    target_well s p (Prim i) h = h
-    target_well s p (Broken t) h = h
+    target_well s p other h = h
 
     -- the line and the settling, as one
     settled_block : (p : N) (y : Value N) (m : Act N (Unit {0})) (s : Vat N) → Causes K E s → SettlesWell K E s.happened p y → ((t : Vat N) → Further K E s t → Causes K E t → IsAmong (Settles p y) t.happened → Ends K E t (Any K E) (m t))
@@ -254,9 +234,7 @@ module _ {N W : Type 0} (K : Naming N W) (E : Start N W) where
     settles_standing : (p : N) (y : Value N) (k : Known N) (x : Standing N) (s : Vat N) → Causes K E s → SettlesWell K E s.happened p y → K.same k.name p ≡ true → EntryTold K E s.happened k → Ends K E s (Any K E) (refs.settle_standing K settle p y k x s)
     unfolding refs.settle_standing
     settles_standing p y k (Settled z) s c w e h = (steady_give K E tt).after s c
-    settles_standing p y k (Viewed q) s c w e h = settles_known p y k s c w e h
-    settles_standing p y k (WaitsOn q) s c w e h = settles_known p y k s c w e h
-    settles_standing p y k Unsettled s c w e h = settles_known p y k s c w e h
+    settles_standing p y k other s c w e h = settles_known p y k s c w e h
 
     entry_here : (so : List (Happened N)) (p : N) (ks : List (Known N)) → AllOf (EntryTold K E so) ks → (o : Option (Known N)) → entry_of K ks p ≡ o → (k : Known N) → o ≡ Some k → (K.same k.name p ≡ true) × EntryTold K E so k
     unfolding entry_of
@@ -299,9 +277,7 @@ module _ {N W : Type 0} (K : Naming N W) (E : Start N W) where
   unfolding refs.resolve_to
   resolves_to p y (Mine n) a s c x g f = waits_unless_cycle p n s c x g (subst (λ z. Follows K E s.happened x z) a f)
   resolves_to p y (Away h n false) a s c x g f = waits_unless_cycle p n s c x g (subst (λ z. Follows K E s.happened x z) a f)
-  resolves_to p y (Away h n true) a s c x g f = settles_well p y s c (inl (x, g, inl f))
-  resolves_to p y Near a s c x g f = settles_well p y s c (inl (x, g, inl f))
-  resolves_to p y (Gone t) a s c x g f = settles_well p y s c (inl (x, g, inl f))
+  resolves_to p y other a s c x g f = settles_well p y s c (inl (x, g, inl f))
 
   pub resolves_well : (p : N) (x : Value N) (s : Vat N) → Causes K E s → IsGiven K E s.happened p x → Ends K E s (Any K E) (refs.resolve K p x s)
   unfolding refs.resolve ◌>>=◌ look and_then

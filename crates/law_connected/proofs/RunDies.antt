@@ -48,9 +48,7 @@ goes_vats w x e = cc
 back_still : (v : ℕ) (w x : World) (head : List Event) (n : ℕ) (r : Vat Name) (d : Done Name (Unit {0})) → Still r → LeavesDead r d → put_back v w head n d ≡ Goes x → StaysStill w x
 unfolding put_back
 back_still v w x head n r (Gives a t) q h e all = subst NothingLive (goes_vats _ x e) (λ u s f. put_still v t w.vats (still_after r t h q) all u s f)
-back_still v w x head n r (Throws p t) q h e all = cc
-back_still v w x head n r (Ejects m y t) q h e all = cc
-back_still v w x head n r (Stops c t) q h e all = cc
+back_still v w x head n r other q h e all = cc
 
 module _ (script : Script) where
   begun_still : (s q : Vat Name) → Begins s q → Still s → Still q

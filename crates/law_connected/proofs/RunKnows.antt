@@ -149,9 +149,7 @@ module _ (script : Script) where
       → LeavesDead r d → After (λ s t. Connected (names script v) (held_from step s t) t.happened) r d → Real w.history v r head step → WorldKnows w → Reached WorldKnows (world.put_back v w head n d)
   unfolding world.put_back
   put_back_knows v w head n r step (Gives u t) e none still dies c real h = next_knows v w head r t step e none still dies c real h
-  put_back_knows v w head n r step (Throws x t) e none still dies c real h = h
-  put_back_knows v w head n r step (Ejects i y t) e none still dies c real h = h
-  put_back_knows v w head n r step (Stops x t) e none still dies c real h = h
+  put_back_knows v w head n r step other e none still dies c real h = h
 
   within_knows : (v : ℕ) (w : World) (head : List Event) (n : ℕ) (step : Step Name Name) (s : Vat Name) (ms : List (Message Name)) → slice_get w.vats v ≡ Some s → IsNobodys head → Real w.history v (world.readied w (record s { queue = ms })) head step → WorldKnows w
       → Reached WorldKnows (world.within v w head n (does (names script v) step) (Some (record s { queue = ms })))

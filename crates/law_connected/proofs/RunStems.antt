@@ -49,11 +49,9 @@ module _ (w x : World) (g : Grows w x) where
 
   note_grow : (u : ℕ) (n : Note Name) → NoteStems w u n → NoteStems x u n
   note_grow u (Deliver i n verb ys) h = (h.0, stems_grow u h.0 h.1, h.2, h.3, leads_grow u h.0.target (Ref n) h.4, args_grow u h.0.args ys h.5)
-  note_grow u (Open i n) h = tt
-  note_grow u (Ask p i n) h = tt
   note_grow u (SettledTo n y) h = passes_map (HasLine w u) (HasLine x u) (kept_all (HasLine w u) (HasLine x u) (λ e i. g.0 (Here u e) i)) (HasList w u) (HasList x u) (g.1 u) (HasOpened w u) (HasOpened x u) (g.2 u) (Ref n) y h
   note_grow u (Elsewhere n c) h = (h.0, leads_grow u (Ref n) (Ref (Object c h.0)) h.1)
-  note_grow u (Shorten n c i) h = tt
+  note_grow u other h = tt
 
 -- a target may be followed
 stems_on : (w : World) (v : ℕ) (m : Message Name) (x : Value Name) → LeadsTo (HasLine w v) x m.target → Stems w v (record m { target = x }) → Stems w v m
@@ -117,14 +115,7 @@ value_read ks (Ref n) = either (world.is_old ks n)
     either : (b : Bool) → Ref (name_in (pick b (Old n) (New n (host_of n)))) ≡ Ref n
     either true = refl
     either false = refl
-value_read ks Null = refl
-value_read ks (Flag b) = refl
-value_read ks (Number z) = refl
-value_read ks (Letter c) = refl
-value_read ks (Text t) = refl
-value_read ks (Prim n) = refl
-value_read ks (Broken p) = refl
-value_read ks (Items k) = refl
+value_read ks other = refl
 
 module _ (list : ℕ → List (Value Name) → Type 0) where
   mutual
@@ -244,11 +235,9 @@ module _ (v : ℕ) (w : World) (head : List Event) (s r t : Vat Name) (step : St
 
     next_note : (n : Note Name) → NoteFine Before t n → NoteStems Next v n
     next_note (Deliver i n verb ys) h = (h.0, next_stems h.0 h.1, h.2, h.3, leads_map (Line Before t) (HasLine Next v) kept_lines h.0.target (Ref n) h.4, next_pass h.0.args ys h.5)
-    next_note (Open i n) h = tt
-    next_note (Ask p i n) h = tt
     next_note (SettledTo n y) h = passes_map (Line Before t) (HasLine Next v) kept_lines (Members t) (HasList Next v) next_list (Offers t) (HasOpened Next v) next_opened (Ref n) y h
     next_note (Elsewhere n c) h = (h.0, leads_map (Line Before t) (HasLine Next v) kept_lines (Ref n) (Ref (Object c h.0)) h.1)
-    next_note (Shorten n c i) h = tt
+    next_note other h = tt
 
     next_known : (k : Known Name) → KnownFine Before t k → KnownStems Next v k
     next_known k h = (all_map (Fine Before t) (Stems Next v) next_stems k.held h.0, all_map (ReactionFine Before t) (IsReaction Next v) next_reaction k.reactions h.1, stand_map (Line Before t) (HasLine Next v) kept_lines k.name k.standing h.2)
@@ -281,20 +270,16 @@ put_back_stems : (v : ℕ) (w : World) (head : List Event) (n : ℕ) (s r : Vat 
     → BringsWell v w head step → ((m : Message Name) → IsTaken step m → StemsOrReacts w v m) → Ends (past_of w v step) r (λ a t. Unit {0}) d → WorldStems w → Reached WorldStems (world.put_back v w head n d)
 unfolding world.put_back
 put_back_stems v w head n s r step (Gives u t) at same none brought takes e h = next_world v w head s r t step at same e.0 (λ m c. brought (Next v w head s r t step at same e.0) t (next_grows v w head s r t step at same e.0) (λ f i. among_left f (w.history ++ head) (world.events_of w.links v t.happened) (among_right f w.history head i)) (next_list v w head s r t step at same e.0) m c) takes none e.1 h
-put_back_stems v w head n s r step (Throws x t) at same none brought takes e h = h
-put_back_stems v w head n s r step (Ejects i y t) at same none brought takes e h = h
-put_back_stems v w head n s r step (Stops c t) at same none brought takes e h = h
+put_back_stems v w head n s r step other at same none brought takes e h = h
 
 -- a note from vat u that stems there
 arrives_well : (v u k : ℕ) (w : World) (bytes : List ℕ) (ks : List Name) (n : Note Name) → NoteStems w u n → BringsWell v w (Carried k u v n bytes ∷ []) (Receives u (read_note ks n))
 unfolding read_note world.read_value
 arrives_well v u k w bytes ks (Deliver i n verb ys) h x t g b f m c = carried u h.0 n ys (k, i, bytes, c.0, subst (λ z. IsAmong (Carried k u v (Deliver i n z ys) bytes) x.history) c.1 (b _ (inl refl))) (stems_grow w x g u h.0 h.1) (h.2 ∙ c.0) (h.3 ∙ c.1) (leads_grow w x g u h.0.target (Ref n) h.4)
     (subst (λ z. LeadsTo (HasLine x v) (Ref n) z) (sym (c.2 ∙ value_read (world.read_all ys ks).known (Ref n))) itself) (args_grow w x g u h.0.args ys h.5) (come_all_map (Members t) (HasList x v) f ys m.args (all_read (Members t) ys ks m.args c.3))
-arrives_well v u k w bytes ks (Open i n) h x t g b f m c = absurd c
-arrives_well v u k w bytes ks (Ask p i n) h x t g b f m c = absurd c
-arrives_well v u k w bytes ks (SettledTo n y) h x t g b f m c = absurd c
 arrives_well v u k w bytes ks (Elsewhere n c) h x t g b f m d = absurd d
 arrives_well v u k w bytes ks (Shorten n c i) h x t g b f m d = absurd d
+arrives_well v u k w bytes ks other h x t g b f m c = absurd c
 
 -- what was queued before the step
 pub was_queued : (p : Past) (s : Vat Name) (m : Message Name) → p.was m ⊎ p.reacted m → QueuedFine p s m

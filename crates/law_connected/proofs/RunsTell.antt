@@ -141,8 +141,7 @@ module _ (script : Script) where
     λ u s f. put_all (λ m z. VatTold (w.history ++ head ++ events_of w.links v t.happened) m z) v t w.vats (after_told v w head r t k o.0 o.1 o.3 o.4) (λ m z g. longer (w.history ++ head) (events_of w.links v t.happened) m z (longer w.history head m z (all.1 m z g))) u s f,
   )
   back_tells v w x head n r (Throws p t) q k h o e all = cc
-  back_tells v w x head n r (Ejects m y t) q k h o e all = cc
-  back_tells v w x head n r (Stops c t) q k h o e all = cc
+  back_tells v w x head n r other q k h o e all = cc
 
   within_tells : (v : ℕ) (w x : World) (head : List Event) (n : ℕ) (what : Step Name Name) (s q : Vat Name) → slice_get w.vats v ≡ Some s → Begins s q → within v w head n (does (names script v) what) (Some q) ≡ Goes x → Tells w → Tells x
   unfolding within readied

@@ -29,14 +29,7 @@ module _ {N W : Type 0} (K : Naming N W) where
   away_foreign : (s : Vat N) (y : Value N) (n : N) (h : ℕ) → refs.place K s y ≡ Away h n true → K.spot n ≡ Foreign h
   unfolding refs.place
   away_foreign s (Ref m) n h e = at_spot s m n h (K.spot m) refl e
-  away_foreign s Null n h e = cc
-  away_foreign s (Flag b) n h e = cc
-  away_foreign s (Number z) n h e = cc
-  away_foreign s (Letter c) n h e = cc
-  away_foreign s (Text t) n h e = cc
-  away_foreign s (Prim i) n h e = cc
-  away_foreign s (Broken t) n h e = cc
-  away_foreign s (Items k) n h e = cc
+  away_foreign s other n h e = cc
 
   module _ (from c i : ℕ) (x : Incoming N W) (r : Vat N) where
     abbrev Began : Start N W
@@ -54,10 +47,7 @@ module _ {N W : Type 0} (K : Naming N W) where
         let at : refs.follow K s (Ref p) ≡ Ref n = subst (IsAt K Began (refs.follow K s (Ref p))) e (placed K Began s (refs.follow K s (Ref p))) in
         subst (λ qs. AllOf (OpensAsAsked K Began t x i) (qs ++ record { to = h; note = Open i n } ∷ [])) (sym o)
         ((p, n, d, subst (λ y. Follows K Began s.happened (Ref p) y) at (follows_now K Began s w (Ref p)), refl, away_foreign s (refs.follow K s (Ref p)) n h e), tt)
-    shortened p d s w o (Away h n false) e = no_notes s o
-    shortened p d s w o Near e = no_notes s o
-    shortened p d s w o (Mine n) e = no_notes s o
-    shortened p d s w o (Gone t) e = no_notes s o
+    shortened p d s w o other e = no_notes s o
 
   learnt : (from c i : ℕ) (x : Incoming N W) (s : Vat N) → s.happened ≡ [] → s.outbox ≡ [] → After (λ r t. Well from c i x s t) s (arrive.arrive_shorten K x i s)
   unfolding arrive.arrive_shorten arrive.learn_name ◌>>=◌ look and_then give come

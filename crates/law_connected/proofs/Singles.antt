@@ -202,9 +202,7 @@ module _ (past : Past) where
   ChangeFine s n (React m) = ReactionFine past s m
   ChangeFine s n (Settle y) = Line past s (Settles n y)
   ChangeFine s n (See q) = Line past s (Views n q)
-  ChangeFine s n (Wait q) = Unit {0}
-  ChangeFine s n (WaitOn q) = Unit {0}
-  ChangeFine s n (ToTell w) = Unit {0}
+  ChangeFine s n other = Unit {0}
 
   changed_to_fine : (s : Vat Name) (k : Known Name) (c : Change Name) → ChangeFine s k.name c → KnownFine past s k → KnownFine past s (changed_to c k)
   unfolding changed_to
@@ -212,16 +210,13 @@ module _ (past : Past) where
   changed_to_fine s k (React m) i h = (h.0, all_end (ReactionFine past s) k.reactions m h.1 i, h.2)
   changed_to_fine s k (Settle y) i h = (tt, tt, i)
   changed_to_fine s k (See q) i h = (h.0, h.1, i)
-  changed_to_fine s k (Wait q) i h = h
   changed_to_fine s k (WaitOn q) i h = (h.0, h.1, tt)
-  changed_to_fine s k (ToTell w) i h = h
+  changed_to_fine s k other i h = h
 
   unless_fine : (s : Vat Name) (x : Standing Name) (k new : Known Name) → KnownFine past s k → KnownFine past s new → KnownFine past s (unless_settled x k new)
   unfolding unless_settled
   unless_fine s (Settled y) k new h i = h
-  unless_fine s Unsettled k new h i = i
-  unless_fine s (WaitsOn q) k new h i = i
-  unless_fine s (Viewed q) k new h i = i
+  unless_fine s other k new h i = i
 
   changed_fine : (s : Vat Name) (k : Known Name) (c : Change Name) → ChangeFine s k.name c → KnownFine past s k → KnownFine past s (changed c k)
   unfolding changed

@@ -20,9 +20,7 @@ module _ {N W : Type 0} (K : Naming N W) where
 
   from_none : {A : Type 0} (s : Vat N) (d : Done N A) → Ends s.activations d → After (λ s t. Rises s.activations (map begun_by t.happened) t.activations) s d
   from_none s (Gives a t) h = h
-  from_none s (Throws p t) h = h
-  from_none s (Ejects n v t) h = h
-  from_none s (Stops c t) h = h
+  from_none s other h = h
 
   at_first : (s : Vat N) → s.happened ≡ [] → Rises s.activations (map begun_by s.happened) s.activations
   at_first s e = subst (λ (es : List (Happened N)). Rises s.activations (map begun_by es) s.activations) (sym e) (no_more s.activations)

@@ -19,10 +19,8 @@ module _ {N W : Type 0} (K : Naming N W) where
   step_nests (Notices w) = walk_notice NestsBy K nests_closed nests_in_refs (nests_in_refs_under K) (nests_settling K) nests_in_arrive (nests_in_arrive_under K) w
 
   from_none : {A : Type 0} (s : Vat N) → left_open s ≡ Some [] → (d : Done N A) → Ends s d → Nested d
-  from_none s e (Gives a t) h = h ∙ e
-  from_none s e (Throws p t) h = h ∙ e
-  from_none s e (Ejects n v t) h = h ∙ e
   from_none s e (Stops c t) h = h ([], e)
+  from_none s e other h = h ∙ e
 
   pub steps_nest : StepsNest K
   unfolding nested_from

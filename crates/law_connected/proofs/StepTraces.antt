@@ -22,29 +22,20 @@ module _ {N W : Type 0} (K : Naming N W) (before : List (Known N)) where
   at_first : (so : List (Happened N)) (x : Standing N) (n : N) → standing_of K before n ≡ x → IsTold K before so n x
   at_first so (Settled y) n e = settled e
   at_first so (Viewed q) n e = viewed e
-  at_first so (WaitsOn q) n e = tt
-  at_first so Unsettled n e = tt
+  at_first so other n e = tt
 
   module _ (so : List (Happened N)) (ks : List (Known N)) (all : AllTold K before so ks) where
     led_reaches : (on : Value N → Value N) → ((y : Value N) → Reaches K before so y (on y)) → (n : N) (x : Standing N) → IsTold K before so n x → Reaches K before so (Ref n) (led K on n x)
     unfolding led
     led_reaches on f n (Settled y) h = onward y h (f y)
     led_reaches on f n (Viewed q) h = onward (Ref q) h (f (Ref q))
-    led_reaches on f n (WaitsOn q) h = itself
-    led_reaches on f n Unsettled h = itself
+    led_reaches on f n other h = itself
 
     pub follow_reaches : (d : ℕ) (x : Value N) → Reaches K before so x (follow_at K d ks x)
     unfolding follow_at
     follow_reaches zero x = itself
     follow_reaches (suc d) (Ref n) = led_reaches (λ y. follow_at K d ks y) (λ y. follow_reaches d y) n (standing_of K ks n) (all n)
-    follow_reaches (suc d) Null = itself
-    follow_reaches (suc d) (Flag b) = itself
-    follow_reaches (suc d) (Number z) = itself
-    follow_reaches (suc d) (Letter c) = itself
-    follow_reaches (suc d) (Text t) = itself
-    follow_reaches (suc d) (Prim p) = itself
-    follow_reaches (suc d) (Broken p) = itself
-    follow_reaches (suc d) (Items k) = itself
+    follow_reaches (suc d) other = itself
 
   by_reaches : (so : List (Happened N)) (x : Value N) (n : N) (b : Bool) → Reaches K before so x (Ref n)
       → Reaches K before so x (elim b [ true ↦ Broken (codes "partition") | false ↦ Ref n ]) ⊎ IsPlain (elim b [ true ↦ Broken (codes "partition") | false ↦ Ref n ])
@@ -60,14 +51,7 @@ module _ {N W : Type 0} (K : Naming N W) (before : List (Known N)) where
   severed_reaches : (so : List (Happened N)) (s : Vat N) (x y : Value N) → Reaches K before so x y → Reaches K before so x (severed K s y) ⊎ IsPlain (severed K s y)
   unfolding severed
   severed_reaches so s x (Ref n) r = at_reaches so s x n (K.spot n) r
-  severed_reaches so s x Null r = inl r
-  severed_reaches so s x (Flag b) r = inl r
-  severed_reaches so s x (Number z) r = inl r
-  severed_reaches so s x (Letter c) r = inl r
-  severed_reaches so s x (Text t) r = inl r
-  severed_reaches so s x (Prim p) r = inl r
-  severed_reaches so s x (Broken p) r = inl r
-  severed_reaches so s x (Items k) r = inl r
+  severed_reaches so s x other r = inl r
 
   pub told_follows : (t : Vat N) → Told K before t → FollowsTold K before t
   unfolding follow
@@ -82,9 +66,7 @@ module _ {N W : Type 0} (K : Naming N W) (before : List (Known N)) where
 module _ {N W : Type 0} (K : Naming N W) where
   ends_known : {A : Type 0} (s : Vat N) (d : Done N A) → After (λ r t. FollowsTold K s.known t) s d → After (λ s t. FollowsTold K s.known t) s d
   ends_known s (Gives a t) h = h
-  ends_known s (Throws p t) h = h
-  ends_known s (Ejects n v t) h = h
-  ends_known s (Stops c t) h = h
+  ends_known s other h = h
 
   pub steps_follow : StepsFollow K
   steps_follow step s = ends_known s (does K step s) (ends_follow K s.known s (does K step s) ((step_traces K s.known step).after s (λ n. at_first K s.known s.happened (standing_of K s.known n) n refl)))

@@ -20,8 +20,7 @@ module _ {N W : Type 0} (K : Naming N W) (before : List (Known N)) where
   abbrev pub IsTold : List (Happened N) → N → Standing N → Type 0
   IsTold so n (Settled y) = Leads K before so (Ref n) y
   IsTold so n (Viewed q) = Leads K before so (Ref n) (Ref q)
-  IsTold so n (WaitsOn q) = Unit {0}
-  IsTold so n Unsettled = Unit {0}
+  IsTold so n other = Unit {0}
 
   abbrev pub AllTold : List (Happened N) → List (Known N) → Type 0
   AllTold so ks = (n : N) → IsTold so n (standing_of K ks n)
@@ -45,9 +44,7 @@ module _ {N W : Type 0} (K : Naming N W) (before : List (Known N)) where
   bind_after : {A B : Type 0} (d : Done N A) (f : A → Act N B) → Ends d → ((a : A) → Traces (f a)) → Ends (and_then d f)
   unfolding and_then
   bind_after (Gives a t) f h k = (k a).after t h
-  bind_after (Throws p t) f h k = h
-  bind_after (Ejects n v t) f h k = h
-  bind_after (Stops c t) f h k = h
+  bind_after other f h k = h
 
   pub traces_bind : {A B : Type 0} {m : Act N A} {f : A → Act N B} → Traces m → ((a : A) → Traces (f a)) → Traces (m >>= f)
   unfolding ◌>>=◌
@@ -91,8 +88,7 @@ module _ {N W : Type 0} (K : Naming N W) (before : List (Known N)) where
   told_more : (so more : List (Happened N)) (n : N) (x : Standing N) → IsTold so n x → IsTold (so ++ more) n x
   told_more so more n (Settled y) h = leads_more K before so more (Ref n) y h
   told_more so more n (Viewed q) h = leads_more K before so more (Ref n) (Ref q) h
-  told_more so more n (WaitsOn q) h = tt
-  told_more so more n Unsettled h = tt
+  told_more so more n other h = tt
 
   pub traces_tell : (e : Happened N) → Traces (tell e)
   unfolding tell
@@ -131,25 +127,16 @@ module _ {N W : Type 0} (K : Naming N W) (before : List (Known N)) where
     where
       to_name : (c : Change N) → (changed_to c k).name ≡ k.name
       to_name (Hold m) = refl
-      to_name (Wait q) = refl
-      to_name (WaitOn q) = refl
-      to_name (See q) = refl
-      to_name (React m) = refl
-      to_name (ToTell w) = refl
-      to_name (Settle y) = refl
+      to_name other = refl
 
       by_standing : (x : Standing N) (c : Change N) → (unless_settled x k (changed_to c k)).name ≡ k.name
       by_standing (Settled y) c = refl
-      by_standing (Viewed q) c = to_name c
-      by_standing (WaitsOn q) c = to_name c
-      by_standing Unsettled c = to_name c
+      by_standing other c = to_name c
 
   unless_told : (so : List (Happened N)) (n : N) (x : Standing N) (k new : Known N) → IsTold so n k.standing → IsTold so n new.standing → IsTold so n (unless_settled x k new).standing
   unfolding unless_settled
   unless_told so n (Settled y) k new h i = h
-  unless_told so n (Viewed q) k new h i = i
-  unless_told so n (WaitsOn q) k new h i = i
-  unless_told so n Unsettled k new h i = i
+  unless_told so n other k new h i = i
 
   -- the entry that changes is found, or one behind it
   first_told : (so : List (Happened N)) (n p : N) (c : Change N) (k : Known N) (o : Option (Known N)) (b d : Bool) → K.same k.name p ≡ true → K.same k.name n ≡ b → K.same (changed c k).name n ≡ d → Fits so p c
@@ -320,10 +307,9 @@ module _ {N W : Type 0} (K : Naming N W) (before : List (Known N)) where
   mild (Hold m) n h = traces_hold m n
   mild (Wait q) n h = traces_wait q n
   mild (WaitOn q) n h = traces_wait_on q n
-  mild (See q) n h = absurd h
   mild (React m) n h = traces_react m n
   mild (ToTell w) n h = traces_to_tell w n
-  mild (Settle y) n h = absurd h
+  mild other n h = absurd h
 
   pub traces_whole : Whole TracesBy K
   traces_whole = record {

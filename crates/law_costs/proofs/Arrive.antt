@@ -20,15 +20,8 @@ module _ (P : Prices) {N W : Type 0} (K : Naming N W) where
 
   learn_value : (y : Value (Incoming N W)) → Costs P 10 0 (arrive.learn_value K y)
   unfolding arrive.learn_value
-  learn_value Null = cost_give P _
-  learn_value (Flag b) = cost_give P _
-  learn_value (Number z) = cost_give P _
-  learn_value (Letter c) = cost_give P _
-  learn_value (Text t) = cost_give P _
-  learn_value (Prim n) = cost_give P _
-  learn_value (Broken p) = cost_give P _
-  learn_value (Items k) = cost_give P _
   learn_value (Ref x) = free_bind P (learn_name x) (λ n. cost_give P _)
+  learn_value other = cost_give P _
 
   ask_for : (p h i : ℕ) (n : N) → Costs P 10 0 (arrive.ask_for K p h i n)
   unfolding arrive.ask_for
@@ -54,37 +47,32 @@ module _ (P : Prices) {N W : Type 0} (K : Naming N W) where
 
   free_learns : (w : ℕ) (d : Done N (Value N)) → Ends P w 10 0 d → Learns one w 1 d
   free_learns w (Gives v t) h = (h.0, omega (arith, h.1), omega arith)
-  free_learns w (Throws p t) h = (h.0, omega (arith, h.1))
-  free_learns w (Ejects i v t) h = (h.0, omega (arith, h.1))
   free_learns w (Stops c t) h = tt
+  free_learns w other h = (h.0, omega (arith, h.1))
 
   listed : (v w m n : ℕ) (d : Done N (Value N)) → v + m ≤ w + (n + n) → Ends P v (11 + m) (1 + m) d → Learns one w (suc n) d
   listed v w m n (Gives x t) l h = (h.0, omega (arith, l, h.1), omega arith)
-  listed v w m n (Throws p t) l h = (h.0, omega (arith, l, h.1))
-  listed v w m n (Ejects i x t) l h = (h.0, omega (arith, l, h.1))
   listed v w m n (Stops c t) l h = tt
+  listed v w m n other l h = (h.0, omega (arith, l, h.1))
 
   then_list : (w n : ℕ) → n ≤ P.fuel → (d : Done N (List (Value N))) → Learns length w n d → Learns one w (suc n) (and_then d (λ vs. arrive.make_list K vs))
   unfolding and_then
   then_list w n l (Gives vs t) h = listed (worth P t) w (length vs) n (arrive.make_list K vs t) h.1 ((make_list vs (omega (arith, l, h.2))).after t h.0)
-  then_list w n l (Throws p t) h = (h.0, omega (arith, h.1))
-  then_list w n l (Ejects i v t) h = (h.0, omega (arith, h.1))
   then_list w n l (Stops c t) h = tt
+  then_list w n l other h = (h.0, omega (arith, h.1))
 
   more_learnt : (v w m n : ℕ) (x : Value N) → v + 1 ≤ w + (m + m) → 1 ≤ m → (d : Done N (List (Value N))) → Learns length v n d → Learns length w (m + n) (and_then d (λ vs. give (x ∷ vs)))
   unfolding and_then give
   more_learnt v w m n x l k (Gives vs t) h = (h.0, omega (arith, l, h.1), omega (arith, k, h.2))
-  more_learnt v w m n x l k (Throws p t) h = (h.0, omega (arith, l, h.1))
-  more_learnt v w m n x l k (Ejects i y t) h = (h.0, omega (arith, l, h.1))
   more_learnt v w m n x l k (Stops c t) h = tt
+  more_learnt v w m n x l k other h = (h.0, omega (arith, l, h.1))
 
   learn_rest : (p : ℕ) (ys : Passeds (Incoming N W)) (w m : ℕ) (d : Done N (Value N)) → Learns one w m d → ((t : Vat N) → Short P t → Learns length (worth P t) (loads ys) (arrive.learn_all K p ys t))
       → Learns length w (m + loads ys) (and_then d (λ v. arrive.learn_all K p ys >>= λ vs. give (v ∷ vs)))
   unfolding ◌>>=◌ and_then
   learn_rest p ys w m (Gives v t) h all = more_learnt (worth P t) w m (loads ys) v h.1 h.2 (arrive.learn_all K p ys t) (all t h.0)
-  learn_rest p ys w m (Throws q t) h all = (h.0, omega (arith, h.1))
-  learn_rest p ys w m (Ejects i v t) h all = (h.0, omega (arith, h.1))
   learn_rest p ys w m (Stops c t) h all = tt
+  learn_rest p ys w m other h all = (h.0, omega (arith, h.1))
 
   mutual
     unfolding arrive.learn arrive.learn_all ◌>>=◌ give
@@ -99,10 +87,8 @@ module _ (P : Prices) {N W : Type 0} (K : Naming N W) where
     learn_all p (More y ys) l s short = learn_rest p ys (worth P s) (load y) (arrive.learn K p y s) (learn p y (omega (arith, l)) s short) (λ t k. learn_all p ys (omega (arith, l)) t k)
 
   learning : {A : Type 0} (many : A → ℕ) (w n : ℕ) (d : Done N A) → Learns many w n d → Ends P w (10 + (n + n)) (10 + (n + n)) d
-  learning many w n (Gives a t) h = (h.0, omega (arith, h.1))
-  learning many w n (Throws p t) h = (h.0, omega (arith, h.1))
-  learning many w n (Ejects i v t) h = (h.0, omega (arith, h.1))
   learning many w n (Stops c t) h = tt
+  learning many w n other h = (h.0, omega (arith, h.1))
 
   cost_learn : (p : ℕ) (y : Passed (Incoming N W)) → load y ≤ P.fuel → Costs P (10 + (load y + load y)) (10 + (load y + load y)) (arrive.learn K p y)
   cost_learn p y l = record { after = λ s short. learning one (worth P s) (load y) (arrive.learn K p y s) (learn p y l s short) }
@@ -129,9 +115,7 @@ module _ (P : Prices) {N W : Type 0} (K : Naming N W) where
   break_at : (n : N) (p : Words) (x : Standing N) → Costs P 10 0 (arrive.break_at K n p x)
   unfolding arrive.break_at
   break_at n p (Settled y) = cost_give P tt
-  break_at n p Unsettled = free_settle P K n _
-  break_at n p (WaitsOn q) = free_settle P K n _
-  break_at n p (Viewed q) = free_settle P K n _
+  break_at n p other = free_settle P K n _
 
   break_unopened : (n : N) (b : Bool) → Costs P 10 0 (arrive.break_unopened K n b)
   unfolding arrive.break_unopened
@@ -141,9 +125,7 @@ module _ (P : Prices) {N W : Type 0} (K : Naming N W) where
   tell_asker : (n : N) (w : ℕ) (x : Standing N) → Costs P 10 0 (arrive.tell_asker K n w x)
   unfolding arrive.tell_asker
   tell_asker n w (Settled y) = free_inform P K n w
-  tell_asker n w Unsettled = cost_alter P K _ n
-  tell_asker n w (WaitsOn q) = cost_alter P K _ n
-  tell_asker n w (Viewed q) = cost_alter P K _ n
+  tell_asker n w other = cost_alter P K _ n
 
   -- ---- arrival
 
@@ -202,10 +184,7 @@ module _ (P : Prices) {N W : Type 0} (K : Naming N W) where
   shorten_to : (i : ℕ) (p : Place N) → Costs P 10 0 (arrive.shorten_to K i p)
   unfolding arrive.shorten_to
   shorten_to i (Away h n true) = cost_out P h _ (omega arith)
-  shorten_to i (Away h n false) = cost_give P tt
-  shorten_to i Near = cost_give P tt
-  shorten_to i (Mine n) = cost_give P tt
-  shorten_to i (Gone t) = cost_give P tt
+  shorten_to i other = cost_give P tt
 
   shortens : (x : Incoming N W) (i : ℕ) → Costs P 10 0 (arrive.arrive_shorten K x i)
   unfolding arrive.arrive_shorten
@@ -224,10 +203,9 @@ module _ (P : Prices) {N W : Type 0} (K : Naming N W) where
 
   break_hosted : (w : ℕ) (n : N) (p : Words) (x : Standing N) → Costs P 10 0 (arrive.break_hosted K w n p x)
   unfolding arrive.break_hosted
-  break_hosted w n p Unsettled = free_settle P K n _
-  break_hosted w n p (WaitsOn q) = free_settle P K n _
   break_hosted w n p (Viewed q) = cost_give P tt
   break_hosted w n p (Settled y) = cost_give P tt
+  break_hosted w n p other = free_settle P K n _
 
   notice_name : (w : ℕ) (k : Known N) → Costs P 10 0 (arrive.notice_name K w k)
   unfolding arrive.notice_name

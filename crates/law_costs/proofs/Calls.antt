@@ -60,9 +60,7 @@ module _ (P : Prices) {N W : Type 0} (K : Naming N W) (tree : List Node) (formed
   unfolding calls.audit
   audit again good act view a Near = cost_bind P (cost_thing P (Audition true view)) (λ n. free_then P (cost_tell P _) (cost_bind P {c = 2} {d = 12} (leaving n _ (omega arith) (omega arith) (good.light (Audits (Ref (K.object n))) act a))
       (λ v. cost_look P _) (omega arith) (omega arith) (omega arith))) (omega arith) (omega arith) (omega arith)
-  audit again good act view a (Mine n) = cost_up P (omega arith) (omega arith) (cost_throw P _)
-  audit again good act view a (Away h n o) = cost_up P (omega arith) (omega arith) (cost_throw P _)
-  audit again good act view a (Gone t) = cost_up P (omega arith) (omega arith) (cost_throw P _)
+  audit again good act view a other = cost_up P (omega arith) (omega arith) (cost_throw P _)
 
   no_auditor : {A : Type 0} (p : Words) → Costs P {N = N} 10 13 (throw {A = A} p)
   no_auditor p = cost_up P (omega arith) (omega arith) (cost_throw P p)
@@ -71,13 +69,7 @@ module _ (P : Prices) {N W : Type 0} (K : Naming N W) (tree : List Node) (formed
   unfolding calls.verdict
   verdict again good act view a (Prim n) = cost_if P _ (cost_up P (omega arith) (omega arith) (cost_give P _)) (no_auditor _)
   verdict again good act view a (Ref n) = free_bind P (cost_look P _) (λ p. audit again good act view a p)
-  verdict again good act view a Null = no_auditor _
-  verdict again good act view a (Flag b) = no_auditor _
-  verdict again good act view a (Number z) = no_auditor _
-  verdict again good act view a (Letter c) = no_auditor _
-  verdict again good act view a (Text t) = no_auditor _
-  verdict again good act view a (Broken t) = no_auditor _
-  verdict again good act view a (Items k) = no_auditor _
+  verdict again good act view a other = no_auditor _
 
   ask_all : (again : Caller N) → GoodCaller P again → (act : ℕ) (view : View N) (as' : List (Value N)) → Costs P 10 13 (calls.ask_all K tree again act view as')
   unfolding calls.ask_all
@@ -123,9 +115,7 @@ module _ (P : Prices) {N W : Type 0} (K : Naming N W) (tree : List Node) (formed
   audition_answer again good act true view GetsForm = audition_live again good act view GetsForm
   audition_answer again good act true view (GetsGuard x) = audition_live again good act view (GetsGuard x)
   audition_answer again good act true view (Asks a) = audition_live again good act view (Asks a)
-  audition_answer again good act false view GetsForm = thrown _
-  audition_answer again good act false view (GetsGuard x) = thrown _
-  audition_answer again good act false view (Asks a) = thrown _
+  audition_answer again good act false view other = thrown _
 
   -- ---- ejectors and resolvers
 
@@ -138,9 +128,7 @@ module _ (P : Prices) {N W : Type 0} (K : Naming N W) (tree : List Node) (formed
   where_unresolved : (w : Standing N) (m : Act N (Unit {0})) → Costs P 10 0 m → Costs P 10 10 (calls.where_unresolved K tree w m)
   unfolding calls.where_unresolved
   where_unresolved Unsettled m h = cost_up P (omega arith) (omega arith) (free_then P h (cost_give P Null))
-  where_unresolved (WaitsOn q) m h = cost_up P (omega arith) (omega arith) (cost_throw P _)
-  where_unresolved (Viewed q) m h = cost_up P (omega arith) (omega arith) (cost_throw P _)
-  where_unresolved (Settled y) m h = cost_up P (omega arith) (omega arith) (cost_throw P _)
+  where_unresolved other m h = cost_up P (omega arith) (omega arith) (cost_throw P _)
 
   smash : (p : N) (y : Value N) → Costs P 10 10 (calls.smash K tree p y)
   unfolding calls.smash
@@ -165,14 +153,9 @@ module _ (P : Prices) {N W : Type 0} (K : Naming N W) (tree : List Node) (formed
   unfolding calls.thing_answer calls.audition_answer calls.resolver_answer scopes.audition_ask scopes.resolver_ask entry same_words
   light_thing again act i (Ejector live) l = ejector_answer i live _
   light_thing again act i (Audition live view) (Audits x) = cost_throw P _
-  light_thing again act i (Audition live view) Starts = cost_throw P _
-  light_thing again act i (Audition live view) (Places z c) = cost_throw P _
-  light_thing again act i (Audition live view) (Pairs a b) = cost_throw P _
   light_thing again act i (Resolver p) (Audits x) = cost_throw P _
-  light_thing again act i (Resolver p) Starts = cost_throw P _
-  light_thing again act i (Resolver p) (Places z c) = cost_throw P _
-  light_thing again act i (Resolver p) (Pairs a b) = cost_throw P _
   light_thing again act i (Made node caught stamps) l = cost_stop P _
+  light_thing again act i another other = cost_throw P _
 
   -- ---- objects
 
@@ -233,9 +216,7 @@ module _ (P : Prices) {N W : Type 0} (K : Naming N W) (tree : List Node) (formed
 
   two : (l : Light N) → 2 ≤ level l
   two (Audits x) = omega arith
-  two Starts = omega arith
-  two (Places z c) = omega arith
-  two (Pairs a b) = omega arith
+  two other = omega arith
 
   light_called : (rec : Evaluator N) → GoodEvaluator P rec → (again : Caller N) (act : ℕ) (x : Value N) (i : ℕ) (o : Option (Thing N)) (l : Light N) → Costs P (level l) 12 (calls.call_thing K tree rec again act x i o (verb_of l) (args_of l))
   unfolding calls.call_thing
@@ -248,20 +229,16 @@ module _ (P : Prices) {N W : Type 0} (K : Naming N W) (tree : List Node) (formed
   call_spot : (rec : Evaluator N) → GoodEvaluator P rec → (again : Caller N) → GoodCaller P again → (act : ℕ) (x : Value N) (p : Spot) (verb : Words) (args : List (Value N)) → Costs P P.call P.call (calls.call_spot K tree rec again act x p verb args)
   unfolding calls.call_spot
   call_spot rec good again h act x (Own i) verb args = free_bind P (cost_look P _) (λ t. call_thing rec good again h act x i t verb args)
-  call_spot rec good again h act x (Foreign w) verb args = thrown _
-  call_spot rec good again h act x NoObject verb args = thrown _
+  call_spot rec good again h act x other verb args = thrown _
 
   light_spot : (rec : Evaluator N) → GoodEvaluator P rec → (again : Caller N) (act : ℕ) (x : Value N) (p : Spot) (l : Light N) → Costs P (level l) 12 (calls.call_spot K tree rec again act x p (verb_of l) (args_of l))
   unfolding calls.call_spot
   light_spot rec good again act x (Own i) l = free_bind P (cost_look P _) (λ t. light_called rec good again act x i t l)
-  light_spot rec good again act x (Foreign w) l = cost_up P (omega arith) (omega arith) (cost_throw P _)
-  light_spot rec good again act x NoObject l = cost_up P (omega arith) (omega arith) (cost_throw P _)
+  light_spot rec good again act x other l = cost_up P (omega arith) (omega arith) (cost_throw P _)
 
   near : (l : Light N) → (level l ≤ 22) × (12 ≤ level l + 10)
   near (Audits x) = (omega arith, omega arith)
-  near Starts = (omega arith, omega arith)
-  near (Places z c) = (omega arith, omega arith)
-  near (Pairs a b) = (omega arith, omega arith)
+  near other = (omega arith, omega arith)
 
   data_called : (again : Caller N) → GoodCaller P again → (act : ℕ) (x y : Value N) (verb : Words) (args : List (Value N)) → Costs P P.call P.call (scopes.with_lines act x verb args (perform.data_answer K tree again act y verb args))
   data_called again h act x y verb args = with_lines act x verb args _ (omega arith) (omega arith) (cost_data_answer P K tree again h act y verb args)
@@ -325,8 +302,7 @@ module _ (P : Prices) {N W : Type 0} (K : Naming N W) (tree : List Node) (formed
     turn_spot : (act : ℕ) (p : Spot) (verb : Words) (args : List (Value N)) → Costs P P.call P.call (calls.turn_spot K tree rec act p verb args)
     unfolding calls.turn_spot
     turn_spot act (Own i) verb args = free_bind P (cost_look P _) (λ t. turn_thing act i t verb args)
-    turn_spot act (Foreign w) verb args = cost_stop P _
-    turn_spot act NoObject verb args = cost_stop P _
+    turn_spot act other verb args = cost_stop P _
 
     pub cost_turn_value : (act : ℕ) (x : Value N) (verb : Words) (args : List (Value N)) → Costs P P.call P.call (calls.turn_value K tree rec act x verb args)
     unfolding calls.turn_value

@@ -82,9 +82,8 @@ module _ (P : Prices) where
   -- what an act costs that goes on from where another ended
   pub carry : {N A : Type 0} (v w c d e f : ℕ) (x : Done N A) → v + e ≤ w + c → v + f ≤ w + d → Ends v e f x → Ends w c d x
   carry v w c d e f (Gives a u) l k h = (h.0, omega (arith, l, h.1))
-  carry v w c d e f (Throws p u) l k h = (h.0, omega (arith, k, h.1))
-  carry v w c d e f (Ejects n y u) l k h = (h.0, omega (arith, k, h.1))
   carry v w c d e f (Stops y u) l k h = tt
+  carry v w c d e f other l k h = (h.0, omega (arith, k, h.1))
 
   pub cost_up : {N A : Type 0} {c d e f : ℕ} {m : Act N A} → e ≤ c → f ≤ d → Costs e f m → Costs c d m
   cost_up {c = c} {d = d} {e = e} {f = f} {m = m} l k h = record { after = λ s short. carry (worth s) (worth s) c d e f (m s) (omega (arith, l)) (omega (arith, k)) (h.after s short) }

@@ -150,8 +150,7 @@ module _ (P : Prices) {N W : Type 0} (K : Naming N W) (tree : List Node) (formed
     write_bound : (act : ℕ) (o : Option (Bound N)) (v : Value N) → Costs P P.call P.call (eval.write_bound K tree rec act o v)
     unfolding eval.write_bound
     write_bound act (Some (Slot k)) v = free_bind P (cost_look P _) (λ c. write_cell act k v c)
-    write_bound act (Some (Fixed w g)) v = cost_stop P _
-    write_bound act None v = cost_stop P _
+    write_bound act other v = cost_stop P _
 
     -- what a node costs, whatever it is
     at_node : {A : Type 0} {m : Act N A} {c d : ℕ} → c ≤ node → d ≤ node → Costs P c d m → Costs P node node m
@@ -184,13 +183,7 @@ module _ (P : Prices) {N W : Type 0} (K : Naming N W) (tree : List Node) (formed
     step id (MatchBind e p) here = at_node (omega arith) (omega arith) (cost_bind P {c = 11 + P.tree} {d = 11 + P.tree} (expression e here) (λ x. cost_bind P {c = 11 + P.tree} {d = 11 + P.tree} (cost_new_ejector P K tree formed here.act)
         (λ j. match_ended j p x.scope _ (pattern p x.value (Ref (K.object j)) x.scope)) (omega arith) (omega arith) (omega arith)) (omega arith) (omega arith) (omega arith))
     step id (Object p auditors members) here = at_node (omega arith) (omega arith) (cost_bind P {c = 11} {d = 13} (all_of auditors here) (λ xs. cost_make_object P K tree formed _ caller id _ _ xs.values xs.scope) (omega arith) (omega arith) (omega arith))
-    step id (Method verb ps b) here = cost_stop P _
-    step id (Matcher p b) here = cost_stop P _
-    step id (Final x g) here = cost_stop P _
-    step id (Var x g) here = cost_stop P _
-    step id (Any g) here = cost_stop P _
-    step id (ListPattern ps) here = cost_stop P _
-    step id (Via e p) here = cost_stop P _
+    step id other here = cost_stop P _
 
     -- ---- patterns
 
@@ -219,21 +212,7 @@ module _ (P : Prices) {N W : Type 0} (K : Naming N W) (tree : List Node) (formed
     bind_step (Any g) v j here = call_node (calling (guard_of g here) (λ k. called (cost_coerce P K tree _ caller here.act k.value j v) (λ y. even (cost_give P _))))
     bind_step (ListPattern ps) v j here = call_node (free_bind P (cost_look P _) (λ y. bind_items ps j here y))
     bind_step (Via e p) v j here = call_node (calling (expression e here) (λ f. free_bind P (free_handed P K tree j) (λ k. called (caller.any here.act f.value _ _) (λ y. pattern p y j f.scope))))
-    bind_step (Lit l) v j here = cost_stop P _
-    bind_step (Noun x) v j here = cost_stop P _
-    bind_step (Set x e) v j here = cost_stop P _
-    bind_step (Def p k e) v j here = cost_stop P _
-    bind_step (Call r verb args) v j here = cost_stop P _
-    bind_step (Sequence es) v j here = cost_stop P _
-    bind_step (If t a b) v j here = cost_stop P _
-    bind_step (Escape p b c) v j here = cost_stop P _
-    bind_step (Try b p h) v j here = cost_stop P _
-    bind_step (Finally a b) v j here = cost_stop P _
-    bind_step (Hide e) v j here = cost_stop P _
-    bind_step (MatchBind e p) v j here = cost_stop P _
-    bind_step (Object p auditors members) v j here = cost_stop P _
-    bind_step (Method verb ps b) v j here = cost_stop P _
-    bind_step (Matcher p b) v j here = cost_stop P _
+    bind_step other v j here = cost_stop P _
 
     -- ---- depth
 

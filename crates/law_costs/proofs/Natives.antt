@@ -21,9 +21,7 @@ pub data Light (N : Type 0) : Type 0 where
 
 abbrev pub verb_of : {N : Type 0} → Light N → Words
 verb_of (Audits x) = codes "audit"
-verb_of Starts = codes "run"
-verb_of (Places z c) = codes "run"
-verb_of (Pairs a b) = codes "run"
+verb_of other = codes "run"
 
 abbrev pub args_of : {N : Type 0} → Light N → List (Value N)
 args_of (Audits x) = x ∷ []
@@ -34,9 +32,8 @@ args_of (Pairs a b) = a ∷ b ∷ []
 -- what such a call may cost where it gives: an auditor earns, since only an object's code answers; else at most an empty list is made
 abbrev pub level : {N : Type 0} → Light N → ℕ
 level (Audits x) = 2
-level Starts = 11
 level (Places z c) = 10
-level (Pairs a b) = 11
+level other = 11
 
 -- what is asked of a primitive by such a call calls nothing
 abbrev pub IsLightAsk : {N : Type 0} → ℕ → Asked N → Type 0
@@ -47,77 +44,32 @@ IsLightAsk n NoMethod = Unit {0}
 IsLightAsk n _ = ⊥
 
 abbrev pub IsLightReply : {N : Type 0} → ℕ → Reply N → Type 0
-IsLightReply n (Says v) = 10 ≤ n
-IsLightReply n (Writes t) = 10 ≤ n
 IsLightReply n (Lists vs) = 11 ≤ n
 IsLightReply n (Iterates o vs) = ⊥
 IsLightReply n (Fails p) = Unit {0}
+IsLightReply n other = 10 ≤ n
 
 module _ {N : Type 0} where
   guard_light : (g : Guard) (l : Light N) → IsLightAsk (level l) (native.guard_ask g (verb_of l) (args_of l))
   unfolding native.guard_ask entry same_words
   guard_light NullGuard (Audits x) = tt
-  guard_light AnyGuard (Audits x) = tt
-  guard_light VoidGuard (Audits x) = tt
-  guard_light IntGuard (Audits x) = tt
-  guard_light BooleanGuard (Audits x) = tt
-  guard_light CharGuard (Audits x) = tt
-  guard_light TextGuard (Audits x) = tt
-  guard_light ListGuard (Audits x) = tt
-  guard_light NearGuard (Audits x) = tt
-  guard_light FrozenGuard (Audits x) = tt
-  guard_light (OrNull g) (Audits x) = tt
   guard_light NullGuard Starts = tt
-  guard_light AnyGuard Starts = tt
-  guard_light VoidGuard Starts = tt
-  guard_light IntGuard Starts = tt
-  guard_light BooleanGuard Starts = tt
-  guard_light CharGuard Starts = tt
-  guard_light TextGuard Starts = tt
-  guard_light ListGuard Starts = tt
-  guard_light NearGuard Starts = tt
-  guard_light FrozenGuard Starts = tt
-  guard_light (OrNull g) Starts = tt
-  guard_light g (Places z c) = tt
-  guard_light g (Pairs a b) = tt
+  guard_light other (Audits x) = tt
+  guard_light other Starts = tt
+  guard_light g other = tt
 
   pub light_asked : (p : Primitive) (l : Light N) → IsLightAsk (level l) (native.asked p (verb_of l) (args_of l))
   unfolding native.asked native.list_ask native.equalizer_ask native.comparer_ask native.run_ask native.send_ask native.ref_ask native.stamp_ask entry same_words
-  light_asked MakeList (Audits x) = tt
   light_asked MakeList Starts = omega arith
-  light_asked MakeList (Places z c) = tt
-  light_asked MakeList (Pairs a b) = tt
-  light_asked Equalizer (Audits x) = tt
-  light_asked Equalizer Starts = tt
-  light_asked Equalizer (Places z c) = tt
-  light_asked Equalizer (Pairs a b) = tt
-  light_asked Comparer (Audits x) = tt
-  light_asked Comparer Starts = tt
-  light_asked Comparer (Places z c) = tt
-  light_asked Comparer (Pairs a b) = tt
-  light_asked Looper (Audits x) = tt
-  light_asked Looper Starts = tt
-  light_asked Looper (Places z c) = tt
-  light_asked Looper (Pairs a b) = tt
-  light_asked Sender (Audits x) = tt
-  light_asked Sender Starts = tt
-  light_asked Sender (Places z c) = tt
-  light_asked Sender (Pairs a b) = tt
-  light_asked References (Audits x) = tt
-  light_asked References Starts = tt
-  light_asked References (Places z c) = tt
-  light_asked References (Pairs a b) = tt
-  light_asked Thrower (Audits x) = tt
-  light_asked Thrower Starts = tt
-  light_asked Thrower (Places z c) = tt
-  light_asked Thrower (Pairs a b) = tt
-  light_asked StampReader (Audits x) = tt
-  light_asked StampReader Starts = tt
   light_asked StampReader (Places z c) = omega arith
   light_asked StampReader (Pairs a b) = omega arith
   light_asked (Guarding g) l = guard_light g l
   light_asked (Judging r) l = tt
   light_asked NoPrimitive l = tt
+  light_asked other (Audits x) = tt
+  light_asked other (Places z c) = tt
+  light_asked other (Pairs a b) = tt
+  light_asked other Starts = tt
 
   at_light : {A : Type 0} (n : ℕ) (f : List A → Reply N) → ((xs : List A) → IsLightReply n (f xs)) → (xs : List A) (o : Option (ℕ × ℕ)) → IsLightReply n (native.ran_at f xs o)
   unfolding native.ran_at
@@ -134,40 +86,23 @@ module _ {N W : Type 0} (K : Naming N W) (s : Vat N) where
   -- what data answers to such a call
   pub light_data : (y : Value N) (l : Light N) → IsLightReply (level l) (native.data_reply s.lists y (verb_of l) (args_of l) (map (follow K s) (args_of l)))
   unfolding native.data_reply native.int_reply native.int_with native.int_binary native.int_alone native.int_unary native.flag_reply native.flag_with native.flag_binary native.letter_reply native.text_reply native.text_with native.text_verb native.list_reply native.list_with native.list_verb native.ran native.no_method follow follow_at severed entry same_words
-  light_data (Number z) (Audits x) = tt
-  light_data (Number z) Starts = tt
-  light_data (Number z) (Places i c) = tt
-  light_data (Number z) (Pairs a b) = tt
-  light_data (Flag f) (Audits x) = tt
-  light_data (Flag f) Starts = tt
-  light_data (Flag f) (Places i c) = tt
-  light_data (Flag f) (Pairs a b) = tt
-  light_data (Letter d) (Audits x) = tt
-  light_data (Letter d) Starts = tt
-  light_data (Letter d) (Places i c) = tt
-  light_data (Letter d) (Pairs a b) = tt
-  light_data (Text t) (Audits x) = tt
-  light_data (Text t) Starts = tt
-  light_data (Text t) (Places i c) = tt
   light_data (Text t) (Pairs a b) = ran_light 11 (λ cs. Writes (native.encoded cs)) (λ xs. omega arith) (chars t) (follow K s a) (follow K s b)
-  light_data (Items k) (Audits x) = tt
-  light_data (Items k) Starts = tt
-  light_data (Items k) (Places i c) = tt
   light_data (Items k) (Pairs a b) = ran_light 11 Lists (λ xs. omega arith) (list_at s.lists k) (follow K s a) (follow K s b)
   light_data Null l = tt
   light_data (Prim n) l = tt
   light_data (Broken p) l = tt
   light_data (Ref n) l = tt
+  light_data other (Audits x) = tt
+  light_data other Starts = tt
+  light_data other (Places i c) = tt
+  light_data other (Pairs a b) = tt
 
 -- ---- replies
 
 -- it goes over no more than so many members, or over characters
 abbrev pub IsShortReply : {N : Type 0} → ℕ → Reply N → Type 0
-IsShortReply n (Says v) = Unit {0}
-IsShortReply n (Writes t) = Unit {0}
-IsShortReply n (Lists vs) = Unit {0}
 IsShortReply n (Iterates o vs) = (length vs ≤ n) ⊎ ((cs : List ℕ) × (vs ≡ map Letter cs))
-IsShortReply n (Fails p) = Unit {0}
+IsShortReply n other = Unit {0}
 
 either_short : {A : Type 0} (Q : A → Type 0) (b : Bool) (x y : A) → Q x → Q y → Q (elim b [ true ↦ x | false ↦ y ])
 either_short Q true x y h k = h
@@ -194,16 +129,13 @@ module _ (N : Type 0) (n : ℕ) where
   unfolding native.int_alone native.no_method
   alone_short Negates z = by_int_short _
   alone_short AsChar z = char_short z
-  alone_short (Applies op) z = tt
-  alone_short NoIntVerb z = tt
+  alone_short other z = tt
 
   with_short : (v : IntVerb) (a : ℤ) (x : Value N) → IsShortReply n (native.int_with v a x)
   unfolding native.int_with native.no_method
   with_short (Applies op) a (Number b) = by_int_short _
   with_short (Applies op) a _ = tt
-  with_short Negates a x = tt
-  with_short AsChar a x = tt
-  with_short NoIntVerb a x = tt
+  with_short other a x = tt
 
   int_short : (a : ℤ) (verb : Words) (args : List (Value N)) → IsShortReply n (native.int_reply a verb args)
   unfolding native.int_reply native.no_method
@@ -215,11 +147,9 @@ module _ (N : Type 0) (n : ℕ) where
   unfolding native.flag_with native.no_method
   flagged_short NoFlagVerb a x = tt
   flagged_short Both a (Flag b) = tt
-  flagged_short Both a _ = tt
   flagged_short Either a (Flag b) = tt
-  flagged_short Either a _ = tt
   flagged_short Unlike a (Flag b) = tt
-  flagged_short Unlike a _ = tt
+  flagged_short other a _ = tt
 
   flag_short : (a : Bool) (verb : Words) (args : List (Value N)) → IsShortReply n (native.flag_reply a verb args)
   unfolding native.flag_reply native.no_method entry
@@ -271,8 +201,7 @@ module _ (N : Type 0) (n : ℕ) where
   text_with_short Gets t held x = got_short Letter (chars t) x
   text_with_short Adds t held x = and_short t x
   text_with_short Steps t held x = inr (chars t, refl)
-  text_with_short AddsOne t held x = tt
-  text_with_short NoSeqVerb t held x = tt
+  text_with_short other t held x = tt
 
   text_short : (t verb : Words) (held args : List (Value N)) → IsShortReply n (native.text_reply t verb held args)
   unfolding native.text_reply native.no_method entry
@@ -281,10 +210,8 @@ module _ (N : Type 0) (n : ℕ) where
   text_short t verb (h ∷ []) [] = tt
   text_short t verb (h ∷ []) (i ∷ j ∷ []) = either_short (IsShortReply n) (same_words (codes "run") verb) _ _ (ran_short _ (λ xs. tt) (chars t) i j) tt
   text_short t verb (h ∷ []) (i ∷ j ∷ k ∷ ks) = tt
-  text_short t verb (h ∷ g ∷ gs) [] = tt
-  text_short t verb (h ∷ g ∷ gs) (x ∷ []) = tt
   text_short t verb (h ∷ g ∷ gs) (i ∷ j ∷ []) = either_short (IsShortReply n) (same_words (codes "run") verb) _ _ (ran_short _ (λ xs. tt) (chars t) i j) tt
-  text_short t verb (h ∷ g ∷ gs) (i ∷ j ∷ k ∷ ks) = tt
+  text_short t verb (h ∷ g ∷ gs) other = tt
 
   list_and_short : (ls : List (List (Value N))) (vs : List (Value N)) (x : Value N) → IsShortReply n (native.list_and ls vs x)
   unfolding native.list_and
@@ -295,9 +222,8 @@ module _ (N : Type 0) (n : ℕ) where
   unfolding native.list_with native.no_method
   list_with_short ls Gets vs held x l = got_short (λ v. v) vs x
   list_with_short ls Adds vs held x l = list_and_short ls vs x
-  list_with_short ls AddsOne vs held x l = tt
   list_with_short ls Steps vs held x l = inl l
-  list_with_short ls NoSeqVerb vs held x l = tt
+  list_with_short ls other vs held x l = tt
 
   list_short : (ls : List (List (Value N))) (vs : List (Value N)) (verb : Words) (held args : List (Value N)) → length vs ≤ n → IsShortReply n (native.list_reply ls vs verb held args)
   unfolding native.list_reply native.no_method entry
@@ -306,10 +232,8 @@ module _ (N : Type 0) (n : ℕ) where
   list_short ls vs verb (h ∷ []) [] l = tt
   list_short ls vs verb (h ∷ []) (i ∷ j ∷ []) l = either_short (IsShortReply n) (same_words (codes "run") verb) _ _ (ran_short _ (λ xs. tt) vs i j) tt
   list_short ls vs verb (h ∷ []) (i ∷ j ∷ k ∷ ks) l = tt
-  list_short ls vs verb (h ∷ g ∷ gs) [] l = tt
-  list_short ls vs verb (h ∷ g ∷ gs) (x ∷ []) l = tt
   list_short ls vs verb (h ∷ g ∷ gs) (i ∷ j ∷ []) l = either_short (IsShortReply n) (same_words (codes "run") verb) _ _ (ran_short _ (λ xs. tt) vs i j) tt
-  list_short ls vs verb (h ∷ g ∷ gs) (i ∷ j ∷ k ∷ ks) l = tt
+  list_short ls vs verb (h ∷ g ∷ gs) other l = tt
 
   pub data_short : (ls : List (List (Value N))) → AllByRecursion (λ (vs : List (Value N)). length vs ≤ n) ls → (y : Value N) (verb : Words) (held args : List (Value N)) → IsShortReply n (native.data_reply ls y verb held args)
   unfolding native.data_reply native.no_method
@@ -318,10 +242,7 @@ module _ (N : Type 0) (n : ℕ) where
   data_short ls h (Letter c) verb held args = letter_short c verb args
   data_short ls h (Text t) verb held args = text_short t verb held args
   data_short ls h (Items k) verb held args = list_short ls (list_at ls k) verb held args (at_short n k ls h)
-  data_short ls h Null verb held args = tt
-  data_short ls h (Prim m) verb held args = tt
-  data_short ls h (Broken p) verb held args = tt
-  data_short ls h (Ref m) verb held args = tt
+  data_short ls h other verb held args = tt
 
   pub range_short : (last : Bool) (a b : Value N) → IsShortReply n (native.range_reply last a b)
   unfolding native.range_reply native.range_of

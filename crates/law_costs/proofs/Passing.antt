@@ -27,14 +27,7 @@ took n room left e = by (nat_le n room) refl e
 weighs : {N : Type 0} (y : Value N) → 1 ≤ own_weight y
 unfolding own_weight
 weighs (Text t) = omega arith
-weighs (Broken p) = omega arith
-weighs Null = omega arith
-weighs (Flag b) = omega arith
-weighs (Number z) = omega arith
-weighs (Letter c) = omega arith
-weighs (Prim n) = omega arith
-weighs (Items k) = omega arith
-weighs (Ref n) = omega arith
+weighs other = omega arith
 
 module _ {N W : Type 0} (K : Naming N W) (s : Vat N) where
   -- of a value that is no list

@@ -124,9 +124,7 @@ module _ (P : Prices) {N W : Type 0} (K : Naming N W) (tree : List Node) where
   coerce_near : (again : Caller N) → GoodCaller P again → (act : ℕ) (g j x : Value N) (p : Place N) → Costs P P.call P.call (perform.coerce_near K tree again act g j x p)
   unfolding perform.coerce_near
   coerce_near again good act g j x Near = free_bind P (free_handed j) (λ k. good.any act g _ _)
-  coerce_near again good act g j x (Mine n) = at_most (omega arith) (omega arith) (cost_throw P _)
-  coerce_near again good act g j x (Away h n o) = at_most (omega arith) (omega arith) (cost_throw P _)
-  coerce_near again good act g j x (Gone t) = at_most (omega arith) (omega arith) (cost_throw P _)
+  coerce_near again good act g j x other = at_most (omega arith) (omega arith) (cost_throw P _)
 
   coerce_native : (again : Caller N) → GoodCaller P again → (act : ℕ) (o : Option Guard) (j x : Value N) → Costs P P.call P.call (perform.coerce_native K tree again act o j x)
   unfolding perform.coerce_native
@@ -137,13 +135,7 @@ module _ (P : Prices) {N W : Type 0} (K : Naming N W) (tree : List Node) where
   unfolding perform.coerce
   cost_coerce again good act (Prim n) j x = coerce_native again good act _ j x
   cost_coerce again good act (Ref n) j x = free_bind P (cost_look P _) (λ p. coerce_near again good act (Ref n) j x p)
-  cost_coerce again good act Null j x = at_most (omega arith) (omega arith) (cost_throw P _)
-  cost_coerce again good act (Flag b) j x = at_most (omega arith) (omega arith) (cost_throw P _)
-  cost_coerce again good act (Number z) j x = at_most (omega arith) (omega arith) (cost_throw P _)
-  cost_coerce again good act (Letter c) j x = at_most (omega arith) (omega arith) (cost_throw P _)
-  cost_coerce again good act (Text t) j x = at_most (omega arith) (omega arith) (cost_throw P _)
-  cost_coerce again good act (Broken t) j x = at_most (omega arith) (omega arith) (cost_throw P _)
-  cost_coerce again good act (Items k) j x = at_most (omega arith) (omega arith) (cost_throw P _)
+  cost_coerce again good act other j x = at_most (omega arith) (omega arith) (cost_throw P _)
 
   -- ---- E, Ref and the loop
 
@@ -196,19 +188,12 @@ module _ (P : Prices) {N W : Type 0} (K : Naming N W) (tree : List Node) where
   unfolding perform.fulfilled
   fulfilled_short x Near = tt
   fulfilled_short x (Away h n true) = tt
-  fulfilled_short x (Away h n false) = tt
-  fulfilled_short x (Gone p) = tt
-  fulfilled_short x (Mine n) = tt
+  fulfilled_short x other = tt
 
   test_short : (t : RefTest) (x : Value N) (p : Place N) → IsShortReply P.fuel (perform.test_reply K tree t x p)
   unfolding perform.test_reply
-  test_short IsNear x p = tt
-  test_short IsFar x p = tt
-  test_short IsResolved x p = tt
-  test_short IsBroken x p = tt
-  test_short OptProblem x p = tt
   test_short Fulfillment x p = fulfilled_short x p
-  test_short NoTest x p = tt
+  test_short other x p = tt
 
   same_short : (s : Vat N) (x y : Value N) → IsShortReply P.fuel (perform.same_reply K tree s x y)
   unfolding perform.same_reply
@@ -221,9 +206,7 @@ module _ (P : Prices) {N W : Type 0} (K : Naming N W) (tree : List Node) where
   react_near : (act : ℕ) (x o y : Value N) (p : Place N) → Costs P 11 10 (perform.react_near K tree act x o y p)
   unfolding perform.react_near
   react_near act x o y Near = cost_up P (omega arith) (omega arith) (cost_react P K act x o y)
-  react_near act x o y (Mine n) = bad _
-  react_near act x o y (Away h n k) = bad _
-  react_near act x o y (Gone t) = bad _
+  react_near act x o y other = bad _
 
   when_resolved : (act : ℕ) (x o : Value N) → Costs P 11 10 (perform.when_resolved K tree act x o)
   unfolding perform.when_resolved

@@ -51,9 +51,8 @@ module _ (P : Prices) where
     -- It gives something of that measure from a state with that worth and fuel, at one a piece, or stops.
     abbrev Gets : {A : Type 0} → (A → ℕ) → ℕ → ℕ → ℕ → Done N A → Type 0
     Gets measure w f n (Gives a t) = Short P t × (worth P t ≤ w + n) × (t.fuel ≡ f) × (measure a ≡ n)
-    Gets measure w f n (Throws p t) = ⊥
-    Gets measure w f n (Ejects i v t) = ⊥
     Gets measure w f n (Stops c t) = Unit {0}
+    Gets measure w f n other = ⊥
 
     given_away : (w : ℕ) (s : Vat N) (h : ℕ) (n : N) → Short P s → (o : Option ℕ) → Gets (load {N = N}) (worth P s) s.fuel 1 (and_then (draws w o s) (λ i. send_out h (Open i n) >> give (AGift h i)))
     unfolding draws and_then ◌>>◌ send_out give made
@@ -74,36 +73,31 @@ module _ (P : Prices) where
     unfolding refs.address_plain ◌>>◌ and_then alter give made
     address_plain w y (Away h n o) s short = address_away w h y n (h == w) s short
     address_plain w y (Mine n) s short = (record { fuel = short.fuel; lists = short.lists; outbox = short.outbox }, omega arith, refl, refl)
-    address_plain w y Near s short = (short, omega arith, refl, refl)
-    address_plain w y (Gone p) s short = (short, omega arith, refl, refl)
+    address_plain w y other s short = (short, omega arith, refl, refl)
 
     many_of : (w f n : ℕ) (d : Done N (Passeds N)) → Gets (loads {N = N}) w f n d → Gets (load {N = N}) w f (suc n) (and_then d (λ zs. give (Many zs)))
     unfolding and_then give
     many_of w f n (Gives zs t) h = (h.0, omega (arith, h.1), h.2, omega (arith, h.3))
-    many_of w f n (Throws p t) h = h
-    many_of w f n (Ejects i v t) h = h
     many_of w f n (Stops c t) h = tt
+    many_of w f n other h = h
 
     more_of : (w f m n : ℕ) (z : Passed N) → load z ≡ m → (d : Done N (Passeds N)) → Gets (loads {N = N}) (w + m) f n d → Gets (loads {N = N}) w f (m + n) (and_then d (λ zs. give (More z zs)))
     unfolding and_then give
     more_of w f m n z e (Gives zs t) h = (h.0, omega (arith, h.1), h.2, omega (arith, e, h.3))
-    more_of w f m n z e (Throws p t) h = h
-    more_of w f m n z e (Ejects i v t) h = h
     more_of w f m n z e (Stops c t) h = tt
+    more_of w f m n z e other h = h
 
     raised : {A : Type 0} (measure : A → ℕ) (v w f g n : ℕ) (d : Done N A) → v ≤ w → f ≡ g → Gets measure v f n d → Gets measure w g n d
     raised measure v w f g n (Gives a t) l e h = (h.0, omega (arith, l, h.1), omega (arith, e, h.2), h.3)
-    raised measure v w f g n (Throws p t) l e h = h
-    raised measure v w f g n (Ejects i y t) l e h = h
     raised measure v w f g n (Stops c t) l e h = tt
+    raised measure v w f g n other l e h = h
 
     then_rest : (w : ℕ) (ys : Passeds N) (s : Vat N) (m : ℕ) (d : Done N (Passed N)) → Gets (load {N = N}) (worth P s) s.fuel m d → ((t : Vat N) → Short P t → Gets (loads {N = N}) (worth P t) t.fuel (loads ys) (refs.address_all K w ys t))
         → Gets (loads {N = N}) (worth P s) s.fuel (m + loads ys) (and_then d (λ z. refs.address_all K w ys >>= λ zs. give (More z zs)))
     unfolding ◌>>=◌ and_then
     then_rest w ys s m (Gives z t) h all = more_of (worth P s) s.fuel m (loads ys) z h.3 (refs.address_all K w ys t) (raised (loads {N = N}) (worth P t) (worth P s + m) t.fuel s.fuel (loads ys) (refs.address_all K w ys t) (omega (arith, h.1)) h.2 (all t h.0))
-    then_rest w ys s m (Throws p t) h all = h
-    then_rest w ys s m (Ejects i v t) h all = h
     then_rest w ys s m (Stops c t) h all = tt
+    then_rest w ys s m other h all = h
 
     mutual
       unfolding refs.address refs.address_all ◌>>=◌ and_then look give
@@ -120,15 +114,13 @@ module _ (P : Prices) where
     -- It costs nothing, and its measure and the fuel that is left are no more than the fuel that there was.
     abbrev Passes : {A : Type 0} → (A → ℕ) → ℕ → ℕ → Done N A → Type 0
     Passes measure w f (Gives a t) = Short P t × (worth P t ≤ w) × (measure a + t.fuel ≤ f)
-    Passes measure w f (Throws p t) = ⊥
-    Passes measure w f (Ejects i v t) = ⊥
     Passes measure w f (Stops c t) = Unit {0}
+    Passes measure w f other = ⊥
 
     gets_passes : (v w f g n : ℕ) (d : Done N (Passed N)) → v + n ≤ w → n + f ≤ g → Gets (load {N = N}) v f n d → Passes (load {N = N}) w g d
     gets_passes v w f g n (Gives a t) l k h = (h.0, omega (arith, l, h.1), omega (arith, k, h.2, h.3))
-    gets_passes v w f g n (Throws p t) l k h = h
-    gets_passes v w f g n (Ejects i y t) l k h = h
     gets_passes v w f g n (Stops c t) l k h = tt
+    gets_passes v w f g n other l k h = h
 
     priced : 1 ≤ P.unit
     priced = let l = P.units in omega (arith, l)
@@ -146,23 +138,20 @@ module _ (P : Prices) where
     more_passes : (w f : ℕ) (g : ℕ) (z : Passed N) (d : Done N (Passeds N)) → load z + g ≤ f → Passes (loads {N = N}) w g d → Passes (loads {N = N}) w f (and_then d (λ zs. give (More z zs)))
     unfolding and_then give
     more_passes w f g z (Gives zs t) l h = (h.0, h.1, omega (arith, l, h.2))
-    more_passes w f g z (Throws p t) l h = h
-    more_passes w f g z (Ejects i y t) l h = h
     more_passes w f g z (Stops c t) l h = tt
+    more_passes w f g z other l h = h
 
     lower : {A : Type 0} (measure : A → ℕ) (v w f : ℕ) (d : Done N A) → v ≤ w → Passes measure v f d → Passes measure w f d
     lower measure v w f (Gives a t) l h = (h.0, omega (arith, l, h.1), h.2)
-    lower measure v w f (Throws p t) l h = h
-    lower measure v w f (Ejects i y t) l h = h
     lower measure v w f (Stops c t) l h = tt
+    lower measure v w f other l h = h
 
     rest_pass : (w : ℕ) (xs : List (Value N)) (s : Vat N) (d : Done N (Passed N)) → Passes (load {N = N}) (worth P s) s.fuel d → ((t : Vat N) → Short P t → Passes (loads {N = N}) (worth P t) t.fuel (refs.pass_all K w xs t))
         → Passes (loads {N = N}) (worth P s) s.fuel (and_then d (λ y. refs.pass_all K w xs >>= λ ys. give (More y ys)))
     unfolding ◌>>=◌ and_then
     rest_pass w xs s (Gives y t) h all = more_passes (worth P s) s.fuel t.fuel y (refs.pass_all K w xs t) h.2 (lower (loads {N = N}) (worth P t) (worth P s) t.fuel (refs.pass_all K w xs t) h.1 (all t h.0))
-    rest_pass w xs s (Throws p t) h all = h
-    rest_pass w xs s (Ejects i v t) h all = h
     rest_pass w xs s (Stops c t) h all = tt
+    rest_pass w xs s other h all = h
 
     all_pass : (w : ℕ) (xs : List (Value N)) (s : Vat N) → Short P s → Passes (loads {N = N}) (worth P s) s.fuel (refs.pass_all K w xs s)
     unfolding refs.pass_all ◌>>=◌ give
@@ -172,9 +161,8 @@ module _ (P : Prices) where
     put_ends : {A : Type 0} (measure : A → ℕ) (f : A → Act N (Unit {0})) → ((a : A) → measure a ≤ P.fuel → Costs P 10 0 (f a)) → (w g : ℕ) → g ≤ P.fuel → (d : Done N A) → Passes measure w g d → Ends P w 10 0 (and_then d f)
     unfolding and_then
     put_ends measure f k w g l (Gives a t) h = carry P (worth P t) w 10 0 10 0 (f a t) (omega (arith, h.1)) (omega (arith, h.1)) ((k a (omega (arith, h.2, l))).after t h.0)
-    put_ends measure f k w g l (Throws p t) h = absurd h
-    put_ends measure f k w g l (Ejects i v t) h = absurd h
     put_ends measure f k w g l (Stops c t) h = tt
+    put_ends measure f k w g l other h = absurd h
 
     -- what is put behind what passed
     then_put : {A : Type 0} (measure : A → ℕ) (m : Act N A) (f : A → Act N (Unit {0})) → ((s : Vat N) → Short P s → Passes measure (worth P s) s.fuel (m s)) → ((a : A) → measure a ≤ P.fuel → Costs P 10 0 (f a)) → Costs P 10 0 (m >>= f)
@@ -191,10 +179,7 @@ module _ (P : Prices) where
     free_inform_of : (p : N) (w : ℕ) (y : Value N) (q : Place N) → Costs P 10 0 (refs.inform_of K p w y q)
     unfolding refs.inform_of
     free_inform_of p w y (Away h n true) = cost_out P w (Elsewhere p h) (omega arith)
-    free_inform_of p w y (Away h n false) = settled_out p w y
-    free_inform_of p w y Near = settled_out p w y
-    free_inform_of p w y (Mine n) = settled_out p w y
-    free_inform_of p w y (Gone t) = settled_out p w y
+    free_inform_of p w y other = settled_out p w y
 
     -- ---- settling
 
@@ -260,9 +245,7 @@ module _ (P : Prices) where
     unfolding refs.resolve_to
     free_resolve_to p y (Mine q) = free_wait_unless_cycle p q
     free_resolve_to p y (Away h q false) = free_wait_unless_cycle p q
-    free_resolve_to p y (Away h q true) = free_settle p y
-    free_resolve_to p y Near = free_settle p y
-    free_resolve_to p y (Gone t) = free_settle p y
+    free_resolve_to p y other = free_settle p y
 
     pub free_resolve : (p : N) (x : Value N) → Costs P 10 0 (refs.resolve K p x)
     unfolding refs.resolve
@@ -291,9 +274,7 @@ module _ (P : Prices) where
     unfolding refs.react_at
     free_react_at m (Mine n) = cost_alter _ n
     free_react_at m (Away h n false) = cost_alter _ n
-    free_react_at m (Away h n true) = cost_enqueue P m
-    free_react_at m Near = cost_enqueue P m
-    free_react_at m (Gone t) = cost_enqueue P m
+    free_react_at m other = cost_enqueue P m
 
     pub cost_react : (act : ℕ) (x o near : Value N) → Costs P 11 10 (refs.react K act x o near)
     unfolding refs.react

@@ -60,9 +60,8 @@ mutual
   unfolding world.read_passed world.read_all world.plain_read world.many_read world.more_read
 
   read_load : (y : Passed Name) (ks : List Name) → load (world.read_passed y ks).read ≡ load y
-  read_load (Plain y) ks = refl
-  read_load (AGift h i) ks = refl
   read_load (Many ys) ks = ap suc (read_loads ys ks)
+  read_load other ks = refl
 
   read_loads : (ys : Passeds Name) (ks : List Name) → loads (world.read_all ys ks).read ≡ loads ys
   read_loads NoMore ks = refl
@@ -71,11 +70,8 @@ mutual
 note_read : (ks : List Name) (n : Note Name) → note_load (world.read_note ks n) ≡ note_load n
 unfolding world.read_note
 note_read ks (Deliver d n verb ys) = read_loads ys ks
-note_read ks (Open i n) = refl
-note_read ks (Ask p i n) = refl
 note_read ks (SettledTo n y) = read_load y (world.known_after ks n)
-note_read ks (Elsewhere n c) = refl
-note_read ks (Shorten n c i) = refl
+note_read ks other = refl
 
 -- what no node of a tree exceeds
 abbrev pub IsSmall : Prices → List Node → Type 0
@@ -143,8 +139,7 @@ module _ (P : Prices) where
     cost = omega (arith, e1, l, l1, few);
   }
   put_paid k v w head n s at h c few (Throws p t) e = paid_up k (k + P.call) w (omega arith) h
-  put_paid k v w head n s at h c few (Ejects i y t) e = paid_up k (k + P.call) w (omega arith) h
-  put_paid k v w head n s at h c few (Stops x t) e = paid_up k (k + P.call) w (omega arith) h
+  put_paid k v w head n s at h c few other e = paid_up k (k + P.call) w (omega arith) h
 
   within_paid : (k v : ℕ) (w : World) (head : List Event) (n : ℕ) (m : Act Name (Unit {0})) (s : Vat Name) (ms : List (Message Name)) → slice_get w.vats v ≡ Some s → Paid k w → (c : ℕ) → c ≤ P.call + 10 → Costs P c c m
       → RunPaid (k + P.call) (world.within v w head n m (Some (record s { queue = ms })))

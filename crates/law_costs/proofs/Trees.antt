@@ -22,8 +22,6 @@ caught None = []
 caught (Some c) = c.0 ∷ c.1 ∷ []
 
 abbrev parts : Node → List ℕ
-parts (Lit l) = []
-parts (Noun x) = []
 parts (Set x e) = e ∷ []
 parts (Def p exit e) = p ∷ (maybe exit ++ e ∷ [])
 parts (Call r verb args) = r ∷ args
@@ -42,6 +40,7 @@ parts (Var x g) = maybe g
 parts (Any g) = maybe g
 parts (ListPattern ps) = ps
 parts (Via e p) = e ∷ p ∷ []
+parts other = []
 
 abbrev total : (ℕ → ℕ) → List ℕ → ℕ
 total f [] = zero
@@ -233,7 +232,6 @@ module _ (rec : ℕ → List free.BoundNoun) where
 
   nouns_node : (x : Node) → length (free.of_node rec x) ≤ 2 + total nouns (parts x)
   unfolding free.of_node
-  nouns_node (Set x e) = omega arith
   nouns_node (Def p j e) = let a = length-append (rec p ++ free.of_option rec j) (rec e) in let b = length-append (rec p) (free.of_option rec j) in let k = nouns_option j in let t = total_append nouns (maybe j) (e ∷ []) in omega (arith, a, b, k, t)
   nouns_node (Call r v es) = let a = length-append (rec r) (free.of_all rec es) in let b = nouns_all es in omega (arith, a, b)
   nouns_node (Sequence es) = let b = nouns_all es in omega (arith, b)
@@ -244,15 +242,7 @@ module _ (rec : ℕ → List free.BoundNoun) where
   nouns_node (Any g) = let a = nouns_option g in omega (arith, a)
   nouns_node (ListPattern ps) = let b = nouns_all ps in omega (arith, b)
   nouns_node (Via e p) = let a = length-append (rec e) (rec p) in omega (arith, a)
-  nouns_node (Lit l) = omega arith
-  nouns_node (Noun x) = omega arith
-  nouns_node (If t a b) = omega arith
-  nouns_node (Escape p b c) = omega arith
-  nouns_node (Try b p h) = omega arith
-  nouns_node (Finally a b) = omega arith
-  nouns_node (Hide e) = omega arith
-  nouns_node (Method v ps b) = omega arith
-  nouns_node (Matcher p b) = omega arith
+  nouns_node other = omega arith
 
 -- ---- the whole
 

@@ -118,10 +118,7 @@ module _ (w : World) (tree : List Node) (s : Room) (front : IsFront w s.heap) (s
   unsettled_at : (p : Place) → perform.is_unsettled (names w) tree (place_by (texts_of w) p) ≡ is_unsettled p
   unfolding perform.is_unsettled
   unsettled_at Near = refl
-  unsettled_at (Mine n) = refl
-  unsettled_at (FarPromise h n) = refl
-  unsettled_at (FarObject h p) = refl
-  unsettled_at (Gone t) = refl
+  unsettled_at other = refl
 
   -- what is no list
   placed : (x : Held) → perform.is_unsettled (names w) tree (place (names w) (vat w s) (value_of w x)) ≡ is_unsettled (place_of s.refs x)

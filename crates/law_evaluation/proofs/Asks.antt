@@ -29,11 +29,9 @@ where_is t xs name a verb = verbs.by_table (asked_with t xs) ((name, a) ∷ []) 
 
 equalizer_asked : (t : ℕ → Words) (verb : Words) (xs : List Held) → native.equalizer_ask verb (values_by t xs) ≡ asked_with t xs (asked_of 1 verb xs)
 unfolding native.equalizer_ask args_of primitive_at numbered asks_none asks_one asks_two asks_three asks_more asked_by
-equalizer_asked t verb [] = refl
-equalizer_asked t verb (a ∷ []) = refl
 equalizer_asked t verb (a ∷ b ∷ []) = where_is t (a ∷ b ∷ []) (codes "sameEver") (ask.Same a b) verb
 equalizer_asked t verb (a ∷ b ∷ c ∷ []) = refl
-equalizer_asked t verb (a ∷ b ∷ c ∷ d ∷ xs) = refl
+equalizer_asked t verb other = refl
 
 module _ (t : ℕ → Words) (verb : Words) where
   -- ---- sends, and what is asked of references
@@ -56,11 +54,8 @@ module _ (t : ℕ → Words) (verb : Words) where
 
   sender_asked : (xs : List Held) → native.send_ask verb (values_by t xs) ≡ asked_with t xs (asked_by Sender verb (args_of xs))
   unfolding native.send_ask entry args_of asks_none asks_one asks_two asks_three asks_more asked_by
-  sender_asked [] = refl
-  sender_asked (a ∷ []) = refl
-  sender_asked (a ∷ b ∷ []) = refl
   sender_asked (a ∷ b ∷ c ∷ []) = three_is a b c (same_words (codes "send") verb) (same_words (codes "sendOnly") verb) (same_words (codes "call") verb)
-  sender_asked (a ∷ b ∷ c ∷ d ∷ xs) = refl
+  sender_asked other = refl
 
   told_is : (a : Held) (b : Bool) (o : Option RefTest) → bytes_eq verb (codes "broken") ≡ b → ref_test_named verb ≡ o
       → native.ref_ask verb (value_by t a ∷ []) ≡ asked_with t (a ∷ []) (if b then ask.Breaks a else tells o a)
@@ -97,11 +92,9 @@ module _ (t : ℕ → Words) (verb : Words) where
 
   stamps_asked : (xs : List Held) → native.stamp_ask verb (values_by t xs) ≡ asked_with t xs (asked_by StampReader verb (args_of xs))
   unfolding native.stamp_ask args_of asks_none asks_one asks_two asks_three asks_more asked_by
-  stamps_asked [] = refl
-  stamps_asked (a ∷ []) = refl
   stamps_asked (a ∷ b ∷ []) = where_is t (a ∷ b ∷ []) (codes "run") (ask.IsStamped a b) verb
   stamps_asked (a ∷ b ∷ c ∷ []) = refl
-  stamps_asked (a ∷ b ∷ c ∷ d ∷ xs) = refl
+  stamps_asked other = refl
 
   judging_asked : (r : Rule) (xs : List Held) → asked_by (Judging r) verb (args_of xs) ≡ ask.NoMethod
   unfolding args_of asks_none asks_one asks_two asks_three asks_more asked_by
@@ -126,23 +119,14 @@ module _ (t : ℕ → Words) (verb : Words) where
   unfolding native.guard_ask
   kind_asked k true a = refl
   kind_asked kind.Null false a = where_is t (a ∷ []) (codes "get") (ask.AddsNull a) verb
-  kind_asked kind.Any false a = refl
-  kind_asked kind.Void false a = refl
-  kind_asked kind.Int false a = refl
-  kind_asked kind.Boolean false a = refl
-  kind_asked kind.Char false a = refl
-  kind_asked kind.Text false a = refl
-  kind_asked kind.List false a = refl
-  kind_asked kind.Near false a = refl
-  kind_asked kind.Frozen false a = refl
+  kind_asked other false a = refl
 
   guard_asked : (g : Guard) (xs : List Held) → native.guard_ask (guard_in g) verb (values_by t xs) ≡ asked_with t xs (asked_by (Guarding g) verb (args_of xs))
   unfolding native.guard_ask args_of asks_none asks_one asks_two asks_three asks_more asked_by
-  guard_asked g [] = refl
   guard_asked g (a ∷ []) = kind_asked g.kind g.or_null a
   guard_asked g (a ∷ b ∷ []) = where_is t (a ∷ b ∷ []) (codes "coerce") (ask.Coerces g a b) verb
   guard_asked g (a ∷ b ∷ c ∷ []) = refl
-  guard_asked g (a ∷ b ∷ c ∷ d ∷ xs) = refl
+  guard_asked g other = refl
 
   -- ---- each primitive
 

@@ -150,13 +150,7 @@ module _ (w : World) (tree : List Node) (again : Caller) (their : scopes.Caller 
       rw (placed_is w tree their act (seen_of view) (value_of w a) (Prom n) (vat w s), place_is w s (held.Prom n)) (promise_met act view a n s sound)
   verdict_met act view a (held.Far v p) s sound i =
       rw (placed_is w tree their act (seen_of view) (value_of w a) (Far v p) (vat w s), place_is w s (held.Far v p)) (far_met act view a v p s sound)
-  verdict_met act view a held.Null s sound i = unfold calls.verdict in no_auditor_met w s sound
-  verdict_met act view a (held.Bool b) s sound i = unfold calls.verdict in no_auditor_met w s sound
-  verdict_met act view a (held.Int z) s sound i = unfold calls.verdict in no_auditor_met w s sound
-  verdict_met act view a (held.Char c) s sound i = unfold calls.verdict in no_auditor_met w s sound
-  verdict_met act view a (held.Text id) s sound i = unfold calls.verdict in no_auditor_met w s sound
-  verdict_met act view a (held.Broken id) s sound i = unfold calls.verdict in no_auditor_met w s sound
-  verdict_met act view a (held.List k) s sound i = unfold calls.verdict in no_auditor_met w s sound
+  verdict_met act view a other s sound i = unfold calls.verdict in no_auditor_met w s sound
 
 -- ---- all of them, in order
 
@@ -183,25 +177,19 @@ stamps_one : (w : World) (tree : List Node) (b : Bool) (y : Value Local) (vs : L
     → with_stamps vs (machine.and_then d (λ ys. machine.give (calls.with_stamp (names w) tree b y ys))) ≡ with_stamps (stamped b y vs) d
 unfolding with_stamps opened_state
 stamps_one w tree b y vs (machine.Gives xs t) = ap (λ (zs : List (Value Local)). machine.Gives zs t) (stamp_one w tree b y vs xs)
-stamps_one w tree b y vs (Throws p t) = refl
-stamps_one w tree b y vs (Ejects n v t) = refl
-stamps_one w tree b y vs (Stops c t) = refl
+stamps_one w tree b y vs other = refl
 
 stamps_then : (w : World) (tree : List Node) (y : Value Local) (vs : List (Value Local)) (d : Done Local Bool) (rest : machine.Act Local (List (Value Local)))
     → with_stamps vs (machine.and_then d (λ b t. machine.and_then (rest t) (λ ys. machine.give (calls.with_stamp (names w) tree b y ys))))
     ≡ machine.and_then d (λ b t. with_stamps (stamped b y vs) (rest t))
 unfolding with_stamps opened_state
 stamps_then w tree y vs (machine.Gives b t) rest = stamps_one w tree b y vs (rest t)
-stamps_then w tree y vs (Throws p t) rest = refl
-stamps_then w tree y vs (Ejects n v t) rest = refl
-stamps_then w tree y vs (Stops c t) rest = refl
+stamps_then w tree y vs other rest = refl
 
 stamps_none : (d : Done Local (List (Value Local))) → with_stamps [] d ≡ d
 unfolding with_stamps
 stamps_none (machine.Gives xs t) = refl
-stamps_none (Throws p t) = refl
-stamps_none (Ejects n v t) = refl
-stamps_none (Stops c t) = refl
+stamps_none other = refl
 
 stamped_is : (w : World) (b : Bool) (y : Held) (vs : List Held) → values_of w (with_stamp b y vs) ≡ stamped b (value_of w y) (values_of w vs)
 stamped_is w true y vs = map-append (value_of w) vs (y ∷ [])
@@ -274,10 +262,9 @@ module _ (w : World) (tree : List Node) (again : Caller) (their : scopes.Caller 
 
   -- what is asked is of values that stand there
   abbrev AskThere : Contents → AuditionAsk → Type 0
-  AskThere c GetsForm = Unit {0}
   AskThere c (GetsGuard x) = is_there c x ≡ true
   AskThere c (Asks a) = is_there c a ≡ true
-  AskThere c NoAsk = Unit {0}
+  AskThere c other = Unit {0}
 
   dead_met : (s : Room) → IsSound s → Met w a_value s (fail (exit.Thrown dead_audition_id) s) (machine.throw (codes "audition is dead") (vat w s))
   dead_met s sound = throw_met w a_value dead_audition_id s sound (known_there s sound dead_audition_id refl)
@@ -324,9 +311,7 @@ module _ (w : World) (tree : List Node) (again : Caller) (their : scopes.Caller 
   answer_at_met act true view GetsForm s sound i = unfold calls.audition_live in object_form_met w tree act view.node s sound
   answer_at_met act true view (GetsGuard x) s sound i = guard_live_met act view x s sound i
   answer_at_met act true view (Asks a) s sound i = asks_live_met act view a s sound i
-  answer_at_met act false view GetsForm s sound i = dead_met s sound
-  answer_at_met act false view (GetsGuard x) s sound i = dead_met s sound
-  answer_at_met act false view (Asks a) s sound i = dead_met s sound
+  answer_at_met act false view other s sound i = dead_met s sound
 
   none_asked : (b : Bool) → ◌≡◌ {A = scopes.AuditionAsk Local} (elim b [ true ↦ scopes.GetsForm | false ↦ scopes.NoAuditionAsk ]) (ask_by (text_of w) (if b then GetsForm else NoAsk))
   none_asked true = refl

@@ -73,25 +73,9 @@ module _ (h : Contents) (x y u : Held) (held' : is_there h x ≡ true) (there : 
 
 small_by : (k : Kind) (b : Bool) → nat_lt (refusal_id (record { kind = k; or_null = b })) 47 ≡ true
 small_by kind.Any true = refl
-small_by kind.Void true = refl
-small_by kind.Int true = refl
-small_by kind.Boolean true = refl
-small_by kind.Char true = refl
-small_by kind.Text true = refl
-small_by kind.List true = refl
-small_by kind.Null true = refl
-small_by kind.Near true = refl
-small_by kind.Frozen true = refl
 small_by kind.Any false = refl
-small_by kind.Void false = refl
-small_by kind.Int false = refl
-small_by kind.Boolean false = refl
-small_by kind.Char false = refl
-small_by kind.Text false = refl
-small_by kind.List false = refl
-small_by kind.Null false = refl
-small_by kind.Near false = refl
-small_by kind.Frozen false = refl
+small_by other true = refl
+small_by other false = refl
 
 refusal_small : (g : Guard) → nat_lt (refusal_id g) 47 ≡ true
 refusal_small g = small_by g.kind g.or_null
@@ -101,16 +85,7 @@ refusal_small g = small_by g.kind g.or_null
 null_is : (w : World) (x : Held) → scopes.is_null (value_of w x) ≡ is_null x
 unfolding scopes.is_null
 null_is w held.Null = refl
-null_is w (held.Bool b) = refl
-null_is w (held.Int z) = refl
-null_is w (held.Char c) = refl
-null_is w (held.Text n) = refl
-null_is w (held.Broken n) = refl
-null_is w (held.List n) = refl
-null_is w (held.Prim n) = refl
-null_is w (held.Obj n) = refl
-null_is w (held.Prom n) = refl
-null_is w (held.Far n p) = refl
+null_is w other = refl
 
 -- two values that stand there
 pub pair_there : (x y : Held) (s : Room) → is_there s.heap x ≡ true → is_there s.heap y ≡ true → are_there s.heap (x ∷ y ∷ []) ≡ true

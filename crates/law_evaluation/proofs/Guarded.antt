@@ -35,16 +35,12 @@ value_first : {B : Type 0} (d : Done Local (Answer Local)) (f : Value Local → 
     → machine.end_by (λ x. f x.value) g h d ≡ machine.end_by f g h (machine.and_then d (λ x. machine.give x.value))
 unfolding machine.end_by opened_state
 value_first (machine.Gives x t) f g h = refl
-value_first (Throws p t) f g h = refl
-value_first (Ejects n v t) f g h = refl
-value_first (Stops c t) f g h = refl
+value_first other f g h = refl
 
 pub in_turn : {A B C : Type 0} (d : Done Local A) (f : A → machine.Act Local B) (g : B → machine.Act Local C) → machine.and_then (machine.and_then d f) g ≡ machine.and_then d (λ a t. machine.and_then (f a t) g)
 unfolding opened_state
 in_turn (machine.Gives x t) f g = refl
-in_turn (Throws p t) f g = refl
-in_turn (Ejects n v t) f g = refl
-in_turn (Stops c t) f g = refl
+in_turn other f g = refl
 
 dropped : {A : Type 0} (o : Out (Held × Scope)) (m : Act A) → and_then (and_then o (λ x. give x.0)) (λ u. m) ≡ and_then o (λ u. m)
 unfolding and_then give

@@ -70,25 +70,19 @@ front_one : (x : Value Local) (vs : List (Value Local)) (d : Done Local (Answers
     → with_front vs (machine.and_then d (λ xs. machine.give (record { values = x ∷ xs.values; scope = xs.scope }))) ≡ with_front (vs ++ x ∷ []) d
 unfolding with_front opened_state
 front_one x vs (machine.Gives xs t) = ap (λ (ys : List (Value Local)). machine.Gives (record { values = ys; scope = xs.scope }) t) (sym (append_assoc vs (x ∷ []) xs.values))
-front_one x vs (Throws p t) = refl
-front_one x vs (Ejects n v t) = refl
-front_one x vs (Stops c t) = refl
+front_one x vs other = refl
 
 front_then : (vs : List (Value Local)) (d : Done Local (Answer Local)) (rest : Answer Local → machine.Act Local (Answers Local))
     → with_front vs (machine.and_then d (λ x t. machine.and_then (rest x t) (λ xs. machine.give (record { values = x.value ∷ xs.values; scope = xs.scope }))))
     ≡ machine.and_then d (λ x t. with_front (vs ++ x.value ∷ []) (rest x t))
 unfolding with_front opened_state
 front_then vs (machine.Gives x t) rest = front_one x.value vs (rest x t)
-front_then vs (Throws p t) rest = refl
-front_then vs (Ejects n v t) rest = refl
-front_then vs (Stops c t) rest = refl
+front_then vs other rest = refl
 
 front_none : (d : Done Local (Answers Local)) → with_front [] d ≡ d
 unfolding with_front
 front_none (machine.Gives xs t) = refl
-front_none (Throws p t) = refl
-front_none (Ejects n v t) = refl
-front_none (Stops c t) = refl
+front_none other = refl
 
 all_of-more : (w : World) (tree : List Node) (their : scopes.Evaluator Local) (e : ℕ) (es : List ℕ) (sc : Surroundings Local) (v : Vat Local)
     → theirs.all_of (names w) tree their (e ∷ es) sc v
@@ -261,8 +255,7 @@ module _ (w : World) (tree : List Node) (rec : Evaluator) (their : scopes.Evalua
       → Met w a_value s (write_bound (call tree rec) act f v s) (theirs.write_bound (names w) tree their act (found_of w f) (value_of w v) (vat w s))
   unfolding write_bound
   write_met act (Some (scope.Slot k)) v s sound i = rw (write_slot_is act k (value_of w v) (vat w s), cells_at w s k) (write_cell_met act k v (slice_get s.heap.slots k) s sound i)
-  write_met act (Some (scope.Fixed u g)) v s sound i = unfold theirs.write_bound in stop_met w a_value s
-  write_met act None v s sound i = unfold theirs.write_bound in stop_met w a_value s
+  write_met act other v s sound i = unfold theirs.write_bound in stop_met w a_value s
 
   set_met : (id : ℕ) (x : Words) (e : ℕ) (here : Scope) (s : Room) → IsSound s → are_bound s.heap here.nouns ≡ true
       → Met w an_answer s (set_node tree rec x e here s) (theirs.step (names w) tree their id (Set x e) (scope_of w here) (vat w s))
@@ -432,13 +425,7 @@ step_met w tree rec their h id (Finally a b) here s sound k found = finally_met 
 step_met w tree rec their h id (Hide v) here s sound k found = hide_met w tree rec their h id v here s sound k
 step_met w tree rec their h id (MatchBind v p) here s sound k found = match_met w tree rec their h id v p here s sound k
 step_met w tree rec their h id (ObjectNode p auditors ms) here s sound k found = object_met w tree rec their h id p auditors ms here s sound k found
-step_met w tree rec their h id (Method v ps b) here s sound k found = stop_met w an_answer s
-step_met w tree rec their h id (Matcher p b) here s sound k found = stop_met w an_answer s
-step_met w tree rec their h id (Final x g) here s sound k found = stop_met w an_answer s
-step_met w tree rec their h id (Var x g) here s sound k found = stop_met w an_answer s
-step_met w tree rec their h id (Any g) here s sound k found = stop_met w an_answer s
-step_met w tree rec their h id (ListPattern ps) here s sound k found = stop_met w an_answer s
-step_met w tree rec their h id (Via v p) here s sound k found = stop_met w an_answer s
+step_met w tree rec their h id other here s sound k found = stop_met w an_answer s
 
 -- ---- patterns
 
@@ -500,16 +487,7 @@ module _ (w : World) (tree : List Node) (rec : Evaluator) (their : scopes.Evalua
   items_met ps j here (held.List n) s sound i l k =
       rw (looks_at ps (value_of w j) (scope_of w here) n (vat w s), members_are w s n, length-map (members_at s.heap n) (value_of w))
       (list_bound_met ps j here (members_at s.heap n) (length (members_at s.heap n) == length ps) s sound (members_there s.heap sound.lists n) l k)
-  items_met ps j here held.Null s sound i l k = unfold theirs.bind_items in not_list_met here.act j s sound l
-  items_met ps j here (held.Bool b) s sound i l k = unfold theirs.bind_items in not_list_met here.act j s sound l
-  items_met ps j here (held.Int z) s sound i l k = unfold theirs.bind_items in not_list_met here.act j s sound l
-  items_met ps j here (held.Char c) s sound i l k = unfold theirs.bind_items in not_list_met here.act j s sound l
-  items_met ps j here (held.Text n) s sound i l k = unfold theirs.bind_items in not_list_met here.act j s sound l
-  items_met ps j here (held.Broken n) s sound i l k = unfold theirs.bind_items in not_list_met here.act j s sound l
-  items_met ps j here (held.Prim n) s sound i l k = unfold theirs.bind_items in not_list_met here.act j s sound l
-  items_met ps j here (held.Obj n) s sound i l k = unfold theirs.bind_items in not_list_met here.act j s sound l
-  items_met ps j here (held.Prom n) s sound i l k = unfold theirs.bind_items in not_list_met here.act j s sound l
-  items_met ps j here (held.Far n p) s sound i l k = unfold theirs.bind_items in not_list_met here.act j s sound l
+  items_met ps j here other s sound i l k = unfold theirs.bind_items in not_list_met here.act j s sound l
 
   list_is : (ps : List ℕ) (y j : Value Local) (sc : Surroundings Local) (v : Vat Local)
       → theirs.bind_step (names w) tree their (ListPattern ps) y j sc v ≡ theirs.bind_items (names w) tree their ps j sc (follow (names w) v y) v
@@ -551,8 +529,7 @@ module _ (w : World) (tree : List Node) (rec : Evaluator) (their : scopes.Evalua
       → theirs.bind_step (names w) tree their (node_of t None) y j sc v ≡ their_bound sc.act t (Prim any) y sc v
   unfolding opened_eval their_bound
   none_is (target.Final x) y j sc v = refl
-  none_is (target.Var x) y j sc v = refl
-  none_is target.Nothing y j sc v = refl
+  none_is other y j sc v = refl
 
   -- what the machine binds under a guard
   abbrev their_under : ℕ → Target → Value Local → Value Local → Value Local → Surroundings Local → machine.Act Local (Surroundings Local)
@@ -562,8 +539,7 @@ module _ (w : World) (tree : List Node) (rec : Evaluator) (their : scopes.Evalua
       → theirs.bind_step (names w) tree their (node_of t g) y j sc v ≡ machine.and_then (theirs.guard_of (names w) tree their g sc v) (λ k. their_under sc.act t y j k.value k.scope)
   unfolding theirs.bind_step their_bound machine.◌>>=◌ machine.◌>>◌
   binds_is (target.Final x) g y j sc v = refl
-  binds_is (target.Var x) g y j sc v = refl
-  binds_is target.Nothing g y j sc v = refl
+  binds_is other g y j sc v = refl
 
   guard_is : (e : ℕ) (sc : Surroundings Local) (v : Vat Local)
       → theirs.guard_of (names w) tree their (Some e) sc v ≡ machine.and_then (their.expression e sc v) (λ x u. scopes.answered x.scope (follow (names w) u x.value) u)
@@ -596,9 +572,7 @@ module _ (w : World) (tree : List Node) (rec : Evaluator) (their : scopes.Evalua
   elsewhere : (act : ℕ) (g j y : Value Local) (p : refs.Place Local) (v : Vat Local) → scopes.is_near p ≡ false → perform.coerce_near (names w) tree (calls.call (names w) tree their) act g j y p v ≡ machine.throw (codes "not a guard") v
   unfolding scopes.is_near perform.coerce_near
   elsewhere act g j y refs.Near v e = absurd (cc)
-  elsewhere act g j y (refs.Mine n) v e = refl
-  elsewhere act g j y (refs.Away n m o) v e = refl
-  elsewhere act g j y (refs.Gone t) v e = refl
+  elsewhere act g j y other v e = refl
 
   reference_is : (act : ℕ) (n : Local) (j y : Value Local) (v : Vat Local)
       → perform.coerce (names w) tree (calls.call (names w) tree their) act (Ref n) j y v ≡ perform.coerce_near (names w) tree (calls.call (names w) tree their) act (Ref n) j y (refs.place (names w) v (Ref n)) v

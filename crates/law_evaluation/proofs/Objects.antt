@@ -164,16 +164,13 @@ module _ (w : World) (tree : List Node) (rec : Evaluator) (their : scopes.Evalua
     where
       same_done : (d : Done Local (Value Local)) → machine.and_then d (λ v. machine.give v) ≡ d
       same_done (machine.Gives v t) = unfold opened_state in refl
-      same_done (Throws p t) = unfold opened_state in refl
-      same_done (Ejects n v t) = unfold opened_state in refl
-      same_done (Stops c t) = unfold opened_state in refl
+      same_done other = unfold opened_state in refl
 
 run_found_met : (w : World) (tree : List Node) (rec : Evaluator) (their : scopes.Evaluator Local) (h : IsMet w rec their) (ms : List scopes.Case) (verb : Words) (o : Option Node) (args : List Held) (here : Scope) (s : Room) → IsSound s → are_there s.heap args ≡ true → are_bound s.heap here.nouns ≡ true
     → Met w a_value s (run_found rec ms verb o args here s) (calls.run_body (names w) tree their ms verb (body_of o) (values_of w args) (scope_of w here) (vat w s))
 unfolding run_found body_of
-run_found_met w tree rec their h ms verb None args here s sound i k = matchers_met w tree rec their h ms verb args here s sound i k
 run_found_met w tree rec their h ms verb (Some (Method v ps b)) args here s sound i k = method_met w tree rec their h ms verb ps b args here s sound i k
-run_found_met w tree rec their h ms verb (Some _) args here s sound i k = matchers_met w tree rec their h ms verb args here s sound i k
+run_found_met w tree rec their h ms verb other args here s sound i k = matchers_met w tree rec their h ms verb args here s sound i k
 
 run_met : (w : World) (tree : List Node) (rec : Evaluator) (their : scopes.Evaluator Local) (h : IsMet w rec their) (node : ℕ) (verb : Words) (args : List Held) (here : Scope) (s : Room) → IsSound s → are_there s.heap args ≡ true → are_bound s.heap here.nouns ≡ true
     → Met w a_value s (run_object tree rec node verb args here s) (calls.run_object (names w) tree their (scopes.members_of (slice_get tree node)) verb (values_of w args) (scope_of w here) (vat w s))

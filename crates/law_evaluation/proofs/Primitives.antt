@@ -64,22 +64,19 @@ use Rattle.law_acts.proofs.Weights.{IsFront, same_text}
 -- ---- what is asked is of values that stand there
 
 abbrev Good : Contents → Asked → Type 0
-Good h ask.MakesList = Unit {0}
 Good h (ask.Ranges last x y) = (is_there h x ≡ true) × (is_there h y ≡ true)
 Good h (ask.Same x y) = (is_there h x ≡ true) × (is_there h y ≡ true)
 Good h (ask.Compares t x y) = (is_there h x ≡ true) × (is_there h y ≡ true)
 Good h (ask.Loops f) = is_there h f ≡ true
 Good h (ask.SendsTo only x v l) = (is_there h x ≡ true) × ((is_there h v ≡ true) × (is_there h l ≡ true))
 Good h (ask.CallsTo x v l) = (is_there h x ≡ true) × ((is_there h v ≡ true) × (is_there h l ≡ true))
-Good h ask.MakesPromise = Unit {0}
 Good h (ask.Breaks x) = is_there h x ≡ true
 Good h (ask.Tells test x) = is_there h x ≡ true
 Good h (ask.Whens x o) = (is_there h x ≡ true) × (is_there h o ≡ true)
 Good h (ask.ThrowsIt v) = is_there h v ≡ true
 Good h (ask.Coerces g x j) = (is_there h x ≡ true) × (is_there h j ≡ true)
 Good h (ask.AddsNull x) = is_there h x ≡ true
-Good h (ask.IsStamped a x) = Unit {0}
-Good h ask.NoMethod = Unit {0}
+Good h other = Unit {0}
 
 module _ (h : Contents) where
   good_if : (b : Bool) (x y : Asked) → Good h x → Good h y → Good h (if b then x else y)
@@ -99,50 +96,40 @@ module _ (h : Contents) where
 
   good_list : (verb : Words) (xs : List Held) → are_there h xs ≡ true → Good h (asked_by MakeList verb (args_of xs))
   unfolding args_of asks_none asks_one asks_two asks_three asks_more asked_by
-  good_list verb [] i = good_where (codes "run") ask.MakesList verb tt
-  good_list verb (a ∷ []) i = good_where (codes "run") ask.MakesList verb tt
   good_list verb (a ∷ b ∷ []) i =
       let s = both (is_there h a) (are_there h (b ∷ [])) i in
       let t = both (is_there h b) true s.1 in
       good_if (bytes_eq verb (codes "run")) ask.MakesList (ranges (range_named verb) a b) tt (good_ranges (range_named verb) a b s.0 t.0)
   good_list verb (a ∷ b ∷ c ∷ []) i = good_where (codes "run") ask.MakesList verb tt
-  good_list verb (a ∷ b ∷ c ∷ d ∷ xs) i = good_where (codes "run") ask.MakesList verb tt
+  good_list verb other i = good_where (codes "run") ask.MakesList verb tt
 
   good_equalizer : (verb : Words) (xs : List Held) → are_there h xs ≡ true → Good h (asked_by Equalizer verb (args_of xs))
   unfolding args_of asks_none asks_one asks_two asks_three asks_more asked_by
-  good_equalizer verb [] i = tt
-  good_equalizer verb (a ∷ []) i = tt
   good_equalizer verb (a ∷ b ∷ []) i =
       let s = both (is_there h a) (are_there h (b ∷ [])) i in
       let t = both (is_there h b) true s.1 in
       good_where (codes "sameEver") (ask.Same a b) verb (s.0, t.0)
   good_equalizer verb (a ∷ b ∷ c ∷ []) i = tt
-  good_equalizer verb (a ∷ b ∷ c ∷ d ∷ xs) i = tt
+  good_equalizer verb other i = tt
 
   good_comparer : (verb : Words) (xs : List Held) → are_there h xs ≡ true → Good h (asked_by Comparer verb (args_of xs))
   unfolding args_of asks_none asks_one asks_two asks_three asks_more asked_by
-  good_comparer verb [] i = tt
-  good_comparer verb (a ∷ []) i = tt
   good_comparer verb (a ∷ b ∷ []) i =
       let s = both (is_there h a) (are_there h (b ∷ [])) i in
       let t = both (is_there h b) true s.1 in
       good_compares (test_named verb) a b s.0 t.0
   good_comparer verb (a ∷ b ∷ c ∷ []) i = tt
-  good_comparer verb (a ∷ b ∷ c ∷ d ∷ xs) i = tt
+  good_comparer verb other i = tt
 
   good_looper : (verb : Words) (xs : List Held) → are_there h xs ≡ true → Good h (asked_by Looper verb (args_of xs))
   unfolding args_of asks_none asks_one asks_two asks_three asks_more asked_by
-  good_looper verb [] i = tt
   good_looper verb (a ∷ []) i = good_where (codes "run") (ask.Loops a) verb (both (is_there h a) true i).0
   good_looper verb (a ∷ b ∷ []) i = tt
   good_looper verb (a ∷ b ∷ c ∷ []) i = tt
-  good_looper verb (a ∷ b ∷ c ∷ d ∷ xs) i = tt
+  good_looper verb other i = tt
 
   good_sender : (verb : Words) (xs : List Held) → are_there h xs ≡ true → Good h (asked_by Sender verb (args_of xs))
   unfolding args_of asks_none asks_one asks_two asks_three asks_more asked_by
-  good_sender verb [] i = tt
-  good_sender verb (a ∷ []) i = tt
-  good_sender verb (a ∷ b ∷ []) i = tt
   good_sender verb (a ∷ b ∷ c ∷ []) i =
       let s = both (is_there h a) (are_there h (b ∷ c ∷ [])) i in
       let t = both (is_there h b) (are_there h (c ∷ [])) s.1 in
@@ -150,7 +137,7 @@ module _ (h : Contents) where
       good_if (same_words (codes "send") verb) (ask.SendsTo false a b c) _ g
       (good_if (same_words (codes "sendOnly") verb) (ask.SendsTo true a b c) _ g
       (good_if (same_words (codes "call") verb) (ask.CallsTo a b c) ask.NoMethod g tt))
-  good_sender verb (a ∷ b ∷ c ∷ d ∷ xs) i = tt
+  good_sender verb other i = tt
 
   good_tells : (o : Option RefTest) (a : Held) → is_there h a ≡ true → Good h (tells o a)
   good_tells (Some t) a i = i
@@ -170,11 +157,10 @@ module _ (h : Contents) where
 
   good_thrower : (verb : Words) (xs : List Held) → are_there h xs ≡ true → Good h (asked_by Thrower verb (args_of xs))
   unfolding args_of asks_none asks_one asks_two asks_three asks_more asked_by
-  good_thrower verb [] i = tt
   good_thrower verb (a ∷ []) i = good_where (codes "run") (ask.ThrowsIt a) verb (both (is_there h a) true i).0
   good_thrower verb (a ∷ b ∷ []) i = tt
   good_thrower verb (a ∷ b ∷ c ∷ []) i = tt
-  good_thrower verb (a ∷ b ∷ c ∷ d ∷ xs) i = tt
+  good_thrower verb other i = tt
 
   good_kind : (k : Kind) (b : Bool) (verb : Words) (a : Held) → is_there h a ≡ true → Good h (guard_one (record { kind = k; or_null = b }) verb a)
   good_kind k true verb a i = tt
@@ -183,22 +169,19 @@ module _ (h : Contents) where
 
   good_guard : (g : Guard) (verb : Words) (xs : List Held) → are_there h xs ≡ true → Good h (asked_by (Guarding g) verb (args_of xs))
   unfolding args_of asks_none asks_one asks_two asks_three asks_more asked_by
-  good_guard g verb [] i = tt
   good_guard g verb (a ∷ []) i = good_kind g.kind g.or_null verb a (both (is_there h a) true i).0
   good_guard g verb (a ∷ b ∷ []) i =
       let s = both (is_there h a) (are_there h (b ∷ [])) i in
       let t = both (is_there h b) true s.1 in
       good_where (codes "coerce") (ask.Coerces g a b) verb (s.0, t.0)
   good_guard g verb (a ∷ b ∷ c ∷ []) i = tt
-  good_guard g verb (a ∷ b ∷ c ∷ d ∷ xs) i = tt
+  good_guard g verb other i = tt
 
   good_stamps : (verb : Words) (xs : List Held) → Good h (asked_by StampReader verb (args_of xs))
   unfolding args_of asks_none asks_one asks_two asks_three asks_more asked_by
-  good_stamps verb [] = tt
-  good_stamps verb (a ∷ []) = tt
   good_stamps verb (a ∷ b ∷ []) = good_where (codes "run") (ask.IsStamped a b) verb tt
   good_stamps verb (a ∷ b ∷ c ∷ []) = tt
-  good_stamps verb (a ∷ b ∷ c ∷ d ∷ xs) = tt
+  good_stamps verb other = tt
 
   good_judging : (r : Rule) (verb : Words) (xs : List Held) → Good h (asked_by (Judging r) verb (args_of xs))
   unfolding args_of asks_none asks_one asks_two asks_three asks_more asked_by

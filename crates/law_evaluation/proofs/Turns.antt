@@ -101,11 +101,10 @@ module _ (w : World) (tree : List Node) (rec : Evaluator) (their : scopes.Evalua
   turn_value_met (held.Obj i) s sound j a = turn_object_met i s sound a
   turn_value_met (held.Broken id) s sound j a = throw_met w a_value id s sound j
   turn_value_met (held.Prim n) s sound j a = primitive_met w tree (again_by tree rec None) (calls.call (names w) tree their) (again_met w tree rec their h) act n verb args s sound a
-  turn_value_met (held.Prom n) s sound j a = unfold calls.turn_spot numbering local_spot in stop_met w a_value s
-  turn_value_met (held.Far v p) s sound j a = unfold calls.turn_spot numbering local_spot in stop_met w a_value s
   turn_value_met held.Null s sound j a = answered_met w tree (again_by tree rec None) (calls.call (names w) tree their) (again_met w tree rec their h) act held.Null verb args s sound j a
   turn_value_met (held.Bool b) s sound j a = answered_met w tree (again_by tree rec None) (calls.call (names w) tree their) (again_met w tree rec their h) act (held.Bool b) verb args s sound j a
   turn_value_met (held.Int z) s sound j a = answered_met w tree (again_by tree rec None) (calls.call (names w) tree their) (again_met w tree rec their h) act (held.Int z) verb args s sound j a
   turn_value_met (held.Char c) s sound j a = answered_met w tree (again_by tree rec None) (calls.call (names w) tree their) (again_met w tree rec their h) act (held.Char c) verb args s sound j a
   turn_value_met (held.Text id) s sound j a = answered_met w tree (again_by tree rec None) (calls.call (names w) tree their) (again_met w tree rec their h) act (held.Text id) verb args s sound j a
   turn_value_met (held.List k) s sound j a = answered_met w tree (again_by tree rec None) (calls.call (names w) tree their) (again_met w tree rec their h) act (held.List k) verb args s sound j a
+  turn_value_met other s sound j a = unfold calls.turn_spot numbering local_spot in stop_met w a_value s

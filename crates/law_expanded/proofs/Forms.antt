@@ -36,9 +36,8 @@ pub record Good (s : List ℕ) (ts : List Token) (w : Word) : Type 0 where
 -- ---- the texts of tokens
 
 part_utf8 : (s : List ℕ) (ts : List Token) → IsUtf8 s → (o : Option Part) → IsUtf8 (part_text s ts o)
-part_utf8 s ts u None = IsUtf8-nil
-part_utf8 s ts u (Some (piece.Tree i)) = IsUtf8-nil
 part_utf8 s ts u (Some (piece.Token w)) = word_utf8 s ts w u
+part_utf8 s ts u other = IsUtf8-nil
 
 verb_at : (s : List ℕ) (ts : List Token) (ps : List Part) (n : ℕ) → IsUtf8 s → IsUtf8 (verb_behind (text_at s ts ps n))
 verb_at s ts ps n u = verb_utf8 (text_at s ts ps n) (part_utf8 s ts u (slice_get ps n))
@@ -124,7 +123,6 @@ unfolding form_piece
 form_fits s ts u known made shapes.Literal f ss ps a o g p = literal_fits known made f.kind (word_text s ts f) (word_utf8 s ts f u)
 form_fits s ts u known made shapes.Noun f ss ps a o g p = fits_noun (word_text s ts f) (g.name o.0)
 form_fits s ts u known made shapes.List f ss ps a o g p = fits_made_list _ (uniform_values made ps (uniform_of (Good s ts) made Expression a o))
-form_fits s ts u known made shapes.Group f ss ps a o g p = uniform_value_at made ps 0 (uniform_of (Good s ts) made Expression a o) p
 form_fits s ts u known made shapes.Block f ss ps a o g p = fits_body _ (uniform_values made ps (uniform_of (Good s ts) made Expression a o))
 form_fits s ts u known made shapes.If f ss ps a o g p =
     let all = uniform_of (Good s ts) made Expression a o in
@@ -187,7 +185,6 @@ form_fits s ts u known made shapes.VarPattern f ss ps a o g p = fits_variable _ 
 form_fits s ts u known made shapes.ListPattern f ss ps a o g p = fits_list _ (uniform_pieces made Pattern ps (uniform_of (Good s ts) made Pattern a o))
 form_fits s ts u known made shapes.ViaPattern f ss ps a o g p = fits_via _ _ (value_fits made (tree_at ps 1) (at_fits (Good s ts) made Expression a 1 o.0)) (at_fits (Good s ts) made Pattern a 3 o.1)
 form_fits s ts u known made shapes.NounGuard f ss ps a o g p = fits_noun_guard _ _ (g.name o.0) (uniform_values made ps (uniform_of (Good s ts) made Expression a o.1))
-form_fits s ts u known made shapes.ExprGuard f ss ps a o g p = uniform_value_at made ps 0 (uniform_of (Good s ts) made Expression a o) p
 form_fits s ts u known made shapes.To f ss ps a o g p =
     let d = turned_split (Good s ts) made kinds.CloseParen Pattern Expression ss ps o.0 a in
     fits_to _ _ _ _ _ (verb_at s ts ps 0 u) (uniform_pieces made Pattern (before kinds.CloseParen ps) d.before) (guard_fits made (rest_of ps) d.behind) (last_of (Good s ts) made ss ps o.1 a)
@@ -196,3 +193,4 @@ form_fits s ts u known made shapes.Method f ss ps a o g p =
     fits_plain _ _ _ _ (verb_at s ts ps 0 u) (uniform_pieces made Pattern (before kinds.CloseParen ps) d.before) (guard_fits made (rest_of ps) d.behind) (last_of (Good s ts) made ss ps o.1 a)
 form_fits s ts u known made shapes.Matcher f ss ps a o g p = fits_matcher _ _ (at_fits (Good s ts) made Pattern a 0 o.0) (at_fits (Good s ts) made Expression a 1 o.1)
 form_fits s ts u known made shapes.Program f ss ps a o g p = fits_body _ (uniform_values made ps (uniform_of (Good s ts) made Expression a o))
+form_fits s ts u known made other f ss ps a o g p = uniform_value_at made ps 0 (uniform_of (Good s ts) made Expression a o) p

@@ -43,11 +43,8 @@ numbered_scalar n found e = elim (chosen (scalar n) _ _ (Some found) e) [
 ]
 
 digits_scalar : (more : List ℕ) (found : ℕ × ℕ) → by_digits more ≡ Some found → IsScalar found.0
-digits_scalar [] found e = absurd (cc)
-digits_scalar (a ∷ []) found e = absurd (cc)
-digits_scalar (a ∷ b ∷ []) found e = absurd (cc)
-digits_scalar (a ∷ b ∷ c ∷ []) found e = absurd (cc)
 digits_scalar (a ∷ b ∷ c ∷ d ∷ more) found e = option_and_then_some numbered (hexadecimal a b c d) found e (λ n at is. numbered_scalar n found is)
+digits_scalar other found e = absurd (cc)
 
 letter_scalar : (o : Option ℕ) (found : ℕ × ℕ) → ((c : ℕ) → o ≡ Some c → c < 128) → option_map (λ (c : ℕ). (c, 1)) o ≡ Some found → IsScalar found.0
 letter_scalar None found low e = absurd (cc)

@@ -41,51 +41,39 @@ kept_of k f ss h (here {m = m} {ms = ms}) = h.0
 kept_of k f ss h (there {n = n} {ms = ms} i) = kept_of k f ss h.1 i
 
 series_part : (x : Series) (k : TokenKind) (ss : List Slot) → series_laid x k ss → series_laid x k (ss ++ part (line_sort (item_line x)) ∷ [])
-series_part series.Arguments k ss h = op Expression ss h
-series_part series.Members k ss h = op Expression ss h
-series_part series.Index k ss h = op Expression ss h
-series_part series.VerbArguments k ss h = op Expression ss h
-series_part series.SendArguments k ss h = op Expression ss h
 series_part series.GuardArguments k ss h = (h.0, op Expression ss h.1)
 series_part series.Parameters k ss h = (heads_more kinds.Identifier ss (part Pattern) h.0, before_more kinds.CloseParen Pattern ss (part Pattern) h.1 (refl, tt))
 series_part series.FunctionParameters k ss h = op Pattern ss h
 series_part series.ToParameters k ss h = before_more kinds.CloseParen Pattern ss (part Pattern) h (refl, tt)
 series_part series.MethodParameters k ss h = before_more kinds.CloseParen Pattern ss (part Pattern) h (refl, tt)
 series_part series.ListPattern k ss h = op Pattern ss h
+series_part other k ss h = op Expression ss h
 
 series_comma : (x : Series) (k : TokenKind) (ss : List Slot) → series_laid x k ss → series_laid x k (ss ++ token kinds.Comma ∷ [])
-series_comma series.Arguments k ss h = ot Expression ss kinds.Comma h
-series_comma series.Members k ss h = ot Expression ss kinds.Comma h
-series_comma series.Index k ss h = ot Expression ss kinds.Comma h
-series_comma series.VerbArguments k ss h = ot Expression ss kinds.Comma h
-series_comma series.SendArguments k ss h = ot Expression ss kinds.Comma h
 series_comma series.GuardArguments k ss h = (h.0, ot Expression ss kinds.Comma h.1)
 series_comma series.Parameters k ss h = (heads_more kinds.Identifier ss (token kinds.Comma) h.0, before_more kinds.CloseParen Pattern ss (token kinds.Comma) h.1 (refl, tt))
 series_comma series.FunctionParameters k ss h = ot Pattern ss kinds.Comma h
 series_comma series.ToParameters k ss h = before_more kinds.CloseParen Pattern ss (token kinds.Comma) h (refl, tt)
 series_comma series.MethodParameters k ss h = before_more kinds.CloseParen Pattern ss (token kinds.Comma) h (refl, tt)
 series_comma series.ListPattern k ss h = ot Pattern ss kinds.Comma h
+series_comma other k ss h = ot Expression ss kinds.Comma h
 
 series_closed : (x : Series) (k f : TokenKind) (ss : List Slot) → series_laid x k ss → Kept k f ss (closing x)
-series_closed series.Arguments k f ss h = ot Expression ss kinds.CloseParen h
 series_closed series.Members k f ss h = ot Expression ss kinds.CloseBracket h
 series_closed series.Index k f ss h = ot Expression ss kinds.CloseBracket h
-series_closed series.VerbArguments k f ss h = ot Expression ss kinds.CloseParen h
-series_closed series.SendArguments k f ss h = ot Expression ss kinds.CloseParen h
 series_closed series.GuardArguments k f ss h = (h.0, ot Expression ss kinds.CloseBracket h.1)
 series_closed series.Parameters k f ss h = (heads_more kinds.Identifier ss (token kinds.CloseParen) h.0, turned_of kinds.CloseParen Pattern Expression ss h.1)
 series_closed series.FunctionParameters k f ss h = (ss, (refl, h))
 series_closed series.ToParameters k f ss h = turned_of kinds.CloseParen Pattern Expression ss h
 series_closed series.MethodParameters k f ss h = turned_of kinds.CloseParen Pattern Expression ss h
 series_closed series.ListPattern k f ss h = ot Pattern ss kinds.CloseBracket h
+series_closed other k f ss h = ot Expression ss kinds.CloseParen h
 
 behind_laid : (x : Head) (k f : TokenKind) (ss : List Slot) → ss ≡ opened_head x ++ part Expression ∷ [] → EachKept k f ss (moves (places.Close x))
-behind_laid heads.If k f ss e = (on (λ y. Only Expression (y ++ token kinds.CloseParen ∷ [])) e (refl, tt), tt)
 behind_laid heads.While k f ss e = (on (λ y. Only Expression ((y ++ token kinds.CloseParen ∷ []) ++ part Expression ∷ [])) e (refl, (refl, tt)), tt)
 behind_laid heads.When k f ss e = (one_more (token kinds.CloseParen) e, tt)
 behind_laid heads.Via k f ss e = (on (λ y. Sorted shapes.ViaPattern k ((y ++ token kinds.CloseParen ∷ []) ++ part Pattern ∷ [])) e (refl, refl), tt)
-behind_laid heads.Group k f ss e = (on (λ y. Only Expression (y ++ token kinds.CloseParen ∷ [])) e (refl, tt), tt)
-behind_laid heads.Guard k f ss e = (on (λ y. Only Expression (y ++ token kinds.CloseParen ∷ [])) e (refl, tt), tt)
+behind_laid other k f ss e = (on (λ y. Only Expression (y ++ token kinds.CloseParen ∷ [])) e (refl, tt), tt)
 
 caught_done : (e : Caught) (k : TokenKind) (ss : List Slot) → ss ≡ (caught_slots e ++ token kinds.Catch ∷ []) ++ part Pattern ∷ [] → Sorted (caught_shape e) k (ss ++ part Expression ∷ [])
 caught_done caught.Escape k ss h = on (λ y. Sorted shapes.Escape k (y ++ part Expression ∷ [])) h (refl, (refl, (refl, refl)))
@@ -160,17 +148,14 @@ laid_moves (places.Item n x) k f ss led h = (series_part x k ss h, tt)
 laid_moves (places.More zero x) k f ss led h = (series_closed x k f ss h, tt)
 laid_moves (places.More (suc n) x) k f ss led h = (series_comma x k ss h, (series_closed x k f ss h, tt))
 laid_moves (places.Open x) k f ss led h = (one_more (token kinds.OpenParen) h.0 ∙ sym h.1, tt)
-laid_moves (places.Test x) k f ss led h = (one_more (part Expression) h, tt)
 laid_moves (places.Close x) k f ss led h = behind_laid x k f ss h
 laid_moves places.IfThen k f ss led h = (op Expression ss h, tt)
 laid_moves places.IfElse k f ss led h = (op Expression (ss ++ token kinds.Else ∷ []) (ot Expression ss kinds.Else h), tt)
 laid_moves places.WhenArrow k f ss led h = (one_more (token kinds.Arrow) h, tt)
-laid_moves places.WhenBlock k f ss led h = (one_more (part Expression) h, tt)
 laid_moves (places.Caught e) k f ss led h = (one_more (token kinds.Catch) h, tt)
 laid_moves (places.CatchPattern e) k f ss led h = (one_more (part Pattern) h, tt)
 laid_moves (places.CatchBlock e) k f ss led h = (caught_done e k ss h, tt)
 laid_moves places.Escape k f ss led h = (one_more (part Pattern) h, tt)
-laid_moves places.EscapeBlock k f ss led h = (one_more (part Expression) h, tt)
 laid_moves places.Try k f ss led h = (([], (one_more (part Expression) h, λ rs t. t)), tt)
 laid_moves places.TryMore k f ss led h = (
   (h.0, (one_more (token kinds.Catch) h.1.0, h.1.1)),
@@ -217,7 +202,6 @@ laid_moves (places.Name c named.Ignore) k f ss led h = (
     ),
   ),
 )
-laid_moves (places.NameGuard c x) k f ss led h = (one_more (part Expression) h, tt)
 laid_moves (places.NameGuarded c named.Noun) k f ss led h =
     let w = noun_wrapped f ss (token kinds.Identifier ∷ token kinds.Colon ∷ part Expression ∷ []) led refl (refl, tt) h in
     ((w, bound_by c kinds.Exit), ((w, bound_by c kinds.Assign), tt))
@@ -260,3 +244,4 @@ laid_moves places.Matcher k f ss led h = (on (λ y. Sorted shapes.Matcher k ((y 
 laid_moves (places.PatternGuard s) k f ss led h = (h.1, tt)
 laid_moves places.VarPattern k f ss led h = (on (λ y. Laid (places.PatternGuard shapes.VarPattern) k (y ++ token kinds.Identifier ∷ [])) h ((refl, tt), (refl, (refl, tt))), tt)
 laid_moves places.NounGuard k f ss led h = ((h.0, on (λ y. Only Expression (y ++ token kinds.OpenBracket ∷ [])) h.1 tt), tt)
+laid_moves other k f ss led h = (one_more (part Expression) h, tt)

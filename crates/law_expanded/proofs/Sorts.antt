@@ -117,10 +117,6 @@ FunctionLaid ss = Heads kinds.Identifier ss × Turned kinds.CloseParen Pattern E
 abbrev pub Laid : Place → TokenKind → List Slot → Type 0
 Laid (places.Done s) k ss = Sorted s k ss
 Laid (places.Last l s) k ss = Sorted s k (ss ++ part (line_sort l) ∷ [])
-Laid places.Program k ss = Only Expression ss
-Laid places.ProgramMore k ss = Only Expression ss
-Laid places.Block k ss = Only Expression ss
-Laid places.BlockMore k ss = Only Expression ss
 Laid places.Leave k ss = IsLeave k × Only Expression ss
 Laid (places.First x) k ss = series_laid x k ss
 Laid (places.Item n x) k ss = series_laid x k ss
@@ -128,8 +124,6 @@ Laid (places.More n x) k ss = series_laid x k ss
 Laid (places.Open h) k ss = (ss ≡ []) × (opened_head h ≡ token kinds.OpenParen ∷ [])
 Laid (places.Test h) k ss = ss ≡ opened_head h
 Laid (places.Close h) k ss = ss ≡ opened_head h ++ part Expression ∷ []
-Laid places.IfThen k ss = Only Expression ss
-Laid places.IfElse k ss = Only Expression ss
 Laid places.WhenArrow k ss = ss ≡ token kinds.OpenParen ∷ part Expression ∷ token kinds.CloseParen ∷ []
 Laid places.WhenBlock k ss = ss ≡ token kinds.OpenParen ∷ part Expression ∷ token kinds.CloseParen ∷ token kinds.Arrow ∷ []
 Laid (places.Caught e) k ss = ss ≡ caught_slots e
@@ -146,10 +140,6 @@ Laid places.ForKey k ss = ss ≡ part Pattern ∷ []
 Laid places.ForValue k ss = ss ≡ part Pattern ∷ token kinds.FatArrow ∷ []
 Laid places.ForIn k ss = ss ≡ part Pattern ∷ token kinds.FatArrow ∷ part Pattern ∷ []
 Laid places.ForList k ss = (ss ≡ with_key) ⊎ (ss ≡ without_key)
-Laid places.Verb k ss = Only Expression ss
-Laid places.VerbOpen k ss = Only Expression ss
-Laid places.Send k ss = Only Expression ss
-Laid places.SendOpen k ss = Only Expression ss
 Laid (places.Def c) k ss = ss ≡ []
 Laid (places.Name c x) k ss = ss ≡ token (named_kind x) ∷ []
 Laid (places.NameGuard c x) k ss = ss ≡ token (named_kind x) ∷ token kinds.Colon ∷ []
@@ -177,6 +167,7 @@ Laid places.Matcher k ss = ss ≡ []
 Laid (places.PatternGuard s) k ss = Sorted s k ss × Sorted s k ((ss ++ token kinds.Colon ∷ []) ++ part Expression ∷ [])
 Laid places.VarPattern k ss = ss ≡ []
 Laid places.NounGuard k ss = (k ≡ kinds.Identifier) × (ss ≡ [])
+Laid other k ss = Only Expression ss
 
 -- the kind of tree that is read at a place
 abbrev pub series_sort : Series → Kind

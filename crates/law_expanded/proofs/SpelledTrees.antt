@@ -49,24 +49,11 @@ sort_move kind h (there {n = n} {ms = ms} i) = sort_move kind h.1 i
 
 closing_sort : (x : Series) → MoveSort (series_sort x) (closing x)
 closing_sort series.Arguments = refl
-closing_sort series.Members = refl
-closing_sort series.Index = refl
-closing_sort series.VerbArguments = refl
-closing_sort series.SendArguments = refl
-closing_sort series.GuardArguments = refl
-closing_sort series.Parameters = refl
-closing_sort series.FunctionParameters = refl
-closing_sort series.ToParameters = refl
-closing_sort series.MethodParameters = refl
-closing_sort series.ListPattern = refl
+closing_sort other = refl
 
 behind_sort : (x : Head) → place_sort (behind x) ≡ head_sort x
 behind_sort heads.If = refl
-behind_sort heads.While = refl
-behind_sort heads.When = refl
-behind_sort heads.Via = refl
-behind_sort heads.Group = refl
-behind_sort heads.Guard = refl
+behind_sort other = refl
 
 caught_sort : (e : Caught) → sort_of (caught_shape e) ≡ Expression
 caught_sort caught.Escape = refl
@@ -86,69 +73,36 @@ parameters_sort roles.Method = refl
 
 moves_sort : (q : Place) → EachSort (place_sort q) (moves q)
 moves_sort (places.Done s) = tt
-moves_sort (places.Last l s) = (refl, tt)
 moves_sort places.Program = (refl, (refl, (refl, tt)))
 moves_sort places.ProgramMore = (refl, (refl, tt))
 moves_sort places.Block = (refl, (refl, (refl, (refl, tt))))
 moves_sort places.BlockMore = (refl, (refl, (refl, tt)))
-moves_sort places.Leave = (refl, tt)
 moves_sort (places.First x) = (refl, (closing_sort x, tt))
-moves_sort (places.Item n x) = (refl, tt)
 moves_sort (places.More zero x) = (closing_sort x, tt)
 moves_sort (places.More (suc n) x) = (refl, (closing_sort x, tt))
-moves_sort (places.Open h) = (refl, tt)
-moves_sort (places.Test h) = (refl, tt)
 moves_sort (places.Close h) = (behind_sort h, tt)
-moves_sort places.IfThen = (refl, tt)
-moves_sort places.IfElse = (refl, tt)
-moves_sort places.WhenArrow = (refl, tt)
-moves_sort places.WhenBlock = (refl, tt)
-moves_sort (places.Caught e) = (refl, tt)
-moves_sort (places.CatchPattern e) = (refl, tt)
 moves_sort (places.CatchBlock e) = (caught_sort e, tt)
-moves_sort places.Escape = (refl, tt)
-moves_sort places.EscapeBlock = (refl, tt)
-moves_sort places.Try = (refl, tt)
 moves_sort places.TryMore = (refl, (refl, tt))
-moves_sort places.TryPattern = (refl, tt)
-moves_sort places.TryBlock = (refl, tt)
-moves_sort places.For = (refl, tt)
 moves_sort places.ForKey = (refl, (refl, tt))
-moves_sort places.ForValue = (refl, tt)
-moves_sort places.ForIn = (refl, tt)
-moves_sort places.ForList = (refl, tt)
 moves_sort places.Verb = (refl, (refl, tt))
-moves_sort places.VerbOpen = (refl, tt)
 moves_sort places.Send = (refl, (refl, (refl, tt)))
-moves_sort places.SendOpen = (refl, tt)
 moves_sort (places.Def c) = (refl, (refl, (refl, tt)))
 moves_sort (places.Name c named.Noun) = (refl, (refl, (refl, (refl, (refl, (refl, tt))))))
 moves_sort (places.Name c named.Ignore) = (refl, (refl, (refl, (refl, (refl, tt)))))
-moves_sort (places.NameGuard c x) = (refl, tt)
 moves_sort (places.NameGuarded c x) = (refl, (refl, tt))
 moves_sort (places.Bound c d) = (refl, (refl, tt))
-moves_sort (places.Exit c d) = (refl, tt)
-moves_sort (places.Ejector c d) = (refl, tt)
 moves_sort (places.Value c d) = (definition_sort d, tt)
-moves_sort (places.Var c) = (refl, tt)
 moves_sort (places.VarName c) = (refl, (refl, (refl, tt)))
-moves_sort (places.VarGuard c) = (refl, tt)
-moves_sort places.Auditor = (refl, tt)
 moves_sort places.AuditorMore = (refl, (refl, tt))
 moves_sort places.Script = (refl, (refl, (refl, (refl, tt))))
 moves_sort places.Result = (refl, (refl, (refl, tt)))
-moves_sort places.ResultGuard = (refl, tt)
 moves_sort places.ResultGuarded = (refl, (refl, tt))
-moves_sort places.FunctionAuditor = (refl, tt)
 moves_sort places.FunctionAuditorMore = (refl, (refl, tt))
 moves_sort (places.MemberVerb r) = (refl, (refl, tt))
 moves_sort (places.MemberOpen r) = (parameters_sort r, tt)
 moves_sort (places.MemberResult r) = (refl, (role_sort r, tt))
 moves_sort (places.MemberGuard r) = (role_sort r, tt)
-moves_sort places.Matcher = (refl, tt)
-moves_sort (places.PatternGuard s) = (refl, tt)
-moves_sort places.VarPattern = (refl, tt)
-moves_sort places.NounGuard = (refl, tt)
+moves_sort other = (refl, tt)
 
 -- ---- where a node begins
 

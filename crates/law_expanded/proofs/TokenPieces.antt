@@ -20,9 +20,8 @@ use Rattle.law_expanded.proofs.TokenWords.{Named, is_word, other_kind, AllEntrie
 
 -- what the piece at the front of this text says of its own text
 abbrev pub Names : Piece → List ℕ → Type 0
-Names (Blank n) text = Unit {0}
 Names (Whole kind n) text = Named kind (take n text)
-Names (Fault kind n) text = Unit {0}
+Names other text = Unit {0}
 
 chosen : (t : Bool) (x y : Piece) (text : List ℕ) → (t ≡ true → Names x text) → Names y text → Names (cond t x y) text
 chosen true x y text h k = h refl
@@ -73,10 +72,9 @@ commented_names None text = tt
 commented_names (Some n) text = tt
 
 slashed_names : (text more : List ℕ) → Names (slashed text more) text
-slashed_names text [] = longest_names text
-slashed_names text (a ∷ []) = longest_names text
 slashed_names text (a ∷ b ∷ inside) =
     chosen (eqb a 42 && eqb b 42) (commented (comment_end inside)) (operator (longest_operator text)) text (λ _. commented_names (comment_end inside) text) (longest_names text)
+slashed_names text other = longest_names text
 
 -- ---- literals and white space
 
@@ -115,16 +113,15 @@ word_names text (c ∷ cs) u e =
 -- ---- all of them
 
 of_names : (s : Start) (text more : List ℕ) → IsUtf8 text → Names (piece_of s text more) text
-of_names Space text more u = tt
 of_names LineFeed text more u = other_kind kinds.LineEnd (take 1 text) refl
 of_names CarriageReturn text more u = before_names (line_end text) text
 of_names Backslash text more u = with_names (line_end more) text
-of_names Hash text more u = tt
 of_names Slash text more u = slashed_names text more
 of_names Quote text more u = text_names more (closing 34 more) text
 of_names Apostrophe text more u = character_names more (closing 39 more) text
 of_names Digit text more u = number_names (take (prefix_len is_ascii_digit text) text) text
 of_names Other text more u = word_names text (chars text) u refl
+of_names other text more u = tt
 
 piece_names : (text : List ℕ) → IsUtf8 text → Names (piece text) text
 unfolding piece

@@ -20,15 +20,8 @@ module _ (cut : ℕ → Bool) (v : ℕ) (x : Name) (K : Naming Name Name) where
 
   pub free_learn_value : (x1 : Value (Incoming Name Name)) → Keeps (Accounted cut v x 0) (arrive.learn_value K x1)
   unfolding arrive.learn_value
-  free_learn_value Null = search (free_refs, spared) depth 14
-  free_learn_value (Flag b) = search (free_refs, spared) depth 14
-  free_learn_value (Number z) = search (free_refs, spared) depth 14
-  free_learn_value (Letter c) = search (free_refs, spared) depth 14
-  free_learn_value (Text t) = search (free_refs, spared) depth 14
-  free_learn_value (Prim n) = search (free_refs, spared) depth 14
-  free_learn_value (Broken p) = search (free_refs, spared) depth 14
-  free_learn_value (Items k) = search (free_refs, spared) depth 14
   free_learn_value (Ref z) = search (free_refs, spared, free_learn_name) depth 14
+  free_learn_value other = search (free_refs, spared) depth 14
 
   pub free_ask_for : (x1 : ℕ) → (x2 : ℕ) → (x3 : ℕ) → (x4 : Name) → Keeps (Accounted cut v x 0) (arrive.ask_for K x1 x2 x3 x4)
   unfolding arrive.ask_for
@@ -150,10 +143,9 @@ module _ (cut : ℕ → Bool) (v : ℕ) (x : Name) (K : Naming Name Name) where
 
   pub free_break_hosted : (x1 : ℕ) → (x2 : Name) → (x3 : Words) → (x4 : Standing Name) → Keeps (Accounted cut v x 0) (arrive.break_hosted K x1 x2 x3 x4)
   unfolding arrive.break_hosted
-  free_break_hosted w n p Unsettled = search (free_refs, spared, free_settle) depth 14
-  free_break_hosted w n p (WaitsOn q) = search (free_refs, spared, free_settle) depth 14
   free_break_hosted w n p (Viewed q) = search (free_refs, spared) depth 14
   free_break_hosted w n p (Settled y) = search (free_refs, spared) depth 14
+  free_break_hosted w n p other = search (free_refs, spared, free_settle) depth 14
 
   pub free_notice_name : (x1 : ℕ) → (x2 : Known Name) → Keeps (Accounted cut v x 0) (arrive.notice_name K x1 x2)
   unfolding arrive.notice_name

@@ -97,15 +97,8 @@ module _ (x : Name) (K : Naming Name Name) (v : ℕ) (global : Global K v) where
 
   pub light_learn_value : (y : Value (Incoming Name Name)) → ValueComes y → ValueHosts y → Light v x 0 (arrive.learn_value K y)
   unfolding arrive.learn_value
-  light_learn_value Null g e = search (light_all) depth 14
-  light_learn_value (Flag b) g e = search (light_all) depth 14
-  light_learn_value (Number z) g e = search (light_all) depth 14
-  light_learn_value (Letter c) g e = search (light_all) depth 14
-  light_learn_value (Text t) g e = search (light_all) depth 14
-  light_learn_value (Prim n) g e = search (light_all) depth 14
-  light_learn_value (Broken p) g e = search (light_all) depth 14
-  light_learn_value (Items k) g e = search (light_all) depth 14
   light_learn_value (Ref z) g e = let one = light_learn_name z g e in search (light_all) depth 14
+  light_learn_value other g e = search (light_all) depth 14
 
   light_ask_for : (p h i : ℕ) (n : Name) → Light v x 0 (arrive.ask_for K p h i n)
   unfolding arrive.ask_for
@@ -161,9 +154,7 @@ module _ (x : Name) (K : Naming Name Name) (v : ℕ) (global : Global K v) where
   given_at : (s : Vat Name) (r : Done Name Name) → LightAt v x 0 s (and_then r give) → LightAt v x 0 s r
   unfolding and_then give
   given_at s (Gives n t) h = h
-  given_at s (Throws p t) h = h
-  given_at s (Ejects i y t) h = h
-  given_at s (Stops e t) h = h
+  given_at s other h = h
 
   light_have_gift : (p i : ℕ) → Light v x 0 (arrive.have_gift K p i)
   unfolding ◌>>=◌
@@ -176,9 +167,7 @@ module _ (x : Name) (K : Naming Name Name) (v : ℕ) (global : Global K v) where
   light_break_at : (n : Name) (p : Words) (t : Standing Name) → Light v x 0 (arrive.break_at K n p t)
   unfolding arrive.break_at
   light_break_at n p (Settled y) = search (light_all) depth 14
-  light_break_at n p Unsettled = search (light_all) depth 14
-  light_break_at n p (WaitsOn q) = search (light_all) depth 14
-  light_break_at n p (Viewed q) = search (light_all) depth 14
+  light_break_at n p other = search (light_all) depth 14
 
   light_break_unopened : (n : Name) (b : Bool) → Light v x 0 (arrive.break_unopened K n b)
   unfolding arrive.break_unopened
@@ -192,9 +181,7 @@ module _ (x : Name) (K : Naming Name Name) (v : ℕ) (global : Global K v) where
   light_tell_asker : (n : Name) (w : ℕ) (t : Standing Name) → host_of n ≡ v → Light v x 0 (arrive.tell_asker K n w t)
   unfolding arrive.tell_asker
   light_tell_asker n w (Settled y) e = light_inform K v global x n w e
-  light_tell_asker n w Unsettled e = light_to_tell v x K global w n e
-  light_tell_asker n w (WaitsOn q) e = light_to_tell v x K global w n e
-  light_tell_asker n w (Viewed q) e = light_to_tell v x K global w n e
+  light_tell_asker n w other e = light_to_tell v x K global w n e
 
   light_arrive_ask : (from p i : ℕ) → Light v x 0 (arrive.arrive_ask K from p i)
   unfolding arrive.arrive_ask
@@ -219,10 +206,7 @@ module _ (x : Name) (K : Naming Name Name) (v : ℕ) (global : Global K v) where
   light_shorten_to : (i : ℕ) (p : Place Name) → Light v x 0 (arrive.shorten_to K i p)
   unfolding arrive.shorten_to
   light_shorten_to i (Away h n true) = search (light_all) depth 14
-  light_shorten_to i (Away h n false) = search (light_all) depth 14
-  light_shorten_to i Near = search (light_all) depth 14
-  light_shorten_to i (Mine n) = search (light_all) depth 14
-  light_shorten_to i (Gone p) = search (light_all) depth 14
+  light_shorten_to i other = search (light_all) depth 14
 
   light_arrive_shorten : (z : Incoming Name Name) (i : ℕ) → ComesAsNoObject z → HostComes z → Light v x 0 (arrive.arrive_shorten K z i)
   unfolding arrive.arrive_shorten
@@ -294,9 +278,8 @@ module _ (x : Name) (K : Naming Name Name) (v : ℕ) (global : Global K v) where
   members_then : (n : Name) (s : Vat Name) (r : Done Name (List (Value Name))) → LightAt v x 0 s r → LightAt v x 0 s (and_then (and_then r (λ vs. arrive.make_list K vs)) (λ z. settle K n z))
   unfolding and_then ◌>>=◌
   members_then n s (Gives vs t) h = light_on v x 0 0 s t _ h ((list_then n vs).after t h.sound)
-  members_then n s (Throws p t) h = absurd h
-  members_then n s (Ejects i y t) h = absurd h
   members_then n s (Stops e t) h = tt
+  members_then n s other h = absurd h
 
   settles_passed : (from : ℕ) (n : Name) (y : Passed (Incoming Name Name)) → PassedSettles y → PassedHosts y → Light v x 0 (arrive.learn K from y >>= (λ z. settle K n z))
   unfolding arrive.learn ◌>>=◌
@@ -322,9 +305,7 @@ module _ (x : Name) (K : Naming Name Name) (v : ℕ) (global : Global K v) where
   light_break_hosted : (w : ℕ) (n : Name) (p : Words) (t : Standing Name) → Light v x 0 (arrive.break_hosted K w n p t)
   unfolding arrive.break_hosted
   light_break_hosted w n p Unsettled = search (light_all) depth 14
-  light_break_hosted w n p (WaitsOn q) = search (light_all) depth 14
-  light_break_hosted w n p (Viewed q) = search (light_all) depth 14
-  light_break_hosted w n p (Settled y) = search (light_all) depth 14
+  light_break_hosted w n p other = search (light_all) depth 14
 
   light_notice_name : (w : ℕ) (k : Known Name) → Light v x 0 (arrive.notice_name K w k)
   unfolding arrive.notice_name

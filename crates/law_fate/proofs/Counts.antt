@@ -37,12 +37,8 @@ names_end x (k ∷ ks) n h = let rest = names_end x ks n h in omega arith
 -- what a change adds
 unfoldable pub added : Name → Change Name → ℕ
 added x (Hold m) = one m.id x
-added x (Wait q) = 0
-added x (WaitOn q) = 0
-added x (See q) = 0
 added x (React m) = one m.id x
-added x (ToTell w) = 0
-added x (Settle y) = 0
+added x other = 0
 
 abbrev at_known : Name → Known Name → ℕ
 at_known x k = among x k.held + among x k.reactions
@@ -50,19 +46,13 @@ at_known x k = among x k.held + among x k.reactions
 to_adds : (x : Name) (c : Change Name) (k : Known Name) → at_known x (changed_to c k) ≤ at_known x k + added x c
 unfolding changed_to added among
 to_adds x (Hold m) k = let more = among_end x k.held m in omega arith
-to_adds x (Wait q) k = omega arith
-to_adds x (WaitOn q) k = omega arith
-to_adds x (See q) k = omega arith
 to_adds x (React m) k = let more = among_end x k.reactions m in omega arith
-to_adds x (ToTell w) k = omega arith
-to_adds x (Settle y) k = omega arith
+to_adds x other k = omega arith
 
 unless_adds : (x : Name) (t : Standing Name) (k new : Known Name) (c : ℕ) → at_known x new ≤ at_known x k + c → at_known x (unless_settled t k new) ≤ at_known x k + c
 unfolding unless_settled
 unless_adds x (Settled y) k new c h = omega arith
-unless_adds x Unsettled k new c h = h
-unless_adds x (WaitsOn q) k new c h = h
-unless_adds x (Viewed q) k new c h = h
+unless_adds x other k new c h = h
 
 module _ {W : Type 0} (K : Naming Name W) where
   change_adds : (x : Name) (c : Change Name) (k : Known Name) (ks js : List (Known Name)) (b : Bool) → at_names x js ≤ at_names x ks + added x c
@@ -79,16 +69,12 @@ module _ {W : Type 0} (K : Naming Name W) where
   -- what did not settle
   abbrev pub Waits : Standing Name → Type 0
   Waits (Settled y) = ⊥
-  Waits Unsettled = Unit {0}
-  Waits (WaitsOn q) = Unit {0}
-  Waits (Viewed q) = Unit {0}
+  Waits other = Unit {0}
 
   settled_frees : (x : Name) (y : Value Name) (k : Known Name) (t : Standing Name) → Waits t → at_known x (unless_settled t k (changed_to (Settle y) k)) ≡ 0
   unfolding unless_settled changed_to among
   settled_frees x y k (Settled z) h = absurd h
-  settled_frees x y k Unsettled h = omega arith
-  settled_frees x y k (WaitsOn q) h = omega arith
-  settled_frees x y k (Viewed q) h = omega arith
+  settled_frees x y k other h = omega arith
 
   settle_frees : (x : Name) (y : Value Name) (k j : Known Name) (ks js : List (Known Name)) (o : Option (Known Name)) (b : Bool) → elim b [ true ↦ Some j | false ↦ o ] ≡ Some k → Waits k.standing
       → (o ≡ Some k → at_names x js + at_known x k ≡ at_names x ks)
@@ -127,8 +113,4 @@ next_where v k m false = omega arith
 pub numbered_next : (v k : ℕ) (x : Name) → one (Sent (record { sender = v; number = k })) x + numbered v k x ≤ numbered v (suc k) x
 unfolding numbered one same_name once
 numbered_next v k (Sent m) = next_where v k m (v == m.sender)
-numbered_next v k (Root a) = omega arith
-numbered_next v k (Object a b) = omega arith
-numbered_next v k (Promise a b) = omega arith
-numbered_next v k (Answer a b) = omega arith
-numbered_next v k (Gift a b) = omega arith
+numbered_next v k other = omega arith

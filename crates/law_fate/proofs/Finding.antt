@@ -26,8 +26,7 @@ module _ (K : Naming Name Name) (v : ℕ) (global : Global K v) where
   unfolding refs.led
   opens_led ks n k on P (Settled y) i h e g last more = inl (last y h)
   opens_led ks n k on P (Viewed q) i h e g last more = more q g.0 g.1
-  opens_led ks n k on P (WaitsOn q) i h e g last more = inr (n, k, refl, e, rw i tt)
-  opens_led ks n k on P Unsettled i h e g last more = inr (n, k, refl, e, rw i tt)
+  opens_led ks n k on P other i h e g last more = inr (n, k, refl, e, rw i tt)
 
   standing_is : (ks : List (Known Name)) (n : Name) (k : Known Name) → entry_of K ks n ≡ Some k → refs.standing_of K ks n ≡ k.standing
   unfolding refs.standing_of refs.standing_in
@@ -90,16 +89,13 @@ module _ (K : Naming Name Name) (v : ℕ) (global : Global K v) where
   abbrev OpenAt : List (Known Name) → Place Name → Type 0
   OpenAt ks (Mine n) = (k : Known Name) × (entry_of K ks n ≡ Some k) × Waits K k.standing
   OpenAt ks (Away h n false) = (k : Known Name) × (entry_of K ks n ≡ Some k) × Waits K k.standing
-  OpenAt ks (Away h n true) = Unit {0}
-  OpenAt ks Near = Unit {0}
-  OpenAt ks (Gone p) = Unit {0}
+  OpenAt ks other = Unit {0}
 
   end_open : (ks : List (Known Name)) (p : Place Name) → IsEnd p → OpenAt ks p
   end_open ks (Mine n) h = absurd h
   end_open ks (Away h n true) i = tt
   end_open ks (Away h n false) i = absurd i
-  end_open ks Near h = tt
-  end_open ks (Gone p) h = tt
+  end_open ks other h = tt
 
   hosted_at : (ks : List (Known Name)) (n : Name) (h : ℕ) (b : Bool) → ((k : Known Name) × (entry_of K ks n ≡ Some k) × Waits K k.standing) → OpenAt ks (pick b (Mine n) (Away h n false))
   hosted_at ks n h true g = g
@@ -107,9 +103,8 @@ module _ (K : Naming Name Name) (v : ℕ) (global : Global K v) where
 
   spotted_at : (s : Vat Name) (n : Name) (p : Spot) → ((k : Known Name) × (entry_of K s.known n ≡ Some k) × Waits K k.standing) → OpenAt s.known (refs.spotted K s n p)
   unfolding refs.spotted refs.hosted
-  spotted_at s n (Own i) g = tt
-  spotted_at s n (Foreign h) g = tt
   spotted_at s n NoObject g = hosted_at s.known n _ (s.number == refs.host_at K s.number s.known n) g
+  spotted_at s n other g = tt
 
   place_opens : (s : Vat Name) (y : Value Name) → Opened s.known y → OpenAt s.known (refs.place K s y)
   unfolding refs.place
@@ -123,16 +118,12 @@ module _ (K : Naming Name Name) (v : ℕ) (global : Global K v) where
   holds_one : (x : Name) (m : Message Name) (k : Known Name) (t : Standing Name) → Waits K t → at_known x (unless_settled t k (changed_to (Hold m) k)) ≡ at_known x k + one m.id x
   unfolding unless_settled changed_to at_known
   holds_one x m k (Settled y) h = absurd h
-  holds_one x m k Unsettled h = let more = among_end x k.held m in omega arith
-  holds_one x m k (WaitsOn q) h = let more = among_end x k.held m in omega arith
-  holds_one x m k (Viewed q) h = let more = among_end x k.held m in omega arith
+  holds_one x m k other h = let more = among_end x k.held m in omega arith
 
   reacts_one : (x : Name) (m : Message Name) (k : Known Name) (t : Standing Name) → Waits K t → at_known x (unless_settled t k (changed_to (React m) k)) ≡ at_known x k + one m.id x
   unfolding unless_settled changed_to at_known
   reacts_one x m k (Settled y) h = absurd h
-  reacts_one x m k Unsettled h = let more = among_end x k.reactions m in omega arith
-  reacts_one x m k (WaitsOn q) h = let more = among_end x k.reactions m in omega arith
-  reacts_one x m k (Viewed q) h = let more = among_end x k.reactions m in omega arith
+  reacts_one x m k other h = let more = among_end x k.reactions m in omega arith
 
   module _ (x : Name) (c : Change Name) (more : ℕ) (adds : (k : Known Name) → Waits K k.standing → at_known x (unless_settled k.standing k (changed_to c k)) ≡ at_known x k + more) where
     adds_where : (k j : Known Name) (ks js : List (Known Name)) (o : Option (Known Name)) (b : Bool) → pick b (Some j) o ≡ Some k → Waits K k.standing → (o ≡ Some k → at_names x js ≡ at_names x ks + more)
@@ -166,9 +157,7 @@ module _ (K : Naming Name Name) (v : ℕ) (global : Global K v) where
     unfolding refs.react_at
     react_at s m (Mine n) q w = reacts_at s m n q.0 q.1 q.2 w
     react_at s m (Away h n false) q w = reacts_at s m n q.0 q.1 q.2 w
-    react_at s m (Away h n true) q w = (cost_enqueue cut x m).after s w
-    react_at s m Near q w = (cost_enqueue cut x m).after s w
-    react_at s m (Gone p) q w = (cost_enqueue cut x m).after s w
+    react_at s m other q w = (cost_enqueue cut x m).after s w
 
     to_at : (s : Vat Name) (m : Message Name) (y : Value Name) (p : Place Name) → NamesMessage m.id → Fits y p → OpenAt s.known p → AllWell s → PaysAt cut x (one m.id x) s (refs.send_to K (refs.settle K) m y p s)
     unfolding refs.send_to
@@ -194,16 +183,12 @@ module _ (K : Naming Name Name) (v : ℕ) (global : Global K v) where
     open_later : (ks js : List (Known Name)) (p : Place Name) → OpenAt ks p → OpenAt (ks ++ js) p
     open_later ks js (Mine n) q = (q.0, entry_later ks js n q.0 q.1, q.2)
     open_later ks js (Away h n false) q = (q.0, entry_later ks js n q.0 q.1, q.2)
-    open_later ks js (Away h n true) q = tt
-    open_later ks js Near q = tt
-    open_later ks js (Gone p) q = tt
+    open_later ks js other q = tt
 
     then_gives : {A : Type 0} (c : ℕ) (s : Vat Name) (r : Done Name (Unit {0})) (a : A) → PaysAt cut x c s r → PaysAt cut x c s (and_then r (λ _. give a))
     unfolding and_then give
     then_gives c s (Gives u t) a h = h
-    then_gives c s (Throws p t) a h = h
-    then_gives c s (Ejects n y t) a h = h
-    then_gives c s (Stops e t) a h = h
+    then_gives c s other a h = h
 
     sends_at : (s : Vat Name) → AllWell s → ViewsEnd K s → (act : ℕ) (y : Value Name) (verb : Words) (args : List (Value Name)) → IsKnown K s y → PaysAt cut x (one (K.mailed (IsSent s.messages) (length s.mails)) x) s (refs.send K act y verb args s)
     unfolding refs.send ◌>>=◌ ◌>>◌ and_then look tell new_message
@@ -235,9 +220,7 @@ module _ (K : Naming Name Name) (v : ℕ) (global : Global K v) where
 
     view_later : (P Q : Name → Type 0) (ks js : List (Known Name)) → ((q : Name) → P q → Q q) → ((q : Name) → IsAmong K ks q → IsAmong K js q) → (t : Standing Name) → ViewIs K P ks t → ViewIs K Q js t
     view_later P Q ks js f g (Viewed q) h = (f q h.0, g q h.1)
-    view_later P Q ks js f g Unsettled h = tt
-    view_later P Q ks js f g (WaitsOn q) h = tt
-    view_later P Q ks js f g (Settled y) h = tt
+    view_later P Q ks js f g other h = tt
 
     among_later : (ks : List (Known Name)) (a : Name) (h : ℕ) (q : Name) → IsAmong K ks q → IsAmong K (ks ++ begun a h ∷ []) q
     among_later ks a h q i = (i.0, entry_later ks (begun a h ∷ []) q i.0 i.1)
@@ -256,20 +239,12 @@ module _ (K : Naming Name Name) (v : ℕ) (global : Global K v) where
     length_end (j ∷ ks) k = ap suc (length_end ks k)
 
     known_later : (s t : Vat Name) (a : Name) (h : ℕ) → t.known ≡ s.known ++ begun a h ∷ [] → (y : Value Name) → IsKnown K s y → IsKnown K t y
-    known_later s t a h e (Ref (Object w i)) g = tt
     known_later s t a h e (Ref (Root w)) g = rw e (among_later s.known a h (Root w) g)
     known_later s t a h e (Ref (Promise w i)) g = rw e (among_later s.known a h (Promise w i) g)
     known_later s t a h e (Ref (Answer w m)) g = rw e (among_later s.known a h (Answer w m) g)
     known_later s t a h e (Ref (Gift w i)) g = rw e (among_later s.known a h (Gift w i) g)
     known_later s t a h e (Ref (Sent m)) g = rw e (among_later s.known a h (Sent m) g)
-    known_later s t a h e Null g = tt
-    known_later s t a h e (Flag b) g = tt
-    known_later s t a h e (Number z) g = tt
-    known_later s t a h e (Letter c) g = tt
-    known_later s t a h e (Text u) g = tt
-    known_later s t a h e (Prim n) g = tt
-    known_later s t a h e (Broken p) g = tt
-    known_later s t a h e (Items k) g = tt
+    known_later s t a h e other g = tt
 
     views_later : (s t : Vat Name) (a : Name) (h : ℕ) → t.known ≡ s.known ++ begun a h ∷ [] → ViewsEnd K s → ViewsEnd K t
     views_later s t a h e end n = subst (λ ks. ViewsEndIn K (length ks) ks n) (sym e)
@@ -285,9 +260,8 @@ module _ (K : Naming Name Name) (v : ℕ) (global : Global K v) where
 
 finds_after : (cut : ℕ → Bool) (v : ℕ) (x : Name) (s : Vat Name) (d : Done Name (Value Name)) → PaysAt cut x (one (Sent (record { sender = v; number = s.messages })) x) s d → Finds cut v x s d
 finds_after cut v x s (Gives a t) h = let i = h.1 in omega arith
-finds_after cut v x s (Throws p t) h = h
-finds_after cut v x s (Ejects n y t) h = h
 finds_after cut v x s (Stops c t) h = tt
+finds_after cut v x s other h = h
 
 pub sends_find_places : SendsFindPlaces
 unfolding naming mail_of

@@ -51,17 +51,13 @@ pub record IsLedUnder {N W : Type 0} (K : Naming N W) (Q R : Vat N → Vat N →
 
 module _ {N : Type 0} (Q R : Vat N → Vat N → Type 0) (law : IsLed Q R) where
   pub widen : {A : Type 0} {s t : Vat N} → R s t → (d : Done N A) → Ends Q R t d → Ends Q R s d
-  widen r (Gives a u) h = law.trans r h
-  widen r (Throws p u) h = law.trans r h
-  widen r (Ejects n v u) h = law.trans r h
   widen r (Stops c u) h = law.stopped r h
+  widen r other h = law.trans r h
 
   bind_after : {A B : Type 0} (s : Vat N) (d : Done N A) (f : A → Act N B) → Ends Q R s d → ((a : A) → Leads Q R (f a)) → Ends Q R s (and_then d f)
   unfolding and_then
   bind_after s (Gives a t) f h k = widen h (f a t) ((k a).after t)
-  bind_after s (Throws p t) f h k = h
-  bind_after s (Ejects n v t) f h k = h
-  bind_after s (Stops c t) f h k = h
+  bind_after s other f h k = h
 
   pub leads_bind : {A B : Type 0} {m : Act N A} {f : A → Act N B} → Leads Q R m → ((a : A) → Leads Q R (f a)) → Leads Q R (m >>= f)
   unfolding ◌>>=◌
@@ -180,15 +176,11 @@ pub ruleset leads = (eval_walk, leads_closed, leads_ends, leads_in_eval)
 
 ends_whole : {N A : Type 0} (R : Vat N → Vat N → Type 0) (s : Vat N) (d : Done N A) → After R s d → Ends R R s d
 ends_whole R s (Gives a t) k = k
-ends_whole R s (Throws p t) k = k
-ends_whole R s (Ejects n v t) k = k
-ends_whole R s (Stops c t) k = k
+ends_whole R s other k = k
 
 whole_ends : {N A : Type 0} (R : Vat N → Vat N → Type 0) (s : Vat N) (d : Done N A) → Ends R R s d → After R s d
 whole_ends R s (Gives a t) k = k
-whole_ends R s (Throws p t) k = k
-whole_ends R s (Ejects n v t) k = k
-whole_ends R s (Stops c t) k = k
+whole_ends R s other k = k
 
 -- one relation, however it ends
 pub by_all : {N A : Type 0} (R : Vat N → Vat N → Type 0) (m : Act N A) → Keeps R m → Leads R R m

@@ -15,9 +15,8 @@ use Rattle.law_fate.specs.CarryLaws.{Lightened}
 
 abbrev pub LightAt : {A : Type 0} → ℕ → Name → ℕ → Vat Name → Done Name A → Type 0
 LightAt v x c s (Gives a t) = Lightened v x c s t
-LightAt v x c s (Throws p t) = ⊥
-LightAt v x c s (Ejects n y t) = ⊥
 LightAt v x c s (Stops e t) = Unit {0}
+LightAt v x c s other = ⊥
 
 -- from a state in which all is in place the weight rises by so much at most, unless it stops
 pub record Light {A : Type 0} (v : ℕ) (x : Name) (c : ℕ) (m : Act Name A) : Type 0 where
@@ -44,15 +43,13 @@ module _ (v : ℕ) (x : Name) where
 
   pub light_on : {A : Type 0} (c d : ℕ) (s t : Vat Name) (r : Done Name A) → Lightened v x c s t → LightAt v x d t r → LightAt v x (c + d) s r
   light_on c d s t (Gives a u) h k = lightened_trans c d s t u h k
-  light_on c d s t (Throws p u) h k = absurd k
-  light_on c d s t (Ejects n y u) h k = absurd k
   light_on c d s t (Stops e u) h k = tt
+  light_on c d s t other h k = absurd k
 
   pub lighter : {A : Type 0} (c d : ℕ) (s : Vat Name) (r : Done Name A) → c ≤ d → LightAt v x c s r → LightAt v x d s r
   lighter c d s (Gives a u) h k = let i = k.kept in record { sound = k.sound; kept = omega arith }
-  lighter c d s (Throws p u) h k = absurd k
-  lighter c d s (Ejects n y u) h k = absurd k
   lighter c d s (Stops e u) h k = tt
+  lighter c d s other h k = absurd k
 
   -- what comes first changes nothing that weighs
   pub light_next : {A : Type 0} (c : ℕ) (s t : Vat Name) (r : Done Name A) → Lightened v x 0 s t → LightAt v x c t r → LightAt v x c s r
@@ -61,9 +58,8 @@ module _ (v : ℕ) (x : Name) where
   bind_at : {A B : Type 0} (c d : ℕ) (s : Vat Name) (r : Done Name A) (f : A → Act Name B) → LightAt v x c s r → ((a : A) → Light v x d (f a)) → LightAt v x (c + d) s (and_then r f)
   unfolding and_then
   bind_at c d s (Gives a t) f h k = light_on c d s t (f a t) h ((k a).after t h.sound)
-  bind_at c d s (Throws p t) f h k = absurd h
-  bind_at c d s (Ejects n y t) f h k = absurd h
   bind_at c d s (Stops e t) f h k = tt
+  bind_at c d s other f h k = absurd h
 
   -- what comes after weighs nothing more
   pub then_at : {A B : Type 0} (c : ℕ) (s : Vat Name) (r : Done Name A) (m : Act Name B) → LightAt v x c s r → Light v x 0 m → LightAt v x c s (and_then r (λ _. m))
@@ -91,9 +87,8 @@ module _ (v : ℕ) (x : Name) where
 
   led_at : {A : Type 0} (s : Vat Name) (r : Done Name A) → (Sound v s → LightAt v x 0 s r) → Ends Whatever (Moves v x) s r
   led_at s (Gives a t) h = record { after = h }
-  led_at s (Throws p t) h = record { after = λ w. absurd (h w) }
-  led_at s (Ejects n y t) h = record { after = λ w. absurd (h w) }
   led_at s (Stops e t) h = record { any = tt }
+  led_at s other h = record { after = λ w. absurd (h w) }
 
   pub led_by_light : {A : Type 0} (m : Act Name A) → Light v x 0 m → Leads Whatever (Moves v x) m
   led_by_light m h = record { after = λ s. led_at s (m s) (h.after s) }
@@ -222,22 +217,14 @@ module _ (v : ℕ) (x : Name) where
   -- what a change adds to the weight
   abbrev pub Added : Change Name → ℕ
   Added (Hold m) = one m.id x
-  Added (Wait q) = 0
-  Added (WaitOn q) = 0
-  Added (See q) = 0
-  Added (React m) = 0
-  Added (ToTell w) = 0
-  Added (Settle y) = 0
+  Added other = 0
 
   -- A name is viewed that has another host; and whom v is to tell of a name, it tells as its host, and as its host it holds a message.
   abbrev pub Suits : Change Name → Name → Option (Known Name) → Type 0
   Suits (See q) n o = host_of n ≡ v → ⊥
   Suits (ToTell w) n o = host_in v o ≡ v
   Suits (Hold m) n o = host_in v o ≡ v
-  Suits (Wait q) n o = Unit {0}
-  Suits (WaitOn q) n o = Unit {0}
-  Suits (React m) n o = Unit {0}
-  Suits (Settle y) n o = Unit {0}
+  Suits other n o = Unit {0}
 
   told_vat : (h : Type 0) (w : ℕ) (ws : List ℕ) → h → Each (λ (u : ℕ). h) ws → Each (λ (u : ℕ). h) (with_vat w ws)
   unfolding with_vat
@@ -251,18 +238,15 @@ module _ (v : ℕ) (x : Name) where
   unfolding changed_to host_in among
   to_sound (Hold m) k g h = let more = among_end x k.held m in (record { host = h.host; viewed = h.viewed; told = h.told; held = each_end (λ (j : Message Name). host_of k.name ≡ v) k.held m h.held (sym h.host ∙ g) }, omega arith)
   to_sound (Settle y) k g h = (record { host = h.host; viewed = tt; told = tt; held = tt }, omega arith)
-  to_sound (Wait q) k g h = (record { host = h.host; viewed = h.viewed; told = h.told; held = h.held }, omega arith)
   to_sound (WaitOn q) k g h = (record { host = h.host; viewed = tt; told = h.told; held = h.held }, omega arith)
   to_sound (See q) k g h = (record { host = h.host; viewed = g; told = h.told; held = h.held }, omega arith)
-  to_sound (React m) k g h = (record { host = h.host; viewed = h.viewed; told = h.told; held = h.held }, omega arith)
   to_sound (ToTell u) k g h = (record { host = h.host; viewed = h.viewed; told = told_vat (host_of k.name ≡ v) u k.told (sym h.host ∙ g) h.told; held = h.held }, omega arith)
+  to_sound other k g h = (record { host = h.host; viewed = h.viewed; told = h.told; held = h.held }, omega arith)
 
   unless_sound : (t : Standing Name) (k new : Known Name) (c : ℕ) → KnownSound v k → KnownSound v new × (among x new.held ≤ among x k.held + c) → KnownSound v (unless_settled t k new) × (among x (unless_settled t k new).held ≤ among x k.held + c)
   unfolding unless_settled
   unless_sound (Settled y) k new c h i = (h, omega arith)
-  unless_sound Unsettled k new c h i = i
-  unless_sound (WaitsOn q) k new c h i = i
-  unless_sound (Viewed q) k new c h i = i
+  unless_sound other k new c h i = i
 
   module _ (K : Naming Name Name) (global : Global K v) where
     pub light_draw : Light v x 0 (draw K)

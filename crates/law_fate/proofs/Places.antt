@@ -12,7 +12,7 @@ use Rattle.law_name.proofs.Facts.{PlaceOk, Fact, Nothing, Also, IsName, IsValue,
 use Rattle.law_name.proofs.Care.{TellsOfNone, Care, Under, Sound, Ends, Gets, Fine, fine_tell, with_known, fine_promise, still}
 use Rattle.law_name.proofs.Looks.{follow_ok, place_ok}
 use Rattle.law_name.proofs.CareRefs.{fine_settle, fine_resolve, fine_send_first, fine_send, fine_react, fine_send_only}
-use Rattle.law_name.proofs.Serves.{Serves}
+use Rattle.law_name.proofs.Serves.{Serves, Closing}
 use Rattle.law_name.proofs.SameNames.{reference_is, reference_self}
 use Rattle.law_name.proofs.Tracked.{Marked, Goes, tracked, tracked_under, tracked_makes}
 use Rattle.law_fate.specs.Fate.{one, at_vat, sent_here, sent_in, account}
@@ -38,23 +38,17 @@ none_sent x _ h = refl
 -- what of its messages a vat has numbered since
 abbrev pub Unnumbered : {A : Type 0} → Vat Name → Done Name A → Type 0
 Unnumbered s (Gives a t) = s.messages ≡ t.messages
-Unnumbered s (Throws p t) = Unit {0}
-Unnumbered s (Ejects n y t) = Unit {0}
-Unnumbered s (Stops c t) = Unit {0}
+Unnumbered s other = Unit {0}
 
 -- it was sent no more often than so many times
 abbrev pub SentAt : {A : Type 0} → Name → ℕ → Vat Name → Done Name A → Type 0
 SentAt x c s (Gives a t) = sent_in x t.happened ≤ c + sent_in x s.happened
-SentAt x c s (Throws p t) = Unit {0}
-SentAt x c s (Ejects n y t) = Unit {0}
-SentAt x c s (Stops e t) = Unit {0}
+SentAt x c s other = Unit {0}
 
 -- where no message was numbered none was sent
 pub sent_none : {A : Type 0} (cut : ℕ → Bool) (v : ℕ) (x : Name) (c : ℕ) (s : Vat Name) (d : Done Name A) → After (Accounted cut v x c) s d → Unnumbered s d → SentAt x 0 s d
 sent_none cut v x c s (Gives a t) h e = let f = h.fresh in let same : numbered v s.messages x ≡ numbered v t.messages x = ap (λ k. numbered v k x) e in omega arith
-sent_none cut v x c s (Throws p t) h e = tt
-sent_none cut v x c s (Ejects n y t) h e = tt
-sent_none cut v x c s (Stops r t) h e = tt
+sent_none cut v x c s other h e = tt
 
 module _ (M : Marked) (vats : List (Vat Name)) (v : ℕ) (q : Vat Name) (there : slice_get vats v ≡ Some q) (here : M.mark (At v)) (word : ℕ → ℕ) where
   -- the names, where new messages are made
@@ -76,27 +70,17 @@ module _ (M : Marked) (vats : List (Vat Name)) (v : ℕ) (q : Vat Name) (there :
 
   pub unnumbered : {A : Type 0} (G : A → Fact Name) (s : Vat Name) (d : Done Name A) → Ends F G s d → Unnumbered s d
   unnumbered G s (Gives a t) h = let r : Goes false M vats v q there here s t = h.0 in r.messages
-  unnumbered G s (Throws p t) h = tt
-  unnumbered G s (Ejects n y t) h = tt
-  unnumbered G s (Stops c t) h = tt
+  unnumbered G s other h = tt
 
   -- what is good is known
   pub good_known : (s : Vat Name) (y : Value Name) → ValueOk (T.ok s) y → IsKnown (naming word v) s y
   unfolding naming
-  good_known s (Ref (Object w i)) h = tt
   good_known s (Ref (Root w)) h = among_known (naming word v) reference_is reference_self s.known (Root w) (reference_self (Root w) tt) h.1
   good_known s (Ref (Promise w i)) h = among_known (naming word v) reference_is reference_self s.known (Promise w i) (reference_self (Promise w i) tt) h.1
   good_known s (Ref (Answer w m)) h = among_known (naming word v) reference_is reference_self s.known (Answer w m) (reference_self (Answer w m) tt) h.1
   good_known s (Ref (Gift w i)) h = among_known (naming word v) reference_is reference_self s.known (Gift w i) (reference_self (Gift w i) tt) h.1
   good_known s (Ref (Sent m)) h = absurd h.0
-  good_known s Null h = tt
-  good_known s (Flag b) h = tt
-  good_known s (Number z) h = tt
-  good_known s (Letter c) h = tt
-  good_known s (Text t) h = tt
-  good_known s (Prim n) h = tt
-  good_known s (Broken p) h = tt
-  good_known s (Items k) h = tt
+  good_known s other h = tt
 
   pub good_views : (s : Vat Name) → Sound T s → ViewsEnd (naming word v) s
   good_views s h = let m = h.more in views_end word v s m.apart m.views
@@ -185,9 +169,8 @@ module _ (M : Marked) (vats : List (Vat Name)) (v : ℕ) (q : Vat Name) (there :
 
     joined : {A : Type 0} (G : A → Fact Name) (c : ℕ) (s : Vat Name) (d : Done Name A) → Ends T G s d → PaysAt cut x c s d → SentAt x c s d → Ends whole G s d
     joined G c s (Gives a t) h p n = let i = p.1 in ((h.0, record { kept = omega arith }), whole_sound t h.1 p.0, h.2)
-    joined G c s (Throws e t) h p n = absurd p
-    joined G c s (Ejects k y t) h p n = absurd p
     joined G c s (Stops e t) h p n = tt
+    joined G c s other h p n = absurd p
 
     -- what makes no message
     both : {A : Type 0} {G : A → Fact Name} {C : Fact Name} {m : Act Name A} → Fine T C m G → Fine F C m G → Pays cut x 0 m → Keeps (Accounted cut v x 0) m → Fine whole C m G
@@ -226,24 +209,19 @@ module _ (M : Marked) (vats : List (Vat Name)) (v : ℕ) (q : Vat Name) (there :
 
     found_pays : (s : Vat Name) (d : Done Name (Value Name)) → PaysAt cut x 0 s d → finding.Finds cut v x s d → PaysAt cut x (one (Sent (record { sender = v; number = s.messages })) x) s d
     found_pays s (Gives a t) p f = (p.0, omega arith)
-    found_pays s (Throws e t) p f = p
-    found_pays s (Ejects k y t) p f = p
     found_pays s (Stops e t) p f = tt
+    found_pays s other p f = p
 
     sent_then : {A B : Type 0} (c : ℕ) (s t : Vat Name) (d : Done Name A) (b : B) → sent_in x t.happened ≡ sent_in x s.happened + c → SentAt x 0 t d → SentAt x c s (and_then d (λ _. give b))
     unfolding and_then give
     sent_then c s t (Gives a u) b e h = omega arith
-    sent_then c s t (Throws p u) b e h = tt
-    sent_then c s t (Ejects n y u) b e h = tt
-    sent_then c s t (Stops r u) b e h = tt
+    sent_then c s t other b e h = tt
 
     -- the host of an answer is a vat that is good
     host_good : (s : Vat Name) (p : Place Name) → T.ok s (At s.number) → PlaceOk (T.ok s) p → T.ok s (At (refs.answer_host (naming word v) s.number p))
     unfolding refs.answer_host
     host_good s (Away h n o) g k = T.near s h k.1
-    host_good s Near g k = g
-    host_good s (Mine n) g k = g
-    host_good s (Gone p) g k = g
+    host_good s other g k = g
 
     send_sent : (s : Vat Name) → Sound T s → (act : ℕ) (y : Value Name) → ValueOk (T.ok s) y → (verb : Words) (args : List (Value Name)) → ValuesOk (T.ok s) args → SentAt x (one (Sent (record { sender = v; number = s.messages })) x) s (refs.send (naming word v) act y verb args s)
     unfolding refs.send ◌>>=◌ ◌>>◌ and_then look tell new_message naming mail_of name_of answer_of sent_here
@@ -290,9 +268,7 @@ module _ (M : Marked) (vats : List (Vat Name)) (v : ℕ) (q : Vat Name) (there :
     unfolding refs.react_at alter enqueue
     reacted s m (Mine n) = omega arith
     reacted s m (Away h n false) = omega arith
-    reacted s m (Away h n true) = omega arith
-    reacted s m Near = omega arith
-    reacted s m (Gone p) = omega arith
+    reacted s m other = omega arith
 
     react_sent : (s : Vat Name) (act : ℕ) (y o near : Value Name) → SentAt x (one (Sent (record { sender = v; number = s.messages })) x) s (refs.react (naming word v) act y o near s)
     unfolding refs.react refs.reaction ◌>>=◌ ◌>>◌ and_then look tell new_message naming mail_of name_of answer_of sent_here
@@ -332,9 +308,13 @@ module _ (M : Marked) (vats : List (Vat Name)) (v : ℕ) (q : Vat Name) (there :
       spots = record { alike = λ a b e. let spots = under.spots in spots.alike a b e; placed = λ s m n g. let spots = under.spots in spots.placed s m.0 n g };
       object = λ s i l. under.object s i l;
       promises = whole_promises;
-      breaks = whole_breaks;
-      resolves = whole_resolves;
+      smashes = λ C p g t s h c e. (whole_breaks C p g t).after s h c;
+      resolves = λ C p g y k s h c e. (whole_resolves C p g y k).after s h c;
       sends = whole_sends;
       sends_only = whole_sends_only;
       reacts = whole_reacts;
     }
+
+    pub whole_closing : (p : Name) → Closing (naming word v) whole p
+    unfolding naming
+    whole_closing p = record { breaks = λ C g t. whole_breaks C p g t; closes = λ C g y k. whole_resolves C p g y k }

@@ -21,15 +21,8 @@ module _ (cut : ℕ → Bool) (x : Name) (K : Naming Name Name) (v : ℕ) (globa
 
   pub pays_learn_value : (y : Value (Incoming Name Name)) → ValueComes y → Pays cut x 0 (arrive.learn_value K y)
   unfolding arrive.learn_value
-  pays_learn_value Null g = search (pays_all) depth 14
-  pays_learn_value (Flag b) g = search (pays_all) depth 14
-  pays_learn_value (Number z) g = search (pays_all) depth 14
-  pays_learn_value (Letter c) g = search (pays_all) depth 14
-  pays_learn_value (Text t) g = search (pays_all) depth 14
-  pays_learn_value (Prim n) g = search (pays_all) depth 14
-  pays_learn_value (Broken p) g = search (pays_all) depth 14
-  pays_learn_value (Items k) g = search (pays_all) depth 14
   pays_learn_value (Ref z) g = let one = pays_learn_name z g in search (pays_all) depth 14
+  pays_learn_value other g = search (pays_all) depth 14
 
   pub pays_ask_for : (p h i : ℕ) (n : Name) → Pays cut x 0 (arrive.ask_for K p h i n)
   unfolding arrive.ask_for
@@ -104,9 +97,7 @@ module _ (cut : ℕ → Bool) (x : Name) (K : Naming Name Name) (v : ℕ) (globa
   unfolding arrive.tell_asker standing_of
   asker_told n w (Settled y) s e well = let found = entry_from n y (entry_of K s.known n) e in let k = found.0 in let of_k = found_well K v global n k s.known found.1 well.0 in let known = of_k.0 in
       inform_at K v global cut x n k y w s found.1 found.2 (subst SettledWell found.2 known.standing) well
-  asker_told n w Unsettled s e well = (pays_to_tell cut x K v global w n).after s well
-  asker_told n w (WaitsOn q) s e well = (pays_to_tell cut x K v global w n).after s well
-  asker_told n w (Viewed q) s e well = (pays_to_tell cut x K v global w n).after s well
+  asker_told n w other s e well = (pays_to_tell cut x K v global w n).after s well
 
   asks_told : (n : Name) (w : ℕ) → Pays cut x 0 (look (λ s. standing_of K s.known n) >>= (λ t. arrive.tell_asker K n w t))
   unfolding ◌>>=◌ and_then look
@@ -173,9 +164,8 @@ module _ (cut : ℕ → Bool) (x : Name) (K : Naming Name Name) (v : ℕ) (globa
   members_then : (n : Name) (s : Vat Name) (r : Done Name (List (Value Name))) → PaysAt cut x 0 s r → PaysAt cut x 0 s (and_then (and_then r (λ vs. arrive.make_list K vs)) (λ z. settle K n z))
   unfolding and_then
   members_then n s (Gives vs t) h = pay_more cut x 0 0 s t _ h.1 (list_then n vs t h.0)
-  members_then n s (Throws p t) h = absurd h
-  members_then n s (Ejects i y t) h = absurd h
   members_then n s (Stops e t) h = tt
+  members_then n s other h = absurd h
 
   settles_passed : (from : ℕ) (n : Name) (y : Passed (Incoming Name Name)) → PassedSettles y → Pays cut x 0 (arrive.learn K from y >>= (λ z. settle K n z))
   unfolding arrive.learn ◌>>=◌
@@ -199,9 +189,7 @@ module _ (cut : ℕ → Bool) (x : Name) (K : Naming Name Name) (v : ℕ) (globa
   pub pays_break_hosted : (w : ℕ) (n : Name) (p : Words) (t : Standing Name) → Pays cut x 0 (arrive.break_hosted K w n p t)
   unfolding arrive.break_hosted
   pays_break_hosted w n p Unsettled = search (pays_all) depth 14
-  pays_break_hosted w n p (WaitsOn q) = search (pays_all) depth 14
-  pays_break_hosted w n p (Viewed q) = search (pays_all) depth 14
-  pays_break_hosted w n p (Settled y) = search (pays_all) depth 14
+  pays_break_hosted w n p other = search (pays_all) depth 14
 
   pub pays_notice_name : (x1 : ℕ) → (x2 : Known Name) → Pays cut x 0 (arrive.notice_name K x1 x2)
   unfolding arrive.notice_name

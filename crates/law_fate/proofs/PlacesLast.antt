@@ -25,9 +25,8 @@ pub record Stays (cut : ℕ → Bool) (x : Name) (c : ℕ) (s t : Vat Name) : Ty
 
 abbrev pub PaysAt : {A : Type 0} → (ℕ → Bool) → Name → ℕ → Vat Name → Done Name A → Type 0
 PaysAt cut x c s (Gives a t) = AllWell t × (c + account cut x s ≤ account cut x t)
-PaysAt cut x c s (Throws p t) = ⊥
-PaysAt cut x c s (Ejects n y t) = ⊥
 PaysAt cut x c s (Stops e t) = Unit {0}
+PaysAt cut x c s other = ⊥
 
 -- it places so many of what is in hand, unless it stops
 pub record Pays {A : Type 0} (cut : ℕ → Bool) (x : Name) (c : ℕ) (m : Act Name A) : Type 0 where
@@ -40,22 +39,19 @@ each_end P (y ∷ xs) x h p = (h.0, each_end P xs x h.1 p)
 module _ (cut : ℕ → Bool) (x : Name) where
   pub pay_more : {A : Type 0} (c d : ℕ) (s t : Vat Name) (r : Done Name A) → c + account cut x s ≤ account cut x t → PaysAt cut x d t r → PaysAt cut x (c + d) s r
   pay_more c d s t (Gives a u) h k = let i = k.1 in (k.0, omega arith)
-  pay_more c d s t (Throws p u) h k = absurd k
-  pay_more c d s t (Ejects n y u) h k = absurd k
   pay_more c d s t (Stops e u) h k = tt
+  pay_more c d s t other h k = absurd k
 
   pub pay_less : {A : Type 0} (c d : ℕ) (s : Vat Name) (r : Done Name A) → d ≤ c → PaysAt cut x c s r → PaysAt cut x d s r
   pay_less c d s (Gives a u) h k = let i = k.1 in (k.0, omega arith)
-  pay_less c d s (Throws p u) h k = absurd k
-  pay_less c d s (Ejects n y u) h k = absurd k
   pay_less c d s (Stops e u) h k = tt
+  pay_less c d s other h k = absurd k
 
   bind_at : {A B : Type 0} (c d : ℕ) (s : Vat Name) (r : Done Name A) (f : A → Act Name B) → PaysAt cut x c s r → ((a : A) → Pays cut x d (f a)) → PaysAt cut x (c + d) s (and_then r f)
   unfolding and_then
   bind_at c d s (Gives a t) f h k = pay_more c d s t (f a t) h.1 ((k a).after t h.0)
-  bind_at c d s (Throws p t) f h k = absurd h
-  bind_at c d s (Ejects n y t) f h k = absurd h
   bind_at c d s (Stops e t) f h k = tt
+  bind_at c d s other f h k = absurd h
 
   pub then_at : {A B : Type 0} (c d : ℕ) (s : Vat Name) (r : Done Name A) (m : Act Name B) → PaysAt cut x c s r → Pays cut x d m → PaysAt cut x (c + d) s (and_then r (λ _. m))
   then_at c d s r m h k = bind_at c d s r (λ _. m) h (λ _. k)
@@ -82,9 +78,8 @@ module _ (cut : ℕ → Bool) (x : Name) where
 
   led_at : {A : Type 0} (s : Vat Name) (r : Done Name A) → (AllWell s → PaysAt cut x 0 s r) → Ends Whatever (Stays cut x 0) s r
   led_at s (Gives a t) h = record { after = h }
-  led_at s (Throws p t) h = record { after = λ w. absurd (h w) }
-  led_at s (Ejects n y t) h = record { after = λ w. absurd (h w) }
   led_at s (Stops e t) h = record { any = tt }
+  led_at s other h = record { after = λ w. absurd (h w) }
 
   pub led_by_pays : {A : Type 0} (m : Act Name A) → Pays cut x 0 m → Leads Whatever (Stays cut x 0) m
   led_by_pays m h = record { after = λ s. led_at s (m s) (h.after s) }
@@ -192,11 +187,7 @@ module _ (cut : ℕ → Bool) (x : Name) where
   abbrev pub ChangeWell : Name → Change Name → Type 0
   ChangeWell n (Hold m) = HeldWell n m
   ChangeWell n (Settle y) = ⊥
-  ChangeWell n (Wait q) = Unit {0}
-  ChangeWell n (WaitOn q) = Unit {0}
-  ChangeWell n (See q) = Unit {0}
-  ChangeWell n (React m) = Unit {0}
-  ChangeWell n (ToTell w) = Unit {0}
+  ChangeWell n other = Unit {0}
 
   abbrev AtKnown : Known Name → ℕ
   AtKnown k = among x k.held + among x k.reactions
@@ -205,18 +196,15 @@ module _ (cut : ℕ → Bool) (x : Name) where
   unfolding changed_to
   to_well (Hold m) k g h = let more = among_end x k.held m in (record { name = h.name; standing = h.standing; held = each_end (HeldWell k.name) k.held m h.held g }, omega arith)
   to_well (Settle y) k g h = absurd g
-  to_well (Wait q) k g h = (record { name = h.name; standing = h.standing; held = h.held }, omega arith)
   to_well (WaitOn q) k g h = (record { name = h.name; standing = tt; held = h.held }, omega arith)
   to_well (See q) k g h = (record { name = h.name; standing = tt; held = h.held }, omega arith)
   to_well (React m) k g h = let more = among_end x k.reactions m in (record { name = h.name; standing = h.standing; held = h.held }, omega arith)
-  to_well (ToTell u) k g h = (record { name = h.name; standing = h.standing; held = h.held }, omega arith)
+  to_well other k g h = (record { name = h.name; standing = h.standing; held = h.held }, omega arith)
 
   unless_well : (t : Standing Name) (k new : Known Name) → KnownWell k → KnownWell new × (AtKnown k ≤ AtKnown new) → KnownWell (unless_settled t k new) × (AtKnown k ≤ AtKnown (unless_settled t k new))
   unfolding unless_settled
   unless_well (Settled y) k new h i = (h, omega arith)
-  unless_well Unsettled k new h i = i
-  unless_well (WaitsOn q) k new h i = i
-  unless_well (Viewed q) k new h i = i
+  unless_well other k new h i = i
 
   module _ (K : Naming Name Name) (v : ℕ) (global : Global K v) where
     pub pays_draw : Pays cut x 0 (draw K)

@@ -21,24 +21,19 @@ use Rattle.law_fate.proofs.PlacesLast.{cost_some, Global, PaysAt, Pays, pay_more
 -- a message whose target is followed to that may be put at this place
 abbrev pub Fits : Value Name → Place Name → Type 0
 Fits y (Mine n) = y ≡ Ref n
-Fits y Near = Unit {0}
-Fits y (Away h n o) = Unit {0}
-Fits y (Gone p) = Unit {0}
+Fits y other = Unit {0}
 
 -- the place of what is no promise
 abbrev pub IsEnd : Place Name → Type 0
-IsEnd Near = Unit {0}
 IsEnd (Mine n) = ⊥
-IsEnd (Away h n true) = Unit {0}
 IsEnd (Away h n false) = ⊥
-IsEnd (Gone p) = Unit {0}
+IsEnd other = Unit {0}
 
 -- the place of what is here
 abbrev pub IsHere : Place Name → Type 0
-IsHere Near = Unit {0}
 IsHere (Mine n) = ⊥
 IsHere (Away h n o) = ⊥
-IsHere (Gone p) = Unit {0}
+IsHere other = Unit {0}
 
 true_false : true ≡ false → ⊥
 true_false e = cc
@@ -52,14 +47,7 @@ module _ (K : Naming Name Name) (v : ℕ) (global : Global K v) where
   NearValue (Ref (Answer w m)) = ⊥
   NearValue (Ref (Gift w i)) = ⊥
   NearValue (Ref (Sent m)) = ⊥
-  NearValue Null = Unit {0}
-  NearValue (Flag b) = Unit {0}
-  NearValue (Number z) = Unit {0}
-  NearValue (Letter c) = Unit {0}
-  NearValue (Text t) = Unit {0}
-  NearValue (Prim p) = Unit {0}
-  NearValue (Broken p) = Unit {0}
-  NearValue (Items k) = Unit {0}
+  NearValue other = Unit {0}
 
   abbrev PassedNear : Passed Name → Type 0
   PassedNear (Plain y) = NearValue y
@@ -74,27 +62,17 @@ module _ (K : Naming Name Name) (v : ℕ) (global : Global K v) where
 
   spotted_mine : (s : Vat Name) (m n : Name) (p : Spot) → refs.spotted K s m p ≡ Mine n → m ≡ n
   unfolding refs.spotted refs.hosted
-  spotted_mine s m n (Own i) e = cc
-  spotted_mine s m n (Foreign h) e = cc
   spotted_mine s m n NoObject e = hosted_mine _ m n (s.number == refs.host_at K s.number s.known m) e
+  spotted_mine s m n other e = cc
 
   mine_is : (s : Vat Name) (y : Value Name) (n : Name) → refs.place K s y ≡ Mine n → y ≡ Ref n
   unfolding refs.place
   mine_is s (Ref m) n e = ap Ref (spotted_mine s m n (K.spot m) e)
-  mine_is s Null n e = cc
-  mine_is s (Flag b) n e = cc
-  mine_is s (Number z) n e = cc
-  mine_is s (Letter c) n e = cc
-  mine_is s (Text t) n e = cc
-  mine_is s (Prim p) n e = cc
-  mine_is s (Broken p) n e = cc
-  mine_is s (Items k) n e = cc
+  mine_is s other n e = cc
 
   pub fits_at : (s : Vat Name) (y : Value Name) (p : Place Name) → refs.place K s y ≡ p → Fits y p
   fits_at s y (Mine n) e = mine_is s y n e
-  fits_at s y Near e = tt
-  fits_at s y (Away h n o) e = tt
-  fits_at s y (Gone p) e = tt
+  fits_at s y other e = tt
 
   either_end : (s : Vat Name) (n : Name) (i h : ℕ) (b : Bool) → IsEnd (refs.spotted K s n (elim b [ true ↦ Own i | false ↦ Foreign h ]))
   unfolding refs.spotted
@@ -113,14 +91,7 @@ module _ (K : Naming Name Name) (v : ℕ) (global : Global K v) where
   end_of s (Ref (Answer w m)) h = absurd h
   end_of s (Ref (Gift w i)) h = absurd h
   end_of s (Ref (Sent m)) h = absurd h
-  end_of s Null h = tt
-  end_of s (Flag b) h = tt
-  end_of s (Number z) h = tt
-  end_of s (Letter c) h = tt
-  end_of s (Text t) h = tt
-  end_of s (Prim p) h = tt
-  end_of s (Broken p) h = tt
-  end_of s (Items k) h = tt
+  end_of s other h = tt
 
   hosted_open : (h : ℕ) (m : Name) (b : Bool) → IsEnd (elim b [ true ↦ Mine m | false ↦ Away h m false ]) → ⊥
   hosted_open h m true e = e
@@ -135,30 +106,18 @@ module _ (K : Naming Name Name) (v : ℕ) (global : Global K v) where
 
   pub of_end : (s : Vat Name) (y : Value Name) → IsEnd (refs.place K s y) → NoPromise y
   unfolding refs.place spot_of
-  of_end s (Ref (Object w i)) h = tt
   of_end s (Ref (Root w)) h = absurd (no_end s (Root w) refl h)
   of_end s (Ref (Promise w i)) h = absurd (no_end s (Promise w i) refl h)
   of_end s (Ref (Answer w m)) h = absurd (no_end s (Answer w m) refl h)
   of_end s (Ref (Gift w i)) h = absurd (no_end s (Gift w i) refl h)
   of_end s (Ref (Sent m)) h = absurd (no_end s (Sent m) refl h)
-  of_end s Null h = tt
-  of_end s (Flag b) h = tt
-  of_end s (Number z) h = tt
-  of_end s (Letter c) h = tt
-  of_end s (Text t) h = tt
-  of_end s (Prim p) h = tt
-  of_end s (Broken p) h = tt
-  of_end s (Items k) h = tt
+  of_end s other h = tt
 
   -- ---- following what settled
 
   object_or_not : (n : Name) → NamesNoObject n → NamesObject n → ⊥
   object_or_not (Object w i) h k = h
-  object_or_not (Root w) h k = k
-  object_or_not (Promise w i) h k = k
-  object_or_not (Answer w m) h k = k
-  object_or_not (Gift w i) h k = k
-  object_or_not (Sent m) h k = k
+  object_or_not other h k = k
 
   none_where : (n : Name) (k : Known Name) (o : Option (Known Name)) (b : Bool) → K.same k.name n ≡ b → NamesObject n → NamesNoObject k.name → o ≡ None → pick b (Some k) o ≡ None
   none_where n k o true e h i j = absurd (object_or_not n (subst NamesNoObject (global.alike k.name n e) i) h)
@@ -173,14 +132,7 @@ module _ (K : Naming Name Name) (v : ℕ) (global : Global K v) where
   unfolding refs.follow_at refs.led refs.standing_of refs.standing_in
   follow_last zero ks y h w = h
   follow_last (suc d) ks (Ref n) h w = subst (λ o. NoPromise (refs.led K (λ y. refs.follow_at K d ks y) n (refs.standing_in o))) (sym (none_found n ks h w)) h
-  follow_last (suc d) ks Null h w = tt
-  follow_last (suc d) ks (Flag b) h w = tt
-  follow_last (suc d) ks (Number z) h w = tt
-  follow_last (suc d) ks (Letter c) h w = tt
-  follow_last (suc d) ks (Text t) h w = tt
-  follow_last (suc d) ks (Prim p) h w = tt
-  follow_last (suc d) ks (Broken p) h w = tt
-  follow_last (suc d) ks (Items k) h w = tt
+  follow_last (suc d) ks other h w = tt
 
   by_last : (n : Name) (t : Words) (b : Bool) → NamesObject n → NoPromise (elim b [ true ↦ Broken t | false ↦ Ref n ])
   by_last n t true h = tt
@@ -195,14 +147,7 @@ module _ (K : Naming Name Name) (v : ℕ) (global : Global K v) where
   pub severed_last : (s : Vat Name) (y : Value Name) → NoPromise y → NoPromise (refs.severed K s y)
   unfolding refs.severed
   severed_last s (Ref n) h = spot_last s n (K.spot n) h
-  severed_last s Null h = tt
-  severed_last s (Flag b) h = tt
-  severed_last s (Number z) h = tt
-  severed_last s (Letter c) h = tt
-  severed_last s (Text t) h = tt
-  severed_last s (Prim p) h = tt
-  severed_last s (Broken p) h = tt
-  severed_last s (Items k) h = tt
+  severed_last s other h = tt
 
   -- a name that settled is followed to no promise
   pub settled_follow : (s : Vat Name) (p : Name) (k : Known Name) (y : Value Name) → entry_of K s.known p ≡ Some k → k.standing ≡ Settled y → NoPromise y → Each KnownWell s.known → NoPromise (refs.follow K s (Ref p))
@@ -220,13 +165,7 @@ module _ (K : Naming Name Name) (v : ℕ) (global : Global K v) where
   unfolding refs.target_of
   target_last s p (Items k) h = cut_last _ (Items k) tt
   target_last s p (Ref n) h = h
-  target_last s p Null h = tt
-  target_last s p (Flag b) h = tt
-  target_last s p (Number z) h = tt
-  target_last s p (Letter c) h = tt
-  target_last s p (Text t) h = tt
-  target_last s p (Prim n) h = tt
-  target_last s p (Broken t) h = tt
+  target_last s p other h = tt
 
   -- ---- a name that settles
 
@@ -242,9 +181,7 @@ module _ (K : Naming Name Name) (v : ℕ) (global : Global K v) where
   unless_settles : (y : Value Name) (k : Known Name) (t : Standing Name) → NoPromise y → KnownWell k → KnownWell (unless_settled t k (changed_to (Settle y) k))
   unfolding unless_settled changed_to
   unless_settles y k (Settled z) h w = w
-  unless_settles y k Unsettled h w = record { name = w.name; standing = h; held = tt }
-  unless_settles y k (WaitsOn q) h w = record { name = w.name; standing = h; held = tt }
-  unless_settles y k (Viewed q) h w = record { name = w.name; standing = h; held = tt }
+  unless_settles y k other h w = record { name = w.name; standing = h; held = tt }
 
   settled_where : (b : Bool) (y : Value Name) (k : Known Name) (ks js : List (Known Name)) → NoPromise y → KnownWell k → Each KnownWell ks → Each KnownWell js → Each KnownWell (elim b [ true ↦ changed (Settle y) k ∷ ks | false ↦ k ∷ js ])
   unfolding changed
@@ -259,9 +196,7 @@ module _ (K : Naming Name Name) (v : ℕ) (global : Global K v) where
   changed_name : (y : Value Name) (k : Known Name) (t : Standing Name) → (unless_settled t k (changed_to (Settle y) k)).name ≡ k.name
   unfolding unless_settled changed_to
   changed_name y k (Settled z) = refl
-  changed_name y k Unsettled = refl
-  changed_name y k (WaitsOn q) = refl
-  changed_name y k (Viewed q) = refl
+  changed_name y k other = refl
 
   again : (p : Name) (k j : Known Name) (o : Option (Known Name)) (b c : Bool) → b ≡ c → c ≡ true → j ≡ k → elim b [ true ↦ Some j | false ↦ o ] ≡ Some k
   again p k j o true c e i h = ap Some h
@@ -287,9 +222,7 @@ module _ (K : Naming Name Name) (v : ℕ) (global : Global K v) where
   pub settled_standing : (y : Value Name) (k : Known Name) (t : Standing Name) → Waits K t → (unless_settled t k (changed_to (Settle y) k)).standing ≡ Settled y
   unfolding unless_settled changed_to
   settled_standing y k (Settled z) h = absurd h
-  settled_standing y k Unsettled h = refl
-  settled_standing y k (WaitsOn q) h = refl
-  settled_standing y k (Viewed q) h = refl
+  settled_standing y k other h = refl
 
   -- ---- what is here: data, or an object of this vat
 
@@ -306,35 +239,17 @@ module _ (K : Naming Name Name) (v : ℕ) (global : Global K v) where
   near_severed : (s : Vat Name) (y : Value Name) → NearValue y → NearValue (refs.severed K s y)
   unfolding refs.severed
   near_severed s (Ref n) h = near_spot s n (K.spot n) h
-  near_severed s Null h = tt
-  near_severed s (Flag b) h = tt
-  near_severed s (Number z) h = tt
-  near_severed s (Letter c) h = tt
-  near_severed s (Text t) h = tt
-  near_severed s (Prim p) h = tt
-  near_severed s (Broken p) h = tt
-  near_severed s (Items k) h = tt
+  near_severed s other h = tt
 
   near_object : (n : Name) → NearValue (Ref n) → NamesObject n
   near_object (Object w i) h = tt
-  near_object (Root w) h = h
-  near_object (Promise w i) h = h
-  near_object (Answer w m) h = h
-  near_object (Gift w i) h = h
-  near_object (Sent m) h = h
+  near_object other h = h
 
   near_at : (d : ℕ) (ks : List (Known Name)) (y : Value Name) → NearValue y → Each KnownWell ks → NearValue (refs.follow_at K d ks y)
   unfolding refs.follow_at refs.led refs.standing_of refs.standing_in
   near_at zero ks y h w = h
   near_at (suc d) ks (Ref n) h w = subst (λ o. NearValue (refs.led K (λ y. refs.follow_at K d ks y) n (refs.standing_in o))) (sym (none_found n ks (near_object n h) w)) h
-  near_at (suc d) ks Null h w = tt
-  near_at (suc d) ks (Flag b) h w = tt
-  near_at (suc d) ks (Number z) h w = tt
-  near_at (suc d) ks (Letter c) h w = tt
-  near_at (suc d) ks (Text t) h w = tt
-  near_at (suc d) ks (Prim p) h w = tt
-  near_at (suc d) ks (Broken p) h w = tt
-  near_at (suc d) ks (Items k) h w = tt
+  near_at (suc d) ks other h w = tt
 
   pub near_follow : (s : Vat Name) (y : Value Name) → NearValue y → Each KnownWell s.known → NearValue (refs.follow K s y)
   unfolding refs.follow
@@ -357,14 +272,7 @@ module _ (K : Naming Name Name) (v : ℕ) (global : Global K v) where
   near_here s (Ref (Answer w m)) h = absurd h
   near_here s (Ref (Gift w i)) h = absurd h
   near_here s (Ref (Sent m)) h = absurd h
-  near_here s Null h = tt
-  near_here s (Flag b) h = tt
-  near_here s (Number z) h = tt
-  near_here s (Letter c) h = tt
-  near_here s (Text t) h = tt
-  near_here s (Prim p) h = tt
-  near_here s (Broken p) h = tt
-  near_here s (Items k) h = tt
+  near_here s other h = tt
 
   near_where : (s : Vat Name) (n : Name) (w i : ℕ) (b : Bool) → (v == w) ≡ b → IsHere (refs.spotted K s n (pick b (Own i) (Foreign w))) → w ≡ v
   unfolding refs.spotted
@@ -383,26 +291,13 @@ module _ (K : Naming Name Name) (v : ℕ) (global : Global K v) where
   here_near s (Ref (Answer w m)) l h = absurd l
   here_near s (Ref (Gift w i)) l h = absurd l
   here_near s (Ref (Sent m)) l h = absurd l
-  here_near s Null l h = tt
-  here_near s (Flag b) l h = tt
-  here_near s (Number z) l h = tt
-  here_near s (Letter c) l h = tt
-  here_near s (Text t) l h = tt
-  here_near s (Prim p) l h = tt
-  here_near s (Broken p) l h = tt
-  here_near s (Items k) l h = tt
+  here_near s other l h = tt
 
   shape_near : (f : List (Value Name) → Passed Name) (ls : List (List (Value Name))) (y : Value Name) → ((vs : List (Value Name)) → PassedNear (f vs)) → NearValue y → PassedNear (refs.shape_by K f ls y)
   unfolding refs.shape_by
   shape_near f ls (Items k) g h = g (list_at ls k)
   shape_near f ls (Ref n) g h = h
-  shape_near f ls Null g h = tt
-  shape_near f ls (Flag b) g h = tt
-  shape_near f ls (Number z) g h = tt
-  shape_near f ls (Letter c) g h = tt
-  shape_near f ls (Text t) g h = tt
-  shape_near f ls (Prim p) g h = tt
-  shape_near f ls (Broken p) g h = tt
+  shape_near f ls other g h = tt
 
   shapes_near : (d : ℕ) (s : Vat Name) (y : Value Name) → NearValue (refs.follow K s y) → PassedNear (refs.shape K d s y)
   unfolding refs.shape
@@ -418,13 +313,7 @@ module _ (K : Naming Name Name) (v : ℕ) (global : Global K v) where
   unfolding refs.parcel_at
   parcels_near s (Items k) h w = list_near s (Items k) _ (near_follow s (Items k) tt w)
   parcels_near s (Ref n) h w = h
-  parcels_near s Null h w = tt
-  parcels_near s (Flag b) h w = tt
-  parcels_near s (Number z) h w = tt
-  parcels_near s (Letter c) h w = tt
-  parcels_near s (Text t) h w = tt
-  parcels_near s (Prim p) h w = tt
-  parcels_near s (Broken p) h w = tt
+  parcels_near s other h w = tt
 
   parcel_near : (s : Vat Name) (y : Value Name) → NearValue y → Each KnownWell s.known → PassedNear (refs.parcel K s y).value
   unfolding refs.parcel
@@ -521,9 +410,8 @@ module _ (K : Naming Name Name) (v : ℕ) (global : Global K v) where
           → ((t : Vat Name) → AllWell t → entry_of K t.known p ≡ Some k → PaysAt cut x d t (rest t)) → PaysAt cut x (c + d) s (and_then r (λ _. rest))
       unfolding and_then
       loop_at c d s p k y (Gives u t) rest h stays e i f = pay_more cut x c d s t (rest t) h.1 (f t h.0 (stays p k y e i))
-      loop_at c d s p k y (Throws u t) rest h stays e i f = absurd h
-      loop_at c d s p k y (Ejects n u t) rest h stays e i f = absurd h
       loop_at c d s p k y (Stops u t) rest h stays e i f = tt
+      loop_at c d s p k y other rest h stays e i f = absurd h
 
       module _ (settled : GoodSettler (SettledStays K) settle) where
         all_sent : (p : Name) (k : Known Name) (y : Value Name) → k.standing ≡ Settled y → NoPromise y → (ms : List (Message Name)) (s : Vat Name) → Each (HeldWell p) ms → AllWell s → entry_of K s.known p ≡ Some k
@@ -543,39 +431,28 @@ module _ (K : Naming Name Name) (v : ℕ) (global : Global K v) where
     -- it gives what may stand in a note that settles
     abbrev GivesLast : Vat Name → Done Name (Passed Name) → Type 0
     GivesLast s (Gives z t) = (AllWell t × (0 + account cut x s ≤ account cut x t)) × PassedLast z
-    GivesLast s (Throws p t) = ⊥
-    GivesLast s (Ejects n y t) = ⊥
     GivesLast s (Stops e t) = Unit {0}
+    GivesLast s other = ⊥
 
     near_last : (y : Value Name) → NearValue y → NoPromise y
-    near_last (Ref (Object w i)) h = tt
     near_last (Ref (Root w)) h = h
     near_last (Ref (Promise w i)) h = h
     near_last (Ref (Answer w m)) h = h
     near_last (Ref (Gift w i)) h = h
     near_last (Ref (Sent m)) h = h
-    near_last Null h = tt
-    near_last (Flag b) h = tt
-    near_last (Number z) h = tt
-    near_last (Letter c) h = tt
-    near_last (Text t) h = tt
-    near_last (Prim p) h = tt
-    near_last (Broken p) h = tt
-    near_last (Items k) h = tt
+    near_last other h = tt
 
     address_here : (w : ℕ) (y : Value Name) (p : Place Name) (s : Vat Name) → IsHere p → NoPromise y → AllWell s → GivesLast s (refs.address_plain K w y p s)
     unfolding refs.address_plain give
-    address_here w y Near s h last well = ((well, omega arith), last)
-    address_here w y (Gone p) s h last well = ((well, omega arith), last)
     address_here w y (Mine n) s h last well = absurd h
     address_here w y (Away u n o) s h last well = absurd h
+    address_here w y other s h last well = ((well, omega arith), last)
 
     many_last : (s : Vat Name) (r : Done Name (Passeds Name)) → PaysAt cut x 0 s r → GivesLast s (and_then r (λ zs. give (Many zs)))
     unfolding and_then give
     many_last s (Gives zs t) h = (h, tt)
-    many_last s (Throws p t) h = h
-    many_last s (Ejects n y t) h = h
     many_last s (Stops e t) h = tt
+    many_last s other h = h
 
     address_last : (w : ℕ) (z : Passed Name) (s : Vat Name) → PassedNear z → AllWell s → GivesLast s (refs.address K w z s)
     unfolding refs.address ◌>>=◌ and_then look
@@ -595,9 +472,8 @@ module _ (K : Naming Name Name) (v : ℕ) (global : Global K v) where
     told_at : (p : Name) (w : ℕ) (s : Vat Name) (r : Done Name (Passed Name)) → GivesLast s r → PaysAt cut x 0 s (and_then r (λ z. send_out w (SettledTo p z)))
     unfolding and_then
     told_at p w s (Gives z t) h = let i = h.0 in pay_more cut x 0 0 s t (send_out w (SettledTo p z) t) i.1 ((pays_out cut x w (SettledTo p z) h.1).after t i.0)
-    told_at p w s (Throws q t) h = absurd h
-    told_at p w s (Ejects n y t) h = absurd h
     told_at p w s (Stops e t) h = tt
+    told_at p w s other h = absurd h
 
     here_told : (p : Name) (w : ℕ) (y : Value Name) (s : Vat Name) → NearValue y → AllWell s → PaysAt cut x 0 s (and_then (refs.pass K w y s) (λ z. send_out w (SettledTo p z)))
     here_told p w y s g well = told_at p w s (refs.pass K w y s) (pass_last w y s g well)
@@ -605,10 +481,9 @@ module _ (K : Naming Name Name) (v : ℕ) (global : Global K v) where
     inform_of_at : (p : Name) (w : ℕ) (y : Value Name) (q : Place Name) (s : Vat Name) → NoPromise y → refs.place K s y ≡ q → AllWell s → PaysAt cut x 0 s (refs.inform_of K p w y q s)
     unfolding refs.inform_of ◌>>=◌
     inform_of_at p w y (Away h n true) s last e well = (pays_out_elsewhere cut x w p h).after s well
-    inform_of_at p w y (Away h n false) s last e well = absurd (subst IsEnd e (end_of s y last))
-    inform_of_at p w y (Mine n) s last e well = absurd (subst IsEnd e (end_of s y last))
     inform_of_at p w y Near s last e well = here_told p w y s (here_near s y last (subst IsHere (sym e) tt)) well
     inform_of_at p w y (Gone t) s last e well = here_told p w y s (here_near s y last (subst IsHere (sym e) tt)) well
+    inform_of_at p w y other s last e well = absurd (subst IsEnd e (end_of s y last))
 
     unless_gone : (b : Bool) (m : Act Name (Unit {0})) (s : Vat Name) → AllWell s → PaysAt cut x 0 s (m s) → PaysAt cut x 0 s ((if b then give tt else m) s)
     unfolding give
@@ -622,9 +497,8 @@ module _ (K : Naming Name Name) (v : ℕ) (global : Global K v) where
 
     paid_at : (owed : ℕ) (s t : Vat Name) (r : Done Name (Unit {0})) → account cut x s ≤ account cut x t + owed → PaysAt cut x owed t r → PaysAt cut x 0 s r
     paid_at owed s t (Gives a u) h k = let i = k.1 in (k.0, omega arith)
-    paid_at owed s t (Throws p u) h k = absurd k
-    paid_at owed s t (Ejects n y u) h k = absurd k
     paid_at owed s t (Stops e u) h k = tt
+    paid_at owed s t other h k = absurd k
 
     module _ (settle : Name → Value Name → Act Name (Unit {0})) (good : LastSettler settle) (settled : GoodSettler (SettledStays K) settle) where
       frees_at : (p : Name) (y : Value Name) (k : Known Name) (s : Vat Name) → entry_of K s.known p ≡ Some k → Waits K k.standing
@@ -665,9 +539,7 @@ module _ (K : Naming Name Name) (v : ℕ) (global : Global K v) where
       settles_standing : (p : Name) (y : Value Name) (k : Known Name) (s : Vat Name) → entry_of K s.known p ≡ Some k → (t : Standing Name) → k.standing ≡ t → NoPromise y → AllWell s → PaysAt cut x 0 s (refs.settle_standing K settle p y k t s)
       unfolding refs.settle_standing give
       settles_standing p y k s e (Settled z) i last w = (w, omega arith)
-      settles_standing p y k s e Unsettled i last w = settles_known p y k s e (rw i tt) last w
-      settles_standing p y k s e (WaitsOn q) i last w = settles_known p y k s e (rw i tt) last w
-      settles_standing p y k s e (Viewed q) i last w = settles_known p y k s e (rw i tt) last w
+      settles_standing p y k s e other i last w = settles_known p y k s e (rw i tt) last w
 
       settles_entry : (p : Name) (y : Value Name) (s : Vat Name) (o : Option (Known Name)) → entry_of K s.known p ≡ o → NoPromise y → AllWell s → PaysAt cut x 0 s (refs.settle_entry K settle p y o s)
       unfolding refs.settle_entry give
@@ -699,9 +571,7 @@ module _ (K : Naming Name Name) (v : ℕ) (global : Global K v) where
     unfolding refs.resolve_to
     pays_resolve_to p y (Mine q) h = pays_wait_unless_cycle p q
     pays_resolve_to p y (Away u q false) h = pays_wait_unless_cycle p q
-    pays_resolve_to p y (Away u q true) h = pays_settle p y (h tt)
-    pays_resolve_to p y Near h = pays_settle p y (h tt)
-    pays_resolve_to p y (Gone t) h = pays_settle p y (h tt)
+    pays_resolve_to p y other h = pays_settle p y (h tt)
 
     pub pays_resolve : (p : Name) (y : Value Name) → Pays cut x 0 (refs.resolve K p y)
     unfolding refs.resolve ◌>>=◌ and_then look
@@ -720,9 +590,7 @@ module _ (K : Naming Name Name) (v : ℕ) (global : Global K v) where
     unfolding refs.react_at
     pays_react_at m (Mine n) = pays_react cut x K v global m n
     pays_react_at m (Away h n false) = pays_react cut x K v global m n
-    pays_react_at m (Away h n true) = pays_enqueue cut x m
-    pays_react_at m Near = pays_enqueue cut x m
-    pays_react_at m (Gone p) = pays_enqueue cut x m
+    pays_react_at m other = pays_enqueue cut x m
 
     pub new_named : (n k : ℕ) → NamesMessage (K.mailed (IsSent n) k)
     unfolding mail_of
@@ -734,9 +602,8 @@ module _ (K : Naming Name Name) (v : ℕ) (global : Global K v) where
 
     new_pays : (c : ℕ) (s t : Vat Name) (r : Done Name (Value Name)) → account cut x s ≤ account cut x t → PaysAt cut x c t r → PaysAt cut x c s r
     new_pays c s t (Gives a u) h k = let i = k.1 in (k.0, omega arith)
-    new_pays c s t (Throws p u) h k = absurd k
-    new_pays c s t (Ejects n y u) h k = absurd k
     new_pays c s t (Stops e u) h k = tt
+    new_pays c s t other h k = absurd k
 
     -- a message that is numbered and told, with its answer
     pub new_at : (c : ℕ) (s : Vat Name) (h : ℕ) (id : Name) (k : ℕ) (e : Happened Name) (r : Done Name (Value Name)) → NamesMessage id → AllWell s

@@ -68,10 +68,8 @@ module _ (cut : ℕ → Bool) (x : Name) where
     step_lasts (Notices w) g = led_by_pays cut x _ (pays_notice cut x K v global w)
 
   lasts_after : (s : Vat Name) (d : Done Name (Unit {0})) → AllWell s → Ends Whatever (Stays cut x 0) s d → PlacesLast cut x s d
-  lasts_after s (Gives a t) w h = let k = h.after w in let i = k.1 in (k.0, omega arith)
-  lasts_after s (Throws p t) w h = let k = h.after w in let i = k.1 in (k.0, omega arith)
-  lasts_after s (Ejects n y t) w h = let k = h.after w in let i = k.1 in (k.0, omega arith)
   lasts_after s (Stops e t) w h = tt
+  lasts_after s other w h = let k = h.after w in let i = k.1 in (k.0, omega arith)
 
 -- ---- global names
 

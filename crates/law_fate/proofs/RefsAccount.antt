@@ -107,9 +107,7 @@ module _ (cut : ℕ → Bool) (v : ℕ) (x : Name) where
       settled_standing : (p : Name) (y : Value Name) (k : Known Name) (s : Vat Name) → entry_of K s.known p ≡ Some k → (t : Standing Name) → k.standing ≡ t → After (Accounted cut v x 0) s (refs.settle_standing K settle p y k t s)
       unfolding refs.settle_standing give
       settled_standing p y k s e (Settled z) i = (spared cut v x).same s
-      settled_standing p y k s e Unsettled i = settled_known p y k s e (rw i tt)
-      settled_standing p y k s e (WaitsOn q) i = settled_known p y k s e (rw i tt)
-      settled_standing p y k s e (Viewed q) i = settled_known p y k s e (rw i tt)
+      settled_standing p y k s e other i = settled_known p y k s e (rw i tt)
 
       settled_entry : (p : Name) (y : Value Name) (s : Vat Name) (o : Option (Known Name)) → entry_of K s.known p ≡ o → After (Accounted cut v x 0) s (refs.settle_entry K settle p y o s)
       unfolding refs.settle_entry give
@@ -156,9 +154,7 @@ module _ (cut : ℕ → Bool) (v : ℕ) (x : Name) where
     unfolding refs.react_at
     costs_react_at m (Mine n) = costs_react cut v x K m n
     costs_react_at m (Away h n false) = costs_react cut v x K m n
-    costs_react_at m (Away h n true) = costs_enqueue cut v x m
-    costs_react_at m Near = costs_enqueue cut v x m
-    costs_react_at m (Gone p) = costs_enqueue cut v x m
+    costs_react_at m other = costs_enqueue cut v x m
 
     module _ (sent : (n k : ℕ) → K.mailed (IsSent n) k ≡ Sent (record { sender = v; number = n })) where
       -- a message that is numbered and sent, and not placed yet

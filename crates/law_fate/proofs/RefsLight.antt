@@ -26,42 +26,33 @@ true_false e = cc
 
 -- what a send to such a place adds to the weight
 unfoldable pub ride : Place Name → ℕ → ℕ
-ride Near c = 0
 ride (Mine n) c = c
 ride (Away h n o) c = fare n c
-ride (Gone p) c = 0
+ride other c = 0
 
 fare_most : (n : Name) (c : ℕ) → fare n c ≤ c + c
 unfolding fare
 fare_most (Object w i) c = omega arith
-fare_most (Root w) c = omega arith
-fare_most (Promise w i) c = omega arith
-fare_most (Answer w m) c = omega arith
-fare_most (Gift w i) c = omega arith
-fare_most (Sent m) c = omega arith
+fare_most other c = omega arith
 
 pub ride_most : (p : Place Name) (c : ℕ) → ride p c ≤ c + c
 unfolding ride
-ride_most Near c = omega arith
-ride_most (Mine n) c = omega arith
 ride_most (Away h n o) c = fare_most n c
-ride_most (Gone p) c = omega arith
+ride_most other c = omega arith
 
 -- what is here goes nowhere
 pub here_rides : (p : Place Name) (c : ℕ) → IsHere p → ride p c ≤ 0
 unfolding ride
-here_rides Near c h = omega arith
 here_rides (Mine n) c h = absurd h
 here_rides (Away u n o) c h = absurd h
-here_rides (Gone p) c h = omega arith
+here_rides other c h = omega arith
 
 module _ (K : Naming Name Name) (v : ℕ) (global : Global K v) where
   -- what goes to another vat goes to its host, and a name of v itself has v as its host
   abbrev pub PlaceSound : List (Known Name) → Place Name → Type 0
-  PlaceSound ks Near = Unit {0}
   PlaceSound ks (Mine n) = host_in v (entry_of K ks n) ≡ v
   PlaceSound ks (Away h n o) = host_of n ≡ h
-  PlaceSound ks (Gone p) = Unit {0}
+  PlaceSound ks other = Unit {0}
 
   either_sound : (ks : List (Known Name)) (s : Vat Name) (w i : ℕ) (b : Bool) → PlaceSound ks (refs.spotted K s (Object w i) (pick b (Own i) (Foreign w)))
   unfolding refs.spotted host_of
@@ -94,14 +85,7 @@ module _ (K : Naming Name Name) (v : ℕ) (global : Global K v) where
   place_sound s (Ref (Answer u m)) w = by_spot s (Answer u m) refl w
   place_sound s (Ref (Gift u i)) w = by_spot s (Gift u i) refl w
   place_sound s (Ref (Sent m)) w = by_spot s (Sent m) refl w
-  place_sound s Null w = tt
-  place_sound s (Flag b) w = tt
-  place_sound s (Number z) w = tt
-  place_sound s (Letter c) w = tt
-  place_sound s (Text t) w = tt
-  place_sound s (Prim p) w = tt
-  place_sound s (Broken p) w = tt
-  place_sound s (Items k) w = tt
+  place_sound s other w = tt
 
   -- ---- what is no promise goes once at most
 
@@ -122,14 +106,7 @@ module _ (K : Naming Name Name) (v : ℕ) (global : Global K v) where
   end_rides s (Ref (Answer w m)) c h = absurd h
   end_rides s (Ref (Gift w i)) c h = absurd h
   end_rides s (Ref (Sent m)) c h = absurd h
-  end_rides s Null c h = omega arith
-  end_rides s (Flag b) c h = omega arith
-  end_rides s (Number z) c h = omega arith
-  end_rides s (Letter l) c h = omega arith
-  end_rides s (Text t) c h = omega arith
-  end_rides s (Prim p) c h = omega arith
-  end_rides s (Broken p) c h = omega arith
-  end_rides s (Items k) c h = omega arith
+  end_rides s other c h = omega arith
 
   -- ---- acts
 
@@ -146,8 +123,7 @@ module _ (K : Naming Name Name) (v : ℕ) (global : Global K v) where
     unfolding refs.address_plain ◌>>◌ give
     address_at w y (Away h n o) s g k = (away_addressed w y h n o).after s k
     address_at w y (Mine n) s g k = then_at v x 0 s (alter K (ToTell w) n s) _ (tell_at v x K global w n s g k) (light_give v x (Plain y))
-    address_at w y Near s g k = unmoved v x s k
-    address_at w y (Gone p) s g k = unmoved v x s k
+    address_at w y other s g k = unmoved v x s k
 
     light_placed : (w : ℕ) (y : Value Name) → Light v x 0 (look (λ s. refs.place K s y) >>= (λ p. refs.address_plain K w y p))
     unfolding ◌>>=◌ and_then look
@@ -214,9 +190,8 @@ module _ (K : Naming Name Name) (v : ℕ) (global : Global K v) where
           → ((t : Vat Name) → Sound v t → entry_of K t.known p ≡ Some k → LightAt v x d t (rest t)) → LightAt v x (c + d) s (and_then r (λ _. rest))
       unfolding and_then
       loop_at c d s p k (Gives u t) rest h stays y e i f = light_on v x c d s t (rest t) h (f t h.sound (stays p k y e i))
-      loop_at c d s p k (Throws u t) rest h stays y e i f = absurd h
-      loop_at c d s p k (Ejects n u t) rest h stays y e i f = absurd h
       loop_at c d s p k (Stops u t) rest h stays y e i f = tt
+      loop_at c d s p k other rest h stays y e i f = absurd h
 
       module _ (settled : GoodSettler (SettledStays K) settle) where
         all_sent : (p : Name) (k : Known Name) (y : Value Name) → k.standing ≡ Settled y → NoPromise y → (ms : List (Message Name)) (s : Vat Name) → Each (HeldWell p) ms → Sound v s → entry_of K s.known p ≡ Some k
@@ -234,10 +209,7 @@ module _ (K : Naming Name Name) (v : ℕ) (global : Global K v) where
     light_inform_of : (p : Name) (w : ℕ) (y : Value Name) (q : Place Name) → host_of p ≡ v → Light v x 0 (refs.inform_of K p w y q)
     unfolding refs.inform_of
     light_inform_of p w y (Away h n true) e = light_out_elsewhere v x w p h e
-    light_inform_of p w y (Away h n false) e = told_settled p w y e
-    light_inform_of p w y (Mine n) e = told_settled p w y e
-    light_inform_of p w y Near e = told_settled p w y e
-    light_inform_of p w y (Gone t) e = told_settled p w y e
+    light_inform_of p w y other e = told_settled p w y e
 
     pub light_inform : (p : Name) (w : ℕ) → host_of p ≡ v → Light v x 0 (refs.inform K p w)
     unfolding refs.inform
@@ -253,9 +225,7 @@ module _ (K : Naming Name Name) (v : ℕ) (global : Global K v) where
     settled_holds : (y : Value Name) (k : Known Name) (t : Standing Name) → Waits K t → among x (unless_settled t k (changed_to (Settle y) k)).held ≡ 0
     unfolding unless_settled changed_to among
     settled_holds y k (Settled z) h = absurd h
-    settled_holds y k Unsettled h = refl
-    settled_holds y k (WaitsOn q) h = refl
-    settled_holds y k (Viewed q) h = refl
+    settled_holds y k other h = refl
 
     frees_where : (k j : Known Name) (y : Value Name) (ks js : List (Known Name)) (o : Option (Known Name)) (b : Bool) → elim b [ true ↦ Some j | false ↦ o ] ≡ Some k → Waits K k.standing
         → (o ≡ Some k → held_at x js + among x k.held ≡ held_at x ks)
@@ -272,9 +242,8 @@ module _ (K : Naming Name Name) (v : ℕ) (global : Global K v) where
 
     freed_at : (c : ℕ) (s t : Vat Name) (r : Done Name (Unit {0})) → load x t + c ≤ load x s → sent_in x s.happened ≤ sent_in x t.happened → LightAt v x c t r → LightAt v x 0 s r
     freed_at c s t (Gives u z) h g k = let i = k.kept in record { sound = k.sound; kept = omega arith }
-    freed_at c s t (Throws q z) h g k = absurd k
-    freed_at c s t (Ejects n y z) h g k = absurd k
     freed_at c s t (Stops e z) h g k = tt
+    freed_at c s t other h g k = absurd k
 
     module _ (settle : Name → Value Name → Act Name (Unit {0})) (good : LightSettler settle) (settled : GoodSettler (SettledStays K) settle) where
       -- once it has settled: its held messages, the names that wait, its reactions and those who are to be told
@@ -305,9 +274,7 @@ module _ (K : Naming Name Name) (v : ℕ) (global : Global K v) where
       settles_standing : (p : Name) (y : Value Name) (k : Known Name) (s : Vat Name) → entry_of K s.known p ≡ Some k → (t : Standing Name) → k.standing ≡ t → NoPromise y → Sound v s → LightAt v x 0 s (refs.settle_standing K settle p y k t s)
       unfolding refs.settle_standing give
       settles_standing p y k s e (Settled z) i last w = unmoved v x s w
-      settles_standing p y k s e Unsettled i last w = settles_known p y k s e (rw i tt) last w
-      settles_standing p y k s e (WaitsOn q) i last w = settles_known p y k s e (rw i tt) last w
-      settles_standing p y k s e (Viewed q) i last w = settles_known p y k s e (rw i tt) last w
+      settles_standing p y k s e other i last w = settles_known p y k s e (rw i tt) last w
 
       settles_entry : (p : Name) (y : Value Name) (s : Vat Name) (o : Option (Known Name)) → entry_of K s.known p ≡ o → NoPromise y → Sound v s → LightAt v x 0 s (refs.settle_entry K settle p y o s)
       unfolding refs.settle_entry give
@@ -339,9 +306,7 @@ module _ (K : Naming Name Name) (v : ℕ) (global : Global K v) where
     unfolding refs.resolve_to
     light_resolve_to p y (Mine q) h = light_wait_unless_cycle p q
     light_resolve_to p y (Away u q false) h = light_wait_unless_cycle p q
-    light_resolve_to p y (Away u q true) h = light_settle p y (h tt)
-    light_resolve_to p y Near h = light_settle p y (h tt)
-    light_resolve_to p y (Gone t) h = light_settle p y (h tt)
+    light_resolve_to p y other h = light_settle p y (h tt)
 
     pub light_resolve : (p : Name) (y : Value Name) → Light v x 0 (refs.resolve K p y)
     unfolding refs.resolve ◌>>=◌ and_then look
@@ -373,18 +338,15 @@ module _ (K : Naming Name Name) (v : ℕ) (global : Global K v) where
 
     place_later : (s : Vat Name) (a : Name) (p : Place Name) → s.number ≡ v → PlaceSound s.known p → PlaceSound (s.known ++ begun a (refs.answer_host K s.number p) ∷ []) p
     unfolding refs.answer_host
-    place_later s a Near e g = tt
     place_later s a (Mine n) e g = host_later n a s.number e s.known g
     place_later s a (Away h n o) e g = g
-    place_later s a (Gone p) e g = tt
+    place_later s a other e g = tt
 
     light_react_at : (m : Message Name) (p : Place Name) → Light v x 0 (refs.react_at K m p)
     unfolding refs.react_at
     light_react_at m (Mine n) = light_react v x K global m n
     light_react_at m (Away h n false) = light_react v x K global m n
-    light_react_at m (Away h n true) = light_enqueue v x m
-    light_react_at m Near = light_enqueue v x m
-    light_react_at m (Gone p) = light_enqueue v x m
+    light_react_at m other = light_enqueue v x m
 
     new_answer : (h k : ℕ) (id : Name) → NamesMessage id → NamesNoObject (K.made (IsAnswer h id) k) × (h ≡ host_of (K.made (IsAnswer h id) k))
     unfolding name_of answer_of host_of
@@ -392,9 +354,8 @@ module _ (K : Naming Name Name) (v : ℕ) (global : Global K v) where
 
     paid_at : (s t : Vat Name) (c d : ℕ) (r : Done Name (Value Name)) → load x t ≡ load x s → sent_in x t.happened ≡ sent_in x s.happened + c → d ≤ c + c → LightAt v x d t r → LightAt v x 0 s r
     paid_at s t c d (Gives u z) h g i k = let j = k.kept in record { sound = k.sound; kept = omega arith }
-    paid_at s t c d (Throws q z) h g i k = absurd k
-    paid_at s t c d (Ejects n y z) h g i k = absurd k
     paid_at s t c d (Stops e z) h g i k = tt
+    paid_at s t c d other h g i k = absurd k
 
     -- a message that is numbered and told, with its answer
     new_at : (d : ℕ) (s : Vat Name) (h : ℕ) (id : Name) (k : ℕ) (e : Happened Name) (r : Done Name (Value Name)) → NamesMessage id → sent_here x e ≡ one id x → d ≤ one id x + one id x → Sound v s

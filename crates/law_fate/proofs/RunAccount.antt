@@ -69,9 +69,7 @@ module _ (x : Name) where
       → After (Accounted (λ to. world.is_cut v to w.links) v x came) (world.readied w q) d → Reached (Fated x) (world.put_back v w head n d)
   unfolding world.put_back world.readied
   put_back_fated v w head n came s q (Gives u t) e h k m p a = stepped v w head came s q t e h k m p a
-  put_back_fated v w head n came s q (Throws u t) e h k m p a = k
-  put_back_fated v w head n came s q (Ejects i u t) e h k m p a = k
-  put_back_fated v w head n came s q (Stops c t) e h k m p a = k
+  put_back_fated v w head n came s q other e h k m p a = k
 
   -- a vat in its own place
   in_place : (came v : ℕ) (w : World) (s : Vat Name) → slice_get w.vats v ≡ Some s → Holds x came w → Holds x came (record w { vats = world.put_at v s w.vats })
@@ -96,11 +94,7 @@ module _ (x : Name) where
   pub note_brings : (ks : List Name) (n : Note Name) → in_note (coming x) (read_note ks n) ≡ of_note x n
   unfolding read_note in_note coming of_note
   note_brings ks (Deliver m n verb ys) = refl
-  note_brings ks (Open i n) = refl
-  note_brings ks (Ask p i n) = refl
-  note_brings ks (SettledTo n y) = refl
-  note_brings ks (Elsewhere n c) = refl
-  note_brings ks (Shorten n c i) = refl
+  note_brings ks other = refl
 
   plain_one : (e : Event) → sent_by x e ≡ 0 → took_by x e ≡ 0 → lost_by x e ≡ 0 → left_by x e ≡ 0 → Plain x (e ∷ [])
   unfolding total

@@ -61,9 +61,7 @@ module _ (x : Name) where
       → AfterLightened v x c (world.readied w q) d → Reached (Borne x 0) (world.put_back v w head n d)
   unfolding world.put_back
   put_back_borne v w head n c hand s q (Gives u t) e h less pays a = stepped v w head c hand s q t e h less pays a
-  put_back_borne v w head n c hand s q (Throws u t) e h less pays a = more_hand hand 0 w (omega arith) h
-  put_back_borne v w head n c hand s q (Ejects i u t) e h less pays a = more_hand hand 0 w (omega arith) h
-  put_back_borne v w head n c hand s q (Stops u t) e h less pays a = more_hand hand 0 w (omega arith) h
+  put_back_borne v w head n c hand s q other e h less pays a = more_hand hand 0 w (omega arith) h
 
   -- the first note of a link in hand
   from_link : (v to : ℕ) (w : World) (l : Link) (n : Note Name) (ns : List (Note Name)) → world.link_at v to w.links ≡ Some l → l.notes ≡ n ∷ ns → Each (NoteSound v to) (n ∷ ns) → Borne x 0 w

@@ -34,14 +34,7 @@ read_comes (Sent m) ks = either_comes (Sent m) _ (world.has_name ks (Sent m)) tt
 value_comes : (y : Value Name) (ks : List Name) → ValueComes (world.read_value ks y).read
 unfolding world.read_value
 value_comes (Ref n) ks = read_comes n ks
-value_comes Null ks = tt
-value_comes (Flag b) ks = tt
-value_comes (Number z) ks = tt
-value_comes (Letter c) ks = tt
-value_comes (Text t) ks = tt
-value_comes (Prim n) ks = tt
-value_comes (Broken p) ks = tt
-value_comes (Items k) ks = tt
+value_comes other ks = tt
 
 mutual
   unfolding world.read_passed world.read_all world.plain_read world.many_read world.more_read
@@ -57,20 +50,12 @@ mutual
 
 value_settles : (y : Value Name) (ks : List Name) → NoPromise y → ValueSettles (world.read_value ks y).read
 unfolding world.read_value world.read_name world.is_old
-value_settles (Ref (Object w i)) ks h = tt
 value_settles (Ref (Root w)) ks h = absurd h
 value_settles (Ref (Promise w i)) ks h = absurd h
 value_settles (Ref (Answer w m)) ks h = absurd h
 value_settles (Ref (Gift w i)) ks h = absurd h
 value_settles (Ref (Sent m)) ks h = absurd h
-value_settles Null ks h = tt
-value_settles (Flag b) ks h = tt
-value_settles (Number z) ks h = tt
-value_settles (Letter c) ks h = tt
-value_settles (Text t) ks h = tt
-value_settles (Prim n) ks h = tt
-value_settles (Broken p) ks h = tt
-value_settles (Items k) ks h = tt
+value_settles other ks h = tt
 
 passed_settles : (y : Passed Name) (ks : List Name) → PassedLast y → PassedSettles (world.read_passed y ks).read
 unfolding world.read_passed world.plain_read world.many_read
@@ -144,8 +129,7 @@ put_back_well v w head n s (Gives u t) h p = let well = p.0 in record {
   links = push_all_well v t.outbox w.links well.1 h.links;
 }
 put_back_well v w head n s (Throws t u) h p = h
-put_back_well v w head n s (Ejects i t u) h p = h
-put_back_well v w head n s (Stops c t) h p = h
+put_back_well v w head n s other h p = h
 
 module _ (script : Script) where
   within_well : (v : ℕ) (w : World) (head : List Event) (n : ℕ) (what : Step Name Name) (q : Vat Name) → WorldWell w → Each KnownWell q.known → StepComes what → Reached WorldWell (world.within v w head n (does (names script v) what) (Some q))

@@ -82,9 +82,7 @@ module _ (script : Script) (x : Name) where
       → Found (λ to. world.is_cut v to w.links) x came (readied w q) d → PutsToVats count v d → world.put_back v w head n d ≡ Goes y → Kept 0 y
   unfolding world.put_back
   put_back_kept v w y head n came s q (Gives u t) e h p f g i = moved (record { fuel = t.fuel; drawn = t.drawn; vats = world.put_at v t w.vats; links = world.push_all v t.outbox w.links; connections = world.connections_after v t head w.connections; history = (w.history ++ head) ++ world.events_of w.links v t.happened }) y (stepped v w head came s q t e h p f g) i
-  put_back_kept v w y head n came s q (Throws u t) e h p f g i = cc
-  put_back_kept v w y head n came s q (Ejects k u t) e h p f g i = cc
-  put_back_kept v w y head n came s q (Stops c t) e h p f g i = cc
+  put_back_kept v w y head n came s q other e h p f g i = cc
 
   within_kept : (v : ℕ) (w y : World) (head : List Event) (n came : ℕ) (what : Step Name Name) (s q : Vat Name) → slice_get w.vats v ≡ Some s → Kept came (record w { vats = world.put_at v q w.vats }) → total (sent_by x) head ≡ 0
       → Found (λ to. world.is_cut v to w.links) x came (readied w q) (does (names script v) what (readied w q)) → PutsToVats count v (does (names script v) what (readied w q)) → world.within v w head n (does (names script v) what) (Some q) ≡ Goes y → Kept 0 y

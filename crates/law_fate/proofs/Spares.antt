@@ -41,16 +41,12 @@ pub record IsSparedUnder {N W : Type 0} (K : Naming N W) (R : Vat N → Vat N �
 module _ {N : Type 0} (R : Vat N → Vat N → Type 0) (law : IsSpared R) where
   pub widen : {A : Type 0} {s t : Vat N} → R s t → (d : Done N A) → After R t d → After R s d
   widen r (Gives a u) h = law.trans r h
-  widen r (Throws p u) h = law.trans r h
-  widen r (Ejects n v u) h = law.trans r h
-  widen r (Stops c u) h = law.trans r h
+  widen r other h = law.trans r h
 
   bind_after : {A B : Type 0} (s : Vat N) (d : Done N A) (f : A → Act N B) → After R s d → ((a : A) → Keeps R (f a)) → After R s (and_then d f)
   unfolding and_then
   bind_after s (Gives a t) f h k = widen h (f a t) ((k a).after t)
-  bind_after s (Throws p t) f h k = h
-  bind_after s (Ejects n v t) f h k = h
-  bind_after s (Stops c t) f h k = h
+  bind_after s other f h k = h
 
   pub keeps_bind : {A B : Type 0} {m : Act N A} {f : A → Act N B} → Keeps R m → ((a : A) → Keeps R (f a)) → Keeps R (m >>= f)
   unfolding ◌>>=◌

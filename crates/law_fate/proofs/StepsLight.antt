@@ -64,16 +64,13 @@ module _ (v : ℕ) (x : Name) where
         (leads_closes K Whatever (Moves v x) led under tree a m.answer _ (leads_turn_value K Whatever (Moves v x) led under tree (eval.evaluator K tree depth) (good_evaluator K Whatever (Moves v x) led under tree depth) a m.target m.verb m.args)))
 
     moved : (s : Vat Name) (d : Done Name (Unit {0})) → Sound v s → Ends Whatever (Moves v x) s d → AfterLightened v x 0 s d
-    moved s (Gives a t) w h = h.after w
-    moved s (Throws p t) w h = h.after w
-    moved s (Ejects n y t) w h = h.after w
     moved s (Stops e t) w h = tt
+    moved s other w h = h.after w
 
     lightened : (c : ℕ) (s : Vat Name) (d : Done Name (Unit {0})) → LightAt v x c s d → AfterLightened v x c s d
     lightened c s (Gives a t) h = h
-    lightened c s (Throws p t) h = absurd h
-    lightened c s (Ejects n y t) h = absurd h
     lightened c s (Stops e t) h = tt
+    lightened c s other h = absurd h
 
     step_lightens : (step : Step Name Name) (s : Vat Name) → Sound v s → StepComes step → StepArrives v step → AfterLightened v x (leaves x step) s (does K step s)
     unfolding does leaves

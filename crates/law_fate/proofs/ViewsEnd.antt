@@ -45,9 +45,7 @@ module _ (K : Naming Name Name) (alike : (a b : Name) → K.same a b ≡ true �
 
   view_ends : (d : ℕ) (all : List (Known Name)) (before later : List Name) (t : Standing Name) → LooksOn before later t → ((q : Name) → (IsAmong q before → ⊥) → IsAmong q later → ViewsEndIn K d all q × finding.IsAmong K all q) → ViewIs K (ViewsEndIn K d all) all t
   view_ends d all before later (Viewed q) h f = f q h.0 h.1
-  view_ends d all before later Unsettled h f = tt
-  view_ends d all before later (WaitsOn q) h f = tt
-  view_ends d all before later (Settled y) h f = tt
+  view_ends d all before later other h f = tt
 
   among_later : (front : List (Known Name)) (q : Name) (ks : List (Known Name)) → IsAmong q (names_in ks) → IsAmong q (names_in (front ++ ks))
   among_later [] q ks h = h

@@ -34,17 +34,15 @@ module _ (M : Marked) (vats : List (Vat Name)) (v : ℕ) (q : Vat Name) (there :
       → ((a : A) (t : Vat Name) → Grew false M vats v q there here word us d0 s t → Quiet t → Knows false M vats v q there here word us d0 ks t → Holds (Good false M vats v q there here word us d0 t) (G a) → AllWell t → PaysAt cut x c t (f a t)) → PaysAt cut x c s (and_then d f)
   unfolding and_then
   learned_pays ks G c s (Gives a t) f h p k = pay_less cut x (0 + c) c s (f a t) (omega arith) (pay_more cut x 0 c s t (f a t) p.1 (k a t h.0 h.1 h.2 h.3 p.0))
-  learned_pays ks G c s (Throws e t) f h p k = absurd p
-  learned_pays ks G c s (Ejects n y t) f h p k = absurd p
   learned_pays ks G c s (Stops e t) f h p k = tt
+  learned_pays ks G c s other f h p k = absurd p
 
   ends_pays : {A B : Type 0} (G : A → Fact Name) (c : ℕ) (s : Vat Name) (d : Done Name A) (f : A → Act Name B) → Ends (F M vats v q there here word) G s d → PaysAt cut x 0 s d
       → ((a : A) (t : Vat Name) → Grew false M vats v q there here word us d0 s t → Quiet t → Holds (Good false M vats v q there here word us d0 t) (G a) → AllWell t → PaysAt cut x c t (f a t)) → PaysAt cut x c s (and_then d f)
   unfolding and_then
   ends_pays G c s (Gives a t) f h p k = pay_less cut x (0 + c) c s (f a t) (omega arith) (pay_more cut x 0 c s t (f a t) p.1 (k a t (grew false M vats v q there here word us d0 s t h.0) h.1 h.2 p.0))
-  ends_pays G c s (Throws e t) f h p k = absurd p
-  ends_pays G c s (Ejects n y t) f h p k = absurd p
   ends_pays G c s (Stops e t) f h p k = tt
+  ends_pays G c s other f h p k = absurd p
 
   up : (s t : Vat Name) → Grew false M vats v q there here word us d0 s t → (C : Fact Name) → Holds (Good false M vats v q there here word us d0 s) C → Holds (Good false M vats v q there here word us d0 t) C
   up s t r C h = rise false M vats v q there here word us d0 s t r C h

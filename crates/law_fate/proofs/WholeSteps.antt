@@ -12,6 +12,7 @@ use Rattle.def_run.specs.World.{Script, Program, World, names, names_of, read_no
 use Rattle.law_name.specs.Names.{PutOk, GoesOk, Bit, Named, AllOf, IsAmong, MessageOk, NoteOk, names_in, Parts}
 use Rattle.law_name.proofs.Facts.{all_map, Also, IsName, IsMessage, AreNouns, Nothing, nothing, Holds, message_up, nouns_up}
 use Rattle.law_name.proofs.Care.{Care, Sound, Ends, fine_activation, fine_tell}
+use Rattle.law_name.proofs.Serves.{closing_some}
 use Rattle.law_name.proofs.CareEval.{fine_opening, fine_turn}
 use Rattle.law_name.proofs.CareArrive.{fine_notice}
 use Rattle.law_name.proofs.Tracked.{Ok}
@@ -28,33 +29,25 @@ use Rattle.law_fate.proofs.PlacesSteps.{steps_keep_places}
 use Rattle.law_fate.proofs.RunWell.{note_comes}
 use Rattle.law_fate.specs.Steps.{Found}
 use Rattle.law_fate.specs.WholeFateRuns.{KnowsVats, GoesToVat, PutsToVats}
-use Rattle.law_fate.proofs.Places.{T, F, Unnumbered, SentAt, sent_none, under, quiet_under, quiet_sound, unnumbered, whole, whole_sound, whole_serves}
+use Rattle.law_fate.proofs.Places.{T, F, Unnumbered, SentAt, sent_none, under, quiet_under, quiet_sound, unnumbered, whole, whole_sound, whole_serves, whole_closing}
 use Rattle.law_fate.proofs.WholeArrive.{deliver_finds}
 
 -- at least so many more are placed
 abbrev Least : (ℕ → Bool) → Name → ℕ → Vat Name → Done Name (Unit {0}) → Type 0
 Least cut x c s (Gives a t) = account cut x s + c ≤ account cut x t
-Least cut x c s (Throws p t) = Unit {0}
-Least cut x c s (Ejects n y t) = Unit {0}
-Least cut x c s (Stops e t) = Unit {0}
+Least cut x c s other = Unit {0}
 
 least_last : (cut : ℕ → Bool) (x : Name) (s : Vat Name) (d : Done Name (Unit {0})) → PlacesLast cut x s d → Least cut x 0 s d
 least_last cut x s (Gives a t) h = let i = h.1 in omega arith
-least_last cut x s (Throws p t) h = tt
-least_last cut x s (Ejects n y t) h = tt
-least_last cut x s (Stops e t) h = tt
+least_last cut x s other h = tt
 
 least_pays : (cut : ℕ → Bool) (x : Name) (c : ℕ) (s : Vat Name) (d : Done Name (Unit {0})) → PaysAt cut x c s d → Least cut x c s d
 least_pays cut x c s (Gives a t) h = let i = h.1 in omega arith
-least_pays cut x c s (Throws p t) h = tt
-least_pays cut x c s (Ejects n y t) h = tt
-least_pays cut x c s (Stops e t) h = tt
+least_pays cut x c s other h = tt
 
 least_found : (cut : ℕ → Bool) (x : Name) (c : ℕ) (s : Vat Name) (d : Done Name (Unit {0})) → sent_in x s.happened ≡ 0 → Least cut x c s d → SentAt x 0 s d → Found cut x c s d
 least_found cut x c s (Gives a t) e h n = omega arith
-least_found cut x c s (Throws p t) e h n = tt
-least_found cut x c s (Ejects k y t) e h n = tt
-least_found cut x c s (Stops r t) e h n = tt
+least_found cut x c s other e h n = tt
 
 module _ (script : Script) (w : World) (h : Stands script w) (wl : WorldWell w) (v : ℕ) (s : Vat Name) (there : slice_get w.vats v ≡ Some s) (cut : ℕ → Bool) (x : Name) where
   abbrev word : ℕ → ℕ
@@ -75,9 +68,7 @@ module _ (script : Script) (w : World) (h : Stands script w) (wl : WorldWell w) 
 
   ends_found : (r : Vat Name) (d : Done Name (Unit {0})) → sent_in x r.happened ≡ 0 → Ends S nothing r d → Found cut x 0 r d
   ends_found r (Gives a t) e i = let g = i.0 in let k = g.1 in let l = k.kept in omega arith
-  ends_found r (Throws p t) e i = tt
-  ends_found r (Ejects n y t) e i = tt
-  ends_found r (Stops c t) e i = tt
+  ends_found r other e i = tt
 
   ready_well : AllWell (readied w s)
   unfolding readied
@@ -89,7 +80,8 @@ module _ (script : Script) (w : World) (h : Stands script w) (wl : WorldWell w) 
   -- ---- the opening turn
 
   opens_ends : (p : Program) → slice_get script.vats v ≡ Some p → Ends S nothing (readied w s) (eval.opening (naming word v) p.tree script.depth (Root v) (given script.vats p.knows) (readied w s))
-  opens_ends p e = (fine_opening (naming word v) S (whole_serves (inside script) w.vats v s there (low_at script w h v s there) word cut x) p.tree {C = Also (IsName (Root v)) (AreNouns (given script.vats p.knows))} script.depth (Root v) (record { at = λ r c. c.0 }) (given script.vats p.knows) (record { at = λ r c. c.1 })).after (readied w s)
+  opens_ends p e = (fine_opening (naming word v) S (whole_serves (inside script) w.vats v s there (low_at script w h v s there) word cut x) p.tree {C = Also (IsName (Root v)) (AreNouns (given script.vats p.knows))} script.depth (Root v) (record { at = λ r c. c.0 })
+      (whole_closing (inside script) w.vats v s there (low_at script w h v s there) word cut x (Root v)) (given script.vats p.knows) (record { at = λ r c. c.1 })).after (readied w s)
       (whole_sound (inside script) w.vats v s there (low_at script w h v s there) word cut x (readied w s) ready_sound ready_well) hold
     where
       up : (b : Bit Name) → Had script w v s b → Ok true (inside script) w.vats v s there (low_at script w h v s there) (readied w s) b
@@ -109,9 +101,7 @@ module _ (script : Script) (w : World) (h : Stands script w) (wl : WorldWell w) 
 
   taken_found : (m : Message Name) (r t : Vat Name) (d : Done Name (Unit {0})) → sent_in x r.happened ≡ 0 → account cut x t ≡ account cut x r + one m.id x → sent_in x t.happened ≡ 0 → Ends S nothing t d → Found cut x (one m.id x) r d
   taken_found m r t (Gives a u) e f g i = let j = i.0 in let k = j.1 in let l = k.kept in omega arith
-  taken_found m r t (Throws p u) e f g i = tt
-  taken_found m r t (Ejects n y u) e f g i = tt
-  taken_found m r t (Stops c u) e f g i = tt
+  taken_found m r t other e f g i = tt
 
   took_account : (act : ℕ) (m : Message Name) (r : Vat Name) → account cut x (record r { activations = suc r.activations; happened = r.happened ++ Took act m ∷ [] }) ≡ account cut x r + one m.id x
   unfolding account at_vat gone_here
@@ -135,7 +125,8 @@ module _ (script : Script) (w : World) (h : Stands script w) (wl : WorldWell w) 
       let two = (fine_tell K (T (inside script) w.vats v s there (low_at script w h v s there) word) law {C = Nothing} (Took act m)).after t one'.1 tt in let u : Vat Name = record t { happened = t.happened ++ Took act m ∷ [] } in
       let good_t : MessageOk (Ok true (inside script) w.vats v s there (low_at script w h v s there) t) m = message_up (Ok true (inside script) w.vats v s there (low_at script w h v s there) r) (Ok true (inside script) w.vats v s there (low_at script w h v s there) t) ((T (inside script) w.vats v s there (low_at script w h v s there) word).up r t one'.0) m good in
       let good_u : MessageOk (Ok true (inside script) w.vats v s there (low_at script w h v s there) u) m = message_up (Ok true (inside script) w.vats v s there (low_at script w h v s there) t) (Ok true (inside script) w.vats v s there (low_at script w h v s there) u) ((T (inside script) w.vats v s there (low_at script w h v s there) word).up t u two.0) m good_t in
-      (fine_turn K S (whole_serves (inside script) w.vats v s there (low_at script w h v s there) word cut x) (tree_at script.vats v) {C = IsMessage m} script.depth act m (record { at = λ r c. c })).after u (whole_sound (inside script) w.vats v s there (low_at script w h v s there) word cut x u two.1 (wr.0, wr.1)) good_u
+      (fine_turn K S (whole_serves (inside script) w.vats v s there (low_at script w h v s there) word cut x) (tree_at script.vats v) {C = IsMessage m} script.depth act m (record { at = λ r c. c })
+      (closing_some K S (whole_closing (inside script) w.vats v s there (low_at script w h v s there) word cut x) m.answer)).after u (whole_sound (inside script) w.vats v s there (low_at script w h v s there) word cut x u two.1 (wr.0, wr.1)) good_u
 
   turn_finds : (m : Message Name) (r : Vat Name) → sent_in x r.happened ≡ 0 → Sound (T (inside script) w.vats v s there (low_at script w h v s there) word) r → AllWell r → MessageOk (Ok true (inside script) w.vats v s there (low_at script w h v s there) r) m → Found cut x (one m.id x) r (eval.taking (naming word v) (tree_at script.vats v) script.depth m r)
   unfolding eval.taking ◌>>=◌ ◌>>◌ and_then new_activation tell
@@ -186,9 +177,7 @@ module _ (script : Script) (w : World) (h : Stands script w) (wl : WorldWell w) 
 
   ended_quiet : (r : Vat Name) (d : Done Name (Unit {0})) → Ended false (inside script) w.vats v s there (low_at script w h v s there) word w.vats w.drawn r d → Unnumbered r d
   ended_quiet r (Gives a t) g = let k = g.0 in k.messages
-  ended_quiet r (Throws p t) g = tt
-  ended_quiet r (Ejects n y t) g = tt
-  ended_quiet r (Stops c t) g = tt
+  ended_quiet r other g = tt
 
   note_quiet : (from : ℕ) (n : Note Name) → NoteOk (Told script w) n → Unnumbered (readied w s) (does (naming word v) (Receives from (read_note (names_in s.known) n)) (readied w s))
   unfolding does
@@ -211,32 +200,22 @@ module _ (script : Script) (w : World) (h : Stands script w) (wl : WorldWell w) 
 
   goes_to : (k : KnowsVats script) (t : Vat Name) (to : ℕ) (n : Note Name) → GoesOk (Ok true (inside script) w.vats v s there (low_at script w h v s there) t) to n → GoesToVat (length script.vats) v to n
   goes_to k t to (Deliver m n verb ys) g = (g.3 k, g.2)
-  goes_to k t to (Open i n) g = tt
-  goes_to k t to (Ask p i n) g = tt
-  goes_to k t to (SettledTo n y) g = tt
-  goes_to k t to (Elsewhere n c) g = tt
-  goes_to k t to (Shorten n c i) g = tt
+  goes_to k t to other g = tt
 
   all_go : (k : KnowsVats script) (t : Vat Name) → AllOf (PutOk (Ok true (inside script) w.vats v s there (low_at script w h v s there) t)) t.outbox → AllOf (λ (p : Put Name). GoesToVat (length script.vats) v p.to p.note) t.outbox
   all_go k t g = all_map (λ p i. goes_to k t p.to p.note i.1) t.outbox g
 
   whole_puts : (k : KnowsVats script) (r : Vat Name) (d : Done Name (Unit {0})) → Ends S nothing r d → PutsToVats (length script.vats) v d
   whole_puts k r (Gives a t) i = let g = i.1 in let p = g.parts in all_go k t p.outbox
-  whole_puts k r (Throws p t) i = tt
-  whole_puts k r (Ejects n y t) i = tt
-  whole_puts k r (Stops c t) i = tt
+  whole_puts k r other i = tt
 
   named_puts : (k : KnowsVats script) (r : Vat Name) (d : Done Name (Unit {0})) → Ends (T (inside script) w.vats v s there (low_at script w h v s there) word) nothing r d → PutsToVats (length script.vats) v d
   named_puts k r (Gives a t) i = let g = i.1 in let p = g.parts in all_go k t p.outbox
-  named_puts k r (Throws p t) i = tt
-  named_puts k r (Ejects n y t) i = tt
-  named_puts k r (Stops c t) i = tt
+  named_puts k r other i = tt
 
   ended_puts : (k : KnowsVats script) (r : Vat Name) (d : Done Name (Unit {0})) → Ended true (inside script) w.vats v s there (low_at script w h v s there) word w.vats w.drawn r d → PutsToVats (length script.vats) v d
   ended_puts k r (Gives a t) i = let g = i.1 in let p = g.parts in all_go k t p.outbox
-  ended_puts k r (Throws p t) i = tt
-  ended_puts k r (Ejects n y t) i = tt
-  ended_puts k r (Stops c t) i = tt
+  ended_puts k r other i = tt
 
   pub opens_put : KnowsVats script → (p : Program) → slice_get script.vats v ≡ Some p → PutsToVats (length script.vats) v (does (names script v) (Opens p.tree script.depth (Root v) (given script.vats p.knows)) (readied w s))
   unfolding does names

@@ -42,14 +42,7 @@ host_read n ks = either_host n (world.is_old ks n)
 value_hosts : (y : Value Name) (ks : List Name) → ValueHosts (world.read_value ks y).read
 unfolding world.read_value
 value_hosts (Ref n) ks = host_read n ks
-value_hosts Null ks = tt
-value_hosts (Flag b) ks = tt
-value_hosts (Number z) ks = tt
-value_hosts (Letter c) ks = tt
-value_hosts (Text t) ks = tt
-value_hosts (Prim n) ks = tt
-value_hosts (Broken p) ks = tt
-value_hosts (Items k) ks = tt
+value_hosts other ks = tt
 
 mutual
   unfolding world.read_passed world.read_all world.plain_read world.many_read world.more_read
@@ -75,21 +68,13 @@ note_arrives ks v w (Shorten n c i) a h = host_read n ks
 fare_pays : (n : Name) (c : ℕ) → c + further n c ≤ fare n c
 unfolding further fare
 fare_pays (Object v i) c = omega arith
-fare_pays (Root v) c = omega arith
-fare_pays (Promise v i) c = omega arith
-fare_pays (Answer v m) c = omega arith
-fare_pays (Gift v i) c = omega arith
-fare_pays (Sent m) c = omega arith
+fare_pays other c = omega arith
 
 -- a carry and what it leaves are no more than the note weighed
 pub note_pays : (x : Name) (ks : List Name) (n : Note Name) → of_note x n + note_leaves x (read_note ks n) ≤ weight x n
 unfolding read_note of_note in_note note_leaves weight coming
 note_pays x ks (Deliver d n verb ys) = rw (name_read n (world.read_all ys ks).known) (fare_pays n (one d.message x))
-note_pays x ks (Open i n) = omega arith
-note_pays x ks (Ask p i n) = omega arith
-note_pays x ks (SettledTo n y) = omega arith
-note_pays x ks (Elsewhere n c) = omega arith
-note_pays x ks (Shorten n c i) = omega arith
+note_pays x ks other = omega arith
 
 -- ---- links
 

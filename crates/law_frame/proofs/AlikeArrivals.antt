@@ -48,20 +48,12 @@ mail_arrives K v from (New m h) b c n verb ys = refl
 pub told_note : (v : ℕ) (n : Note (Incoming Name Name)) → as_told v (maps.note (incoming Is (λ x. x)) n) ≡ maps.note (incoming Is (λ x. x)) (as_told v n)
 unfolding as_told from_peer
 told_note v (Deliver d n verb ys) = by_message v d.message d.asks d.answer n verb ys
-told_note v (Open i n) = refl
-told_note v (Ask p i n) = refl
-told_note v (SettledTo n y) = refl
-told_note v (Elsewhere n c) = refl
-told_note v (Shorten n c i) = refl
+told_note v other = refl
 
 pub told_arrives : (K : Naming Name Name) (v from : ℕ) (n : Note (Incoming Name Name)) → arrive.arrive K from (as_told v n) ≡ arrive.arrive K from n
 unfolding as_told from_peer arrive.arrive arrive.arrive_deliver arrive.learn_message
 told_arrives K v from (Deliver d n verb ys) = mail_arrives K v from d.message d.asks d.answer n verb ys
-told_arrives K v from (Open i n) = refl
-told_arrives K v from (Ask p i n) = refl
-told_arrives K v from (SettledTo n y) = refl
-told_arrives K v from (Elsewhere n c) = refl
-told_arrives K v from (Shorten n c i) = refl
+told_arrives K v from other = refl
 
 -- ---- the entry that carries the note
 
@@ -71,9 +63,7 @@ put_given script u w y head k (Gives a t) e = (t, refl, vats_is (record { fuel =
   where
     vats_is : (z y : World) → Going z ≡ Going y → y.vats ≡ z.vats
     vats_is z y e = ap (λ (x : World). x.vats) (let same : y ≡ z = cc in same)
-put_given script u w y head k (Throws p t) e = cc
-put_given script u w y head k (Ejects n x t) e = cc
-put_given script u w y head k (Stops c t) e = cc
+put_given script u w y head k other e = cc
 
 module _ (script : Script) (k v u : ℕ) (x : World) (l : Link) (n : Note Name) (ns : List (Note Name)) (s : Vat Name) where
   abbrev Taken : World

@@ -26,11 +26,7 @@ Any s t = Unit {0}
 -- it asks for no gift
 abbrev pub IsNoAsk : Note Name → Type 0
 IsNoAsk (Ask p i n) = ⊥
-IsNoAsk (Deliver m n verb ys) = Unit {0}
-IsNoAsk (Open i n) = Unit {0}
-IsNoAsk (SettledTo n y) = Unit {0}
-IsNoAsk (Elsewhere n c) = Unit {0}
-IsNoAsk (Shorten n c i) = Unit {0}
+IsNoAsk other = Unit {0}
 
 -- names come to be known at the end, and no note is put that asks for a gift
 pub record Quiet (s t : Vat Name) : Type 0 where
@@ -153,10 +149,9 @@ module _ (K : Naming Name Name) where
       puts : (to : ℕ) (n : Note Name) → IsOfName n → Leads Any Quiet (send_out to n)
       puts to (Deliver m n verb ys) h = quiet_out to (Deliver m n verb ys) tt
       puts to (Open i n) h = quiet_out to (Open i n) tt
-      puts to (Ask p i n) h = absurd h
       puts to (SettledTo n y) h = quiet_out to (SettledTo n y) tt
       puts to (Elsewhere n c) h = quiet_out to (Elsewhere n c) tt
-      puts to (Shorten n c i) h = absurd h
+      puts to other h = absurd h
 
   in_refs_under : InRefsUnder (LeadsBy Any Quiet) K
   in_refs_under = record { alters = λ c n h. quiet_alter K c n; comes = quiet_come K; draws = quiet_draw K }
@@ -277,10 +272,9 @@ module _ (K : Naming Name Name) where
 
   quiet_break_hosted : (w : ℕ) (n : Name) (p : Words) (t : Standing Name) → Leads Any Quiet (arrive.break_hosted K w n p t)
   unfolding arrive.break_hosted
-  quiet_break_hosted w n p Unsettled = quiet_settle n _
-  quiet_break_hosted w n p (WaitsOn q) = quiet_settle n _
   quiet_break_hosted w n p (Viewed q) = search (leads, base)
   quiet_break_hosted w n p (Settled y) = search (leads, base)
+  quiet_break_hosted w n p other = quiet_settle n _
 
   quiet_notice_name : (w : ℕ) (k : Known Name) → Leads Any Quiet (arrive.notice_name K w k)
   unfolding arrive.notice_name

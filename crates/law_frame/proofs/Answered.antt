@@ -37,22 +37,16 @@ use Rattle.law_frame.proofs.Before.{AsksNot, PutsNot, MovePutsNot, asked_before,
 
 alone_leaves : (x : Name) (what : Step Name Name) → IsAlone what → leaves x what ≤ 0
 unfolding leaves
-alone_leaves x (Starts tree depth root given) h = omega arith
-alone_leaves x (Takes tree depth n) h = omega arith
 alone_leaves x (Receives from n) h = absurd h
-alone_leaves x (Notices w) h = omega arith
+alone_leaves x other h = omega arith
 
 alone_comes : (what : Step Name Name) → IsAlone what → StepComes what
-alone_comes (Starts tree depth root given) h = tt
-alone_comes (Takes tree depth n) h = tt
 alone_comes (Receives from n) h = absurd h
-alone_comes (Notices w) h = tt
+alone_comes other h = tt
 
 alone_arrives : (v : ℕ) (what : Step Name Name) → IsAlone what → StepArrives v what
-alone_arrives v (Starts tree depth root given) h = tt
-alone_arrives v (Takes tree depth n) h = tt
 alone_arrives v (Receives from n) h = absurd h
-alone_arrives v (Notices w) h = tt
+alone_arrives v other h = tt
 
 -- ---- a message that is not put
 
@@ -70,20 +64,13 @@ module _ (h : ℕ) (m : Msg) where
 
   message_not : (id : Name) → same_one id (Sent m) ≤ 0 → IsMessageName id → answer_of h id ≡ Answer h m → ⊥
   message_not (Sent z) l o e = deliver_not (Sent z) l e z refl
-  message_not (Root w) l o e = o
-  message_not (Object w j) l o e = o
-  message_not (Promise w j) l o e = o
-  message_not (Answer w z) l o e = o
-  message_not (Gift w j) l o e = o
+  message_not other l o e = o
 
   note_not : (n : Note Name) → of_note (Sent m) n ≤ 0 → AsksNot h (Answer h m) n
   unfolding of_note in_note
   note_not (Deliver d t verb ys) l o e = message_not d.message l o e.1
   note_not (Ask p i t) l o e = cc
-  note_not (Open i t) l o e = e
-  note_not (SettledTo t y) l o e = e
-  note_not (Elsewhere t c) l o e = e
-  note_not (Shorten t c i) l o e = e
+  note_not other l o e = e
 
   puts_not : (ps : List (Put Name)) → put_weight (Sent m) ps ≤ 0 → PutsNot h (Answer h m) ps
   unfolding put_weight
@@ -140,13 +127,11 @@ module _ (script : Script) (x y : World) (b : Before script x) (apart : (m : Msg
 
   module _ (m : Msg) (among : IsAmong (Answer h m) (told_in n)) where
     pub move_puts : (move : Moved script x y) → MovePutsNot x u h (Answer h m) script y move
-    move_puts (Still v k d) = tt
-    move_puts (Severs c e v k d) = tt
-    move_puts (Drops c v note ns k f notes none vats links drawn) = tt
     move_puts (Steps v s q t what alone d vats links drawn first fresh) = λ i. let k = told_known script x wires none h u l at n (Answer h m) told among in
         puts_none script x (stands_of script x b) b.counted apart h m k.0 k.1 k.2 v s q t what d (λ e. other (e ∙ sym i)) (alone_comes what alone) (alone_arrives v what alone) (alone_leaves (Sent m) what alone)
     move_puts (Arrives c v s t note ns j f cut notes d vats links drawn first fresh) = λ i. let k = told_known script x wires none h u l at n (Answer h m) told among in
         arrival_puts script x b apart h m k.0 k.1 k.2 c v s t note ns j f notes d (λ e. other (e ∙ sym i))
+    move_puts other = tt
 
     answer_before : Moved script x y → IsAmong (Answer h m) (wire.questions (λ i. i) y.links u h) → IsAmong (Answer h m) (wire.questions (λ i. i) x.links u h)
     answer_before move a = asked_before x u h (Answer h m) script y next move (move_puts move) a

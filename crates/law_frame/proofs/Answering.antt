@@ -57,9 +57,8 @@ module _ (word : ℕ → ℕ) (v : ℕ) where
   then_answers : {A : Type 0} (ks k1 k2 : List Name) (s : Vat Name) (d : Done Name A) (f : A → Act Name (Unit {0})) → Learns ks k1 s d → After SameOwner s d → ((a : A) → Keeps Grows (f a)) → ((a : A) (t : Vat Name) → names_in t.known ≡ k1 → t.number ≡ s.number → Begins word v k2 (f a t)) → Begins word v k2 (and_then d f)
   unfolding and_then
   then_answers ks k1 k2 s (Gives a t) f l n g h = begun_by word v ks k1 k2 s t l (f a t) ((g a).after t) (λ e. h a t e n)
-  then_answers ks k1 k2 s (Throws p t) f l n g h = tt
-  then_answers ks k1 k2 s (Ejects m y t) f l n g h = tt
   then_answers ks k1 k2 s (Stops c t) f l n g h = λ o. absurd (l (names_in t.known) (starts_same (names_in t.known)) o)
+  then_answers ks k1 k2 s other f l n g h = tt
 
   -- the rest of the sending, once the answer is known
   abbrev Rest : ℕ → Words → Name → List (Value Name) → Name → Name → Act Name (Unit {0})

@@ -32,47 +32,28 @@ among_back x (z ∷ xs) ys h = inr (among_back x xs ys h)
 abbrev pub Answered : ℕ → List Name → Note Name → Type 0
 Answered v ns (Deliver d n verb ys) = d.asks ≡ true → IsAmong (answer_of v d.message) ns
 Answered v ns (Ask p i n) = IsAmong (Gift v i) ns
-Answered v ns (Open i n) = Unit {0}
-Answered v ns (SettledTo n y) = Unit {0}
-Answered v ns (Elsewhere n c) = Unit {0}
-Answered v ns (Shorten n c i) = Unit {0}
+Answered v ns other = Unit {0}
 
 -- its message is named as one
 abbrev pub MailFits : Note Name → Type 0
 MailFits (Deliver d n verb ys) = IsMessageName d.message
-MailFits (Ask p i n) = Unit {0}
-MailFits (Open i n) = Unit {0}
-MailFits (SettledTo n y) = Unit {0}
-MailFits (Elsewhere n c) = Unit {0}
-MailFits (Shorten n c i) = Unit {0}
+MailFits other = Unit {0}
 
 -- it is the name of no message
 abbrev pub IsNoMessage : Name → Type 0
 IsNoMessage (Sent m) = ⊥
-IsNoMessage (Root w) = Unit {0}
-IsNoMessage (Object w i) = Unit {0}
-IsNoMessage (Promise w i) = Unit {0}
-IsNoMessage (Answer w m) = Unit {0}
-IsNoMessage (Gift w i) = Unit {0}
+IsNoMessage other = Unit {0}
 
 -- it is the name of no object
 abbrev pub IsNoObject : Name → Type 0
 IsNoObject (Object w i) = ⊥
-IsNoObject (Sent m) = Unit {0}
-IsNoObject (Root w) = Unit {0}
-IsNoObject (Promise w i) = Unit {0}
-IsNoObject (Answer w m) = Unit {0}
-IsNoObject (Gift w i) = Unit {0}
+IsNoObject other = Unit {0}
 
 -- what is new is no object
 no_object : (ks : List Name) (n : Name) → world.is_old ks n ≡ false → IsNoObject n
 unfolding world.is_old
 no_object ks (Object w i) e = cc
-no_object ks (Sent m) e = tt
-no_object ks (Root w) e = tt
-no_object ks (Promise w i) e = tt
-no_object ks (Answer w m) e = tt
-no_object ks (Gift w i) e = tt
+no_object ks other e = tt
 
 -- these are known
 abbrev pub Has : List Name → Vat Name → Type 0
@@ -81,34 +62,24 @@ Has ks s = (n : Name) → IsAmong n ks → IsAmong n (names_in s.known)
 module _ (v : ℕ) (P : Telling) where
   abbrev pub Reached : {A : Type 0} → (Vat Name → Type 0) → Vat Name → Done Name A → Type 0
   Reached F s (Gives a t) = Steady v P s t × F t
-  Reached F s (Throws p t) = Unit {0}
-  Reached F s (Ejects n y t) = Unit {0}
-  Reached F s (Stops c t) = Unit {0}
+  Reached F s other = Unit {0}
 
   wide : {A : Type 0} (F : Vat Name → Type 0) (s t : Vat Name) (d : Done Name A) → Steady v P s t → Reached F t d → Reached F s d
   wide F s t (Gives a u) h k = (steady_on v P s t u h k.0, k.1)
-  wide F s t (Throws p u) h k = tt
-  wide F s t (Ejects n y u) h k = tt
-  wide F s t (Stops c u) h k = tt
+  wide F s t other h k = tt
 
   then_reached : {A B : Type 0} (F G : Vat Name → Type 0) (s : Vat Name) (d : Done Name A) (f : A → Act Name B) → Reached F s d → ((a : A) (t : Vat Name) → t.number ≡ v → F t → Reached G t (f a t)) → Reached G s (and_then d f)
   unfolding and_then
   then_reached F G s (Gives a t) f h k = let r = h.0 in wide G s t (f a t) r (k a t r.number h.1)
-  then_reached F G s (Throws p t) f h k = tt
-  then_reached F G s (Ejects n y t) f h k = tt
-  then_reached F G s (Stops c t) f h k = tt
+  then_reached F G s other f h k = tt
 
   pub led_reached : {A : Type 0} (F : Vat Name → Type 0) (s : Vat Name) (d : Done Name A) → s.number ≡ v → ((t : Vat Name) → Steady v P s t → F t) → Ends Any (Asking v P) s d → Reached F s d
   led_reached F s (Gives a t) e f h = let r = h e in (r, f t r)
-  led_reached F s (Throws p t) e f h = tt
-  led_reached F s (Ejects n y t) e f h = tt
-  led_reached F s (Stops c t) e f h = tt
+  led_reached F s other e f h = tt
 
   looser : {A : Type 0} (F G : Vat Name → Type 0) (s : Vat Name) (d : Done Name A) → ((t : Vat Name) → F t → G t) → Reached F s d → Reached G s d
   looser F G s (Gives a t) f h = (h.0, f t h.1)
-  looser F G s (Throws p t) f h = tt
-  looser F G s (Ejects n y t) f h = tt
-  looser F G s (Stops c t) f h = tt
+  looser F G s other f h = tt
 
   still : (s : Vat Name) → s.number ≡ v → Steady v P s s
   still s e = same_as v P s s refl refl refl refl refl refl refl refl refl e
@@ -141,15 +112,8 @@ module _ (v : ℕ) (P : Telling) where
 
   value_hears : (ks : List Name) (y : Value Name) → ((n : Name) → IsAmong n (told_value y) → IsNoObject n → P.told n) → (s : Vat Name) → s.number ≡ v → Has ks s → Reached (Has (world.read_value ks y).known) s (arrive.learn_value K (world.read_value ks y).read s)
   unfolding world.read_value told_value arrive.learn_value give ◌>>=◌
-  value_hears ks Null f s e k = (still s e, k)
-  value_hears ks (Flag b) f s e k = (still s e, k)
-  value_hears ks (Number z) f s e k = (still s e, k)
-  value_hears ks (Letter c) f s e k = (still s e, k)
-  value_hears ks (Text t) f s e k = (still s e, k)
-  value_hears ks (Prim i) f s e k = (still s e, k)
-  value_hears ks (Broken t) f s e k = (still s e, k)
-  value_hears ks (Items i) f s e k = (still s e, k)
   value_hears ks (Ref n) f s e k = then_reached (Has (world.known_after ks n)) (Has (world.known_after ks n)) s (arrive.learn_name K (world.read_name ks n) s) (λ m. give (Ref m)) (name_hears ks n (f n (inl refl)) s e k) (λ a t i h. (still t i, h))
+  value_hears ks other f s e k = (still s e, k)
 
   -- a gift is asked for, or its host was noticed
   asks_either : (p h i : ℕ) (s : Vat Name) (b : Bool) → host_of (Gift h i) ≡ h → is_in h s.noticed ≡ b → IsAmong (Gift h i) (names_in s.known) → P.passed (Gift h i) → (text : Words) → Ends Any (Owed v P (Gift h i)) s ((if b then refs.settle K (Gift h i) (Broken text) else send_out h (Ask p i (Gift h i))) s)
@@ -171,9 +135,7 @@ module _ (v : ℕ) (P : Telling) where
   gift_ends : (ks : List Name) (g : Name) (s t : Vat Name) → Steady v (Or P g) s t → Has ks s → IsAmong g (names_in t.known) → (d : Done Name (Unit {0})) → Ends Any (Owed v P g) t d → Reached (Has (ks ++ g ∷ [])) s (and_then d (λ _. give (Ref g)))
   unfolding and_then give
   gift_ends ks g s t r k a (Gives u x) h = let b = h r.number in let c : Steady v P s x = accounted v P g s x (steady_on v (Or P g) s t x r b.0) (comes_since v P (Or P g) s t x r g b.1) in (c, has_end ks g s x c k (names_on v (Or P g) t x b.0 g a))
-  gift_ends ks g s t r k a (Throws q x) h = tt
-  gift_ends ks g s t r k a (Ejects n y x) h = tt
-  gift_ends ks g s t r k a (Stops c x) h = tt
+  gift_ends ks g s t r k a other h = tt
 
   gift_hears : (from : ℕ) (ks : List Name) (h i : ℕ) → P.passed (Gift h i) → (s : Vat Name) → s.number ≡ v → Has ks s → Reached (Has (ks ++ Gift h i ∷ [])) s (arrive.learn_gift K from h i s)
   unfolding arrive.learn_gift ◌>>=◌ ◌>>◌ and_then come naming name_of
@@ -291,11 +253,7 @@ module _ (v : ℕ) (P : Telling) where
   answer_hosted : (u : ℕ) (m : Name) → IsMessageName m → u ≡ v → host_of (answer_of u m) ≡ v
   unfolding answer_of host_of
   answer_hosted u (Sent m) h e = e
-  answer_hosted u (Root w) h e = absurd h
-  answer_hosted u (Object w i) h e = absurd h
-  answer_hosted u (Promise w i) h e = absurd h
-  answer_hosted u (Answer w m) h e = absurd h
-  answer_hosted u (Gift w i) h e = absurd h
+  answer_hosted u other h e = absurd h
 
   -- the message is sent on, once its arguments and its target are learnt
   goes_on : (from : ℕ) (ks : List Name) (m n : Name) (verb : Words) (args : List (Value Name)) (s : Vat Name) → s.number ≡ v → IsMessageName m → P.due (answer_of v m) → Has ks s
@@ -406,11 +364,8 @@ module _ (v : ℕ) (P : Telling) where
   -- of a name that is no message
   subject_at : (n : Name) → IsNoMessage n → (s : Vat Name) → s.number ≡ v → AllOf IsEventual (names_in s.known) → (host_at K s.number s.known n ≡ v → ⊥) → IsEventual n
   subject_at (Object w i) o s e h f = absurd (f (object_here s e h w i))
-  subject_at (Root w) o s e h f = tt
-  subject_at (Promise w i) o s e h f = tt
-  subject_at (Answer w m) o s e h f = tt
-  subject_at (Gift w i) o s e h f = tt
   subject_at (Sent m) o s e h f = absurd o
+  subject_at other o s e h f = tt
 
   new_subject : (ks : List Name) (n : Name) → world.is_old ks n ≡ false → IsNoMessage n → IsEventual n
   unfolding world.is_old
@@ -418,11 +373,8 @@ module _ (v : ℕ) (P : Telling) where
     where
       old_new : true ≡ false → ⊥
       old_new f = cc
-  new_subject ks (Root w) e o = tt
-  new_subject ks (Promise w i) e o = tt
-  new_subject ks (Answer w m) e o = tt
-  new_subject ks (Gift w i) e o = tt
   new_subject ks (Sent m) e o = absurd o
+  new_subject ks other e o = tt
 
   elsewhere_either : (ks : List Name) (n : Name) (c : ℕ) → (IsNoObject n → P.told n) → IsNoMessage n → (s : Vat Name) → s.number ≡ v → AllOf IsEventual (names_in s.known) → Has ks s → (b : Bool) → world.is_old ks n ≡ b
       → Reached (Has (elim b [ true ↦ ks | false ↦ ks ++ n ∷ [] ])) s (arrive.arrive_elsewhere K (elim b [ true ↦ Old n | false ↦ New n (host_of n) ]) c s)
@@ -450,15 +402,11 @@ module _ (v : ℕ) (P : Telling) where
 
   reached_more : {A : Type 0} (F G : Vat Name → Type 0) (s : Vat Name) (d : Done Name A) → ((t : Vat Name) → F t → G t) → Reached F s d → Reached G s d
   reached_more F G s (Gives a t) f h = (h.0, f t h.1)
-  reached_more F G s (Throws p t) f h = tt
-  reached_more F G s (Ejects n y t) f h = tt
-  reached_more F G s (Stops c t) f h = tt
+  reached_more F G s other f h = tt
 
   reached_still : {A : Type 0} (F : Vat Name → Type 0) (s : Vat Name) (d : Done Name A) → Reached F s d → Reached (λ t. Has (names_in s.known) t × F t) s d
   reached_still F s (Gives a t) h = let r = h.0 in (r, (λ x b. names_on v P s t r x b, h.1))
-  reached_still F s (Throws p t) h = tt
-  reached_still F s (Ejects n y t) h = tt
-  reached_still F s (Stops c t) h = tt
+  reached_still F s other h = tt
 
   -- what the note tells, and what it asks for, is known once it has arrived
   abbrev pub HasHeard : List Name → Note Name → Vat Name → Type 0
@@ -483,10 +431,9 @@ module _ (v : ℕ) (P : Telling) where
 
   asking_break_hosted : (w : ℕ) (n : Name) (p : Words) (t : Standing Name) → Leads Any (Asking v P) (arrive.break_hosted K w n p t)
   unfolding arrive.break_hosted
-  asking_break_hosted w n p Unsettled = asking_settle v P n _
-  asking_break_hosted w n p (WaitsOn q) = asking_settle v P n _
   asking_break_hosted w n p (Viewed q) = search (leads, base v P)
   asking_break_hosted w n p (Settled y) = search (leads, base v P)
+  asking_break_hosted w n p other = asking_settle v P n _
 
   asking_notice_name : (w : ℕ) (k : Known Name) → Leads Any (Asking v P) (arrive.notice_name K w k)
   unfolding arrive.notice_name

@@ -50,10 +50,6 @@ module _ (h : ℕ) (z : Name) where
       only (inr b) = b
   last_asked [] (Ask p i t) f o (inl e) = absurd (f o (sym e))
   last_asked [] (Ask p i t) f o (inr a) = a
-  last_asked [] (Open i t) f o a = a
-  last_asked [] (SettledTo t y) f o a = a
-  last_asked [] (Elsewhere t c) f o a = a
-  last_asked [] (Shorten t c i) f o a = a
   last_asked (Deliver d t verb ys ∷ ns) n f o a = first (asked_or d.asks (answer_of h d.message) z (wire.questions_in h (ns ++ n ∷ [])) a) (λ b. last_asked ns n f o b)
     where
       first : ((d.asks ≡ true) × (z ≡ answer_of h d.message)) ⊎ IsAmong z (wire.questions_in h (ns ++ n ∷ [])) → (IsAmong z (wire.questions_in h (ns ++ n ∷ [])) → IsAmong z (wire.questions_in h ns)) → IsAmong z (wire.asked_if d.asks (answer_of h d.message) (wire.questions_in h ns))
@@ -65,6 +61,7 @@ module _ (h : ℕ) (z : Name) where
   last_asked (SettledTo t y ∷ ns) n f o a = last_asked ns n f o a
   last_asked (Elsewhere t c ∷ ns) n f o a = last_asked ns n f o a
   last_asked (Shorten t c i ∷ ns) n f o a = last_asked ns n f o a
+  last_asked [] other f o a = a
 
 -- ---- what is asked for on a link was asked for before
 
@@ -99,11 +96,9 @@ module _ (x : World) (u h : ℕ) (z : Name) where
   -- what the vat puts in the step, if the step is one of it
   module _ (script : Script) (y : World) where
     abbrev pub MovePutsNot : Moved script x y → Type 0
-    MovePutsNot (Still v l d) = Unit {0}
-    MovePutsNot (Severs c e v l d) = Unit {0}
-    MovePutsNot (Drops c v n ns l at notes none vats links drawn) = Unit {0}
     MovePutsNot (Steps v s q t what alone d vats links drawn first fresh) = u ≡ v → PutsNot h z t.outbox
     MovePutsNot (Arrives c v s t n ns l at cut notes d vats links drawn first fresh) = u ≡ v → PutsNot h z t.outbox
+    MovePutsNot other = Unit {0}
 
     moved_before : (m : Moved script x y) → MovePutsNot m → AtLink u h AskedBefore y.links
     moved_before (Still v l d) f = subst (λ ks. AtLink u h AskedBefore ks) (sym l) first_before

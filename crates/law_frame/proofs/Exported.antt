@@ -54,21 +54,14 @@ module _ (v : ℕ) (asked : List Name) (n : Name) (host : host_of n ≡ v) (unas
   value_in (Ref m) ns (inr (inl e)) = export_in m ns (inr e)
   value_in (Ref m) ns (inr (inr b)) = absurd b
   value_in Null ns (inl a) = a
-  value_in Null ns (inr b) = absurd b
   value_in (Flag x) ns (inl a) = a
-  value_in (Flag x) ns (inr b) = absurd b
   value_in (Number z) ns (inl a) = a
-  value_in (Number z) ns (inr b) = absurd b
   value_in (Letter c) ns (inl a) = a
-  value_in (Letter c) ns (inr b) = absurd b
   value_in (Text t) ns (inl a) = a
-  value_in (Text t) ns (inr b) = absurd b
   value_in (Prim i) ns (inl a) = a
-  value_in (Prim i) ns (inr b) = absurd b
   value_in (Broken p) ns (inl a) = a
-  value_in (Broken p) ns (inr b) = absurd b
   value_in (Items k) ns (inl a) = a
-  value_in (Items k) ns (inr b) = absurd b
+  value_in other ns (inr b) = absurd b
 
   mutual
     unfolding wire.with_passed wire.with_all told_passed told_all
@@ -92,7 +85,6 @@ module _ (v : ℕ) (asked : List Name) (n : Name) (host : host_of n ≡ v) (unas
   note_in (Deliver m t verb ys) ns (inr (inr b)) = all_in ys (wire.with_export v asked t ns) (inr b)
   note_in (Open i t) ns (inl a) = export_in t ns (inl a)
   note_in (Open i t) ns (inr (inl e)) = export_in t ns (inr e)
-  note_in (Open i t) ns (inr (inr b)) = absurd b
   note_in (Ask p i t) ns (inl a) = a
   note_in (Ask p i t) ns (inr b) = absurd b
   note_in (SettledTo t y) ns (inl a) = passed_in y (wire.with_export v asked t ns) (inl (export_in t ns (inl a)))
@@ -100,10 +92,9 @@ module _ (v : ℕ) (asked : List Name) (n : Name) (host : host_of n ≡ v) (unas
   note_in (SettledTo t y) ns (inr (inr b)) = passed_in y (wire.with_export v asked t ns) (inr b)
   note_in (Elsewhere t c) ns (inl a) = export_in t ns (inl a)
   note_in (Elsewhere t c) ns (inr (inl e)) = export_in t ns (inr e)
-  note_in (Elsewhere t c) ns (inr (inr b)) = absurd b
   note_in (Shorten t c i) ns (inl a) = export_in t ns (inl a)
   note_in (Shorten t c i) ns (inr (inl e)) = export_in t ns (inr e)
-  note_in (Shorten t c i) ns (inr (inr b)) = absurd b
+  note_in other ns (inr (inr b)) = absurd b
 
   -- it is exported where one of these notes tells it, or it was exported before
   pub exports_in : (log : List (Note Name)) (ns : List Name) → IsAmong n ns ⊎ ((x : Note Name) × IsAmong x log × IsAmong n (told_in x)) → IsAmong n (wire.exports_after v asked log ns)

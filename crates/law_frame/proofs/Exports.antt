@@ -112,14 +112,7 @@ module _ (v : ℕ) (before after : List Name) where
   value_same : (y : Value Name) (ns : List Name) → AllOf Alike (told_value y) → wire.with_value v before y ns ≡ wire.with_value v after y ns
   unfolding wire.with_value told_value
   value_same (Ref n) ns h = export_same n ns h.0
-  value_same Null ns h = refl
-  value_same (Flag b) ns h = refl
-  value_same (Number z) ns h = refl
-  value_same (Letter c) ns h = refl
-  value_same (Text t) ns h = refl
-  value_same (Prim i) ns h = refl
-  value_same (Broken p) ns h = refl
-  value_same (Items k) ns h = refl
+  value_same other ns h = refl
 
   mutual
     unfolding wire.with_passed wire.with_all told_passed told_all

@@ -90,14 +90,12 @@ unfolding told_in
 told_ends a v n (Deliver m t verb ys) o q h k (inl e) = inr (ap host_of e ∙ h)
 told_ends a v n (Deliver m t verb ys) o q h k (inr b) = all_either a v n ys k.0 b
 told_ends a v n (Open i t) o q h k (inl e) = inr (ap host_of e ∙ h)
-told_ends a v n (Open i t) o q h k (inr b) = absurd b
 told_ends a v n (Ask p i t) o q h k b = absurd b
 told_ends a v n (SettledTo t y) o q h k (inl e) = inl (ap host_of e ∙ h)
 told_ends a v n (SettledTo t y) o q h k (inr b) = passed_either a v n y k b
 told_ends a v n (Elsewhere t c) o q h k (inl e) = inl (ap host_of e ∙ h)
-told_ends a v n (Elsewhere t c) o q h k (inr b) = absurd b
 told_ends a v n (Shorten t c i) o q h k (inl e) = inr (ap host_of e ∙ h (q o))
-told_ends a v n (Shorten t c i) o q h k (inr b) = absurd b
+told_ends a v n other o q h k (inr b) = absurd b
 
 on_bool : {C : Type 0} (b : Bool) → (b ≡ true → C) → (b ≡ false → C) → C
 on_bool true f g = f refl
@@ -130,11 +128,7 @@ module _ (ls : List Link) (v w : ℕ) (l : Link) (x : Note Name) (ns : List (Not
   unfolding host_of
   of_either (Object h i) (inl e) a = inr (told_now h e (Object h i) refl a)
   of_either (Object h i) (inr e) a = inl e
-  of_either (Root h) e a = tt
-  of_either (Promise h i) e a = tt
-  of_either (Answer h m) e a = tt
-  of_either (Gift h i) e a = tt
-  of_either (Sent m) e a = tt
+  of_either other e a = tt
 
   -- each object that it tells is the receiver's own, or told to it
   pub given_here : LinksGo ls Later → NoteHanded ls v x → Proper v w x → IsBetween v w x → Carries v w x → (n : Name) → IsAmong n (told_in x) → OwnOrTold w (ToldAlong Later w) n

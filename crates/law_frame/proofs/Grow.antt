@@ -77,14 +77,7 @@ module _ (v : ℕ) (asked : List Name) where
   value_starts : (y : Value Name) (ns : List Name) → Starts ns (wire.with_value v asked y ns)
   unfolding wire.with_value
   value_starts (Ref n) ns = export_starts n ns
-  value_starts Null ns = starts_same ns
-  value_starts (Flag b) ns = starts_same ns
-  value_starts (Number z) ns = starts_same ns
-  value_starts (Letter c) ns = starts_same ns
-  value_starts (Text t) ns = starts_same ns
-  value_starts (Prim i) ns = starts_same ns
-  value_starts (Broken p) ns = starts_same ns
-  value_starts (Items k) ns = starts_same ns
+  value_starts other ns = starts_same ns
 
   mutual
     unfolding wire.with_passed wire.with_all
@@ -171,11 +164,7 @@ known_old ks (Sent m) h = among_has ks (Sent m) h
 
 pub among_known : (ks : List Name) (n : Name) → IsAmong n ks → IsKnownIn ks n
 among_known ks (Object c i) h = tt
-among_known ks (Root c) h = h
-among_known ks (Promise c i) h = h
-among_known ks (Answer c m) h = h
-among_known ks (Gift c i) h = h
-among_known ks (Sent m) h = h
+among_known ks other h = h
 
 same_known : (b : Bool) (ks : List Name) (n : Name) → b ≡ true → ◌≡◌ {A = List Name} (elim b [ true ↦ ks | false ↦ ks ++ n ∷ [] ]) ks
 same_known true ks n e = refl
@@ -226,14 +215,7 @@ after_itself ks (Sent m) = itself_or (has_name ks (Sent m)) ks (Sent m) refl
 value_known : (ks : List Name) (y : Value Name) → Starts ks (world.read_value ks y).known
 unfolding world.read_value
 value_known ks (Ref n) = after_starts ks n
-value_known ks Null = starts_same ks
-value_known ks (Flag b) = starts_same ks
-value_known ks (Number z) = starts_same ks
-value_known ks (Letter c) = starts_same ks
-value_known ks (Text t) = starts_same ks
-value_known ks (Prim i) = starts_same ks
-value_known ks (Broken p) = starts_same ks
-value_known ks (Items k) = starts_same ks
+value_known ks other = starts_same ks
 
 mutual
   unfolding world.read_passed world.read_all world.plain_read world.many_read world.more_read

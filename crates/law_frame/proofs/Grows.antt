@@ -62,14 +62,7 @@ module _ {N : Type 0} (S : Sight N) (asked : List N) where
   value_grows : (y : Value N) (ns : List N) → IsFront ns (tables.exported_value S asked y ns)
   unfolding tables.exported_value
   value_grows (Ref n) ns = as_grows n ns
-  value_grows Null ns = front_same ns
-  value_grows (Flag b) ns = front_same ns
-  value_grows (Number z) ns = front_same ns
-  value_grows (Letter c) ns = front_same ns
-  value_grows (Text t) ns = front_same ns
-  value_grows (Prim n) ns = front_same ns
-  value_grows (Broken p) ns = front_same ns
-  value_grows (Items k) ns = front_same ns
+  value_grows other ns = front_same ns
 
   mutual
     unfolding tables.exported_passed tables.exported_all
@@ -225,9 +218,7 @@ all_same w x e = λ v u. rw (sym e) (grows_same (connected_at v u w.connections)
 put_back_grows : (v : ℕ) (w x : World) (head : List Event) (n : ℕ) (d : Done Name (Unit {0})) → world.put_back v w head n d ≡ Goes x → AllGrow w x
 unfolding world.put_back
 put_back_grows v w x head n (Gives a t) e = λ a b. subst (λ cs. ConnectedGrows (connected_at a b w.connections) (connected_at a b cs)) (ap (λ (y : World). y.connections) (going_is _ x e)) (after_grows v t head a b w.connections)
-put_back_grows v w x head n (Throws p t) e = cc
-put_back_grows v w x head n (Ejects m y t) e = cc
-put_back_grows v w x head n (Stops c t) e = cc
+put_back_grows v w x head n other e = cc
 
 within_grows : (script : Script) (v : ℕ) (w x : World) (head : List Event) (n : ℕ) (what : Step Name Name) (q : Vat Name) → world.within v w head n (does (world.names script v) what) (Some q) ≡ Goes x → AllGrow w x
 unfolding world.within

@@ -70,10 +70,7 @@ module _ {N : Type 0} where
     name_later (op.YourExport p) s = if_later Old (slice_get c.exports p) s
     name_later (op.MyAnswer q) s = if_later Old (slice_get c.questions q) s
     name_later (op.YourAnswer q) s = if_later Old (slice_get c.answers q) s
-    name_later (op.Datum x) s = tt
-    name_later (op.ListOf ds) s = tt
-    name_later (op.Broken p) s = tt
-    name_later (op.Third h i) s = tt
+    name_later other s = tt
 
     reference_later : (d : Described) (s : Stage N) → Later s.imports (read.next (read.reference_heard object me peer F c) (read.name_heard object me peer F c d s))
     unfolding read.reference_heard
@@ -88,8 +85,6 @@ module _ {N : Type 0} where
       unfolding read.passed_heard read.all_heard
 
       passed_later : (d : Described) (s : Stage N) → Later s.imports (read.passed_heard object me peer F c d s)
-      passed_later (op.Datum x) s = told_later _ s
-      passed_later (op.Broken p) s = told_later _ s
       passed_later (op.ListOf ds) s = next_later s.imports (λ ys. read.told (Many ys)) (read.all_heard object me peer F c ds s) (all_later ds s) (λ x t. told_later _ t)
       passed_later (op.Third h w) s = gift_later h (key peer w) (read.learnt_at h (key peer w) s.learnt) s
       passed_later (op.MyExport p) s = reference_later (op.MyExport p) s
@@ -97,6 +92,7 @@ module _ {N : Type 0} where
       passed_later (op.YourExport p) s = reference_later (op.YourExport p) s
       passed_later (op.MyAnswer q) s = reference_later (op.MyAnswer q) s
       passed_later (op.YourAnswer q) s = reference_later (op.YourAnswer q) s
+      passed_later other s = told_later _ s
 
       all_later : (ds : Members) (s : Stage N) → Later s.imports (read.all_heard object me peer F c ds s)
       all_later op.none s = told_later _ s

@@ -88,74 +88,57 @@ AskedNew ks s t = (ps : List (Put Name)) × (t.outbox ≡ s.outbox ++ ps) × All
 -- Where ks are the names known before, and what is known in the end is known once: those known after are k1, each note that was put asks for a gift that is new, and nothing stops.
 abbrev pub Learns : {A : Type 0} → List Name → List Name → Vat Name → Done Name A → Type 0
 Learns ks k1 s (Gives a t) = (F : List Name) → Starts (names_in t.known) F → Once F → (names_in t.known ≡ k1) × AskedNew ks s t
-Learns ks k1 s (Throws p t) = Unit {0}
-Learns ks k1 s (Ejects n y t) = Unit {0}
 Learns ks k1 s (Stops c t) = (F : List Name) → Starts (names_in t.known) F → Once F → ⊥
+Learns ks k1 s other = Unit {0}
 
 nothing_asked : (ks : List Name) (s t : Vat Name) → t.outbox ≡ s.outbox → AskedNew ks s t
 nothing_asked ks s t e = ([], e ∙ sym (append-nil s.outbox), tt)
 
 fewer : (ks k1 : List Name) → Starts ks k1 → (n : Note Name) → IsNewAsk k1 n → IsNewAsk ks n
 fewer ks k1 f (Ask p i n) h = (h.0, λ a. h.1 (starts_among ks k1 f n a))
-fewer ks k1 f (Deliver m n verb ys) h = h
-fewer ks k1 f (Open i n) h = h
-fewer ks k1 f (SettledTo n y) h = h
-fewer ks k1 f (Elsewhere n c) h = h
-fewer ks k1 f (Shorten n c i) h = h
+fewer ks k1 f other h = h
 
 asked_on : (ks k1 : List Name) (s t u : Vat Name) → Starts ks k1 → AskedNew ks s t → AskedNew k1 t u → AskedNew ks s u
 asked_on ks k1 s t u f h k = (h.0 ++ k.0, k.1 ∙ ap (λ ps. ps ++ k.0) h.1 ∙ append_assoc s.outbox h.0 k.0, all_append (λ (p : Put Name). IsNewAsk ks p.note) h.0 k.0 h.2 (all_map (λ (p : Put Name) i. fewer ks k1 f p.note i) k.0 k.2))
 
 both_learn : {B : Type 0} (ks k1 k2 : List Name) (s t : Vat Name) (d : Done Name B) → Starts ks k1 → ((F : List Name) → Starts (names_in t.known) F → Once F → (names_in t.known ≡ k1) × AskedNew ks s t) → After Grows t d → (names_in t.known ≡ k1 → Learns k1 k2 t d) → Learns ks k2 s d
 both_learn ks k1 k2 s t (Gives b u) f l g k = λ F h o. let one = l F (starts_on (names_in t.known) (names_in u.known) F g h) o in let two = k one.0 F h o in (two.0, asked_on ks k1 s t u f one.1 two.1)
-both_learn ks k1 k2 s t (Throws p u) f l g k = tt
-both_learn ks k1 k2 s t (Ejects n y u) f l g k = tt
 both_learn ks k1 k2 s t (Stops c u) f l g k = λ F h o. let one = l F (starts_on (names_in t.known) (names_in u.known) F g h) o in k one.0 F h o
+both_learn ks k1 k2 s t other f l g k = tt
 
 then_learns : {A B : Type 0} (ks k1 k2 : List Name) (s : Vat Name) (d : Done Name A) (f : A → Act Name B) → Starts ks k1 → Learns ks k1 s d → ((a : A) → Keeps Grows (f a)) → ((a : A) (t : Vat Name) → names_in t.known ≡ k1 → Learns k1 k2 t (f a t)) → Learns ks k2 s (and_then d f)
 unfolding and_then
 then_learns ks k1 k2 s (Gives a t) f h l g k = both_learn ks k1 k2 s t (f a t) h l ((g a).after t) (k a t)
-then_learns ks k1 k2 s (Throws p t) f h l g k = tt
-then_learns ks k1 k2 s (Ejects n y t) f h l g k = tt
 then_learns ks k1 k2 s (Stops c t) f h l g k = l
+then_learns ks k1 k2 s other f h l g k = tt
 
 -- ---- outcomes of a whole note
 
 -- where what is known in the end is known once, the notes that were put are in order
 abbrev pub Ordered : List Name → Done Name (Unit {0}) → Type 0
 Ordered ks (Gives a t) = Once (names_in t.known) → InOrder ks (notes_of t.outbox)
-Ordered ks (Throws p t) = Unit {0}
-Ordered ks (Ejects n y t) = Unit {0}
-Ordered ks (Stops c t) = Unit {0}
+Ordered ks other = Unit {0}
 
 puts_are : (s t : Vat Name) (ps : List (Put Name)) → s.outbox ≡ [] → t.outbox ≡ s.outbox ++ ps → t.outbox ≡ ps
 puts_are s t ps e f = f ∙ ap (λ qs. qs ++ ps) e
 
 pub quiet_ordered : (ks : List Name) (s : Vat Name) → s.outbox ≡ [] → (d : Done Name (Unit {0})) → Ends Any Quiet s d → Ordered ks d
 quiet_ordered ks s e (Gives a t) q = λ o. subst (λ ps. InOrder ks (notes_of ps)) (sym (puts_are s t q.puts e q.outbox)) (quiet_order ks q.puts q.none)
-quiet_ordered ks s e (Throws p t) q = tt
-quiet_ordered ks s e (Ejects n y t) q = tt
-quiet_ordered ks s e (Stops c t) q = tt
+quiet_ordered ks s e other q = tt
 
 learnt_ordered : (ks k1 : List Name) (s t : Vat Name) → s.outbox ≡ [] → ((F : List Name) → Starts (names_in t.known) F → Once F → (names_in t.known ≡ k1) × AskedNew ks s t) → (d : Done Name (Unit {0})) → Ends Any Quiet t d → Ordered ks d
 learnt_ordered ks k1 s t e l (Gives b u) q = λ o. let one = l (names_in u.known) q.names o in let asked = one.1 in
     let same : u.outbox ≡ asked.0 ++ q.puts = q.outbox ∙ ap (λ ps. ps ++ q.puts) (puts_are s t asked.0 e asked.1) in subst (λ ps. InOrder ks (notes_of ps)) (sym same) (asks_order ks asked.0 q.puts asked.2 q.none)
-learnt_ordered ks k1 s t e l (Throws p u) q = tt
-learnt_ordered ks k1 s t e l (Ejects n y u) q = tt
-learnt_ordered ks k1 s t e l (Stops c u) q = tt
+learnt_ordered ks k1 s t e l other q = tt
 
 learnt_then : {A : Type 0} (ks k1 : List Name) (s : Vat Name) (d : Done Name A) (f : A → Act Name (Unit {0})) → s.outbox ≡ [] → Learns ks k1 s d → ((a : A) → Leads Any Quiet (f a)) → Ordered ks (and_then d f)
 unfolding and_then
 learnt_then ks k1 s (Gives a t) f e l q = learnt_ordered ks k1 s t e l (f a t) ((q a).after t)
-learnt_then ks k1 s (Throws p t) f e l q = tt
-learnt_then ks k1 s (Ejects n y t) f e l q = tt
-learnt_then ks k1 s (Stops c t) f e l q = tt
+learnt_then ks k1 s other f e l q = tt
 
 ordered_less : (less more : List Name) → Within less more → (d : Done Name (Unit {0})) → Ordered more d → Ordered less d
 ordered_less less more f (Gives a t) h = λ o. order_less less more f (notes_of t.outbox) (h o)
-ordered_less less more f (Throws p t) h = tt
-ordered_less less more f (Ejects n y t) h = tt
-ordered_less less more f (Stops c t) h = tt
+ordered_less less more f other h = tt
 
 module _ (word : ℕ → ℕ) (v : ℕ) where
   abbrev K : Naming Name Name
@@ -243,11 +226,10 @@ module _ (word : ℕ → ℕ) (v : ℕ) where
       let new : IsAmong n ks → ⊥ = once_new F ks n (subst (λ ns. Starts ns F) names (starts_on (names_in s1.known) (names_in u.known) F g st)) o in
       let same : u ≡ SettledAlone s1 n t = gives_is a tt u (SettledAlone s1 n t) (sym f ∙ settles_alone s1 n h t (last_entry s.known n h tt (λ b. new (subst (λ ns. IsAmong n ns) e b)))) in
       (ap (λ (z : Vat Name). names_in z.known) same ∙ settled_names s1 n t ∙ names, nothing_asked ks s u (ap (λ (z : Vat Name). z.outbox) same ∙ settled_outbox s1 n t))
-  gift_settles ks h i s t e (Throws p u) f g = tt
-  gift_settles ks h i s t e (Ejects n y u) f g = tt
   gift_settles ks h i s t e (Stops c u) f g = λ F st o. let s1 : Vat Name = With s h i in let n = Gift h i in
       let new : IsAmong n ks → ⊥ = once_new F ks n (subst (λ ns. Starts ns F) (with_names ks s h i e) (starts_on (names_in s1.known) (names_in u.known) F g st)) o in
       gives_no c tt u (SettledAlone s1 n t) (sym f ∙ settles_alone s1 n h t (last_entry s.known n h tt (λ b. new (subst (λ ns. IsAmong n ns) e b))))
+  gift_settles ks h i s t e other f g = tt
 
   gift_either : (ks : List Name) (p h i : ℕ) (s : Vat Name) (t : Words) → names_in s.known ≡ ks → (b : Bool) → Learns ks (ks ++ Gift h i ∷ []) s (and_then ((if b then refs.settle K (Gift h i) (Broken t) else send_out h (Ask p i (Gift h i))) (With s h i)) (λ _. give (Ref (Gift h i))))
   unfolding and_then give send_out With
@@ -309,15 +291,11 @@ module _ (word : ℕ → ℕ) (v : ℕ) where
   seen_ends : (ks : List Name) (n : Name) (h c i : ℕ) (s2 : Vat Name) → IsKnownIn ks n → names_in s2.known ≡ ks ++ Gift c i ∷ [] → s2.outbox ≡ record { to = h; note = Shorten n c i } ∷ (record { to = c; note = Ask h i (Gift c i) } ∷ []) → (d : Done Name (Unit {0})) → Ends Any Quiet s2 d → Ordered ks d
   unfolding notes_of
   seen_ends ks n h c i s2 k e f (Gives a t) q = λ o. subst (λ ps. InOrder ks (notes_of ps)) (sym (q.outbox ∙ ap (λ ps. ps ++ q.puts) f)) (shortened ks n h c i q.puts k (once_new (names_in t.known) ks (Gift c i) (subst (λ ns. Starts ns (names_in t.known)) e q.names) o) q.none)
-  seen_ends ks n h c i s2 k e f (Throws p t) q = tt
-  seen_ends ks n h c i s2 k e f (Ejects m y t) q = tt
-  seen_ends ks n h c i s2 k e f (Stops r t) q = tt
+  seen_ends ks n h c i s2 k e f other q = tt
 
   quiet_from : (ks : List Name) (s t : Vat Name) → s.outbox ≡ [] → Quiet s t → (d : Done Name (Unit {0})) → Ends Any Quiet t d → Ordered ks d
   quiet_from ks s t e q (Gives a u) r = quiet_ordered ks s e (Gives a u) (quiet_on q r)
-  quiet_from ks s t e q (Throws p u) r = tt
-  quiet_from ks s t e q (Ejects n y u) r = tt
-  quiet_from ks s t e q (Stops c u) r = tt
+  quiet_from ks s t e q other r = tt
 
   there_either : (ks : List Name) (n : Name) (h c i : ℕ) (s s1 : Vat Name) → IsKnownIn ks n → names_in s.known ≡ ks → s.outbox ≡ [] → s1.known ≡ s.known → s1.outbox ≡ s.outbox ++ record { to = h; note = Shorten n c i } ∷ [] → (b : Bool)
       → Ordered ks (and_then ((if b then arrive.have_gift K h i else (come K (IsGift c i) c >>= (λ g. send_out c (Ask h i g) >> give g))) s1) (λ g. arrive.see K n g))
@@ -358,41 +336,35 @@ module _ (word : ℕ → ℕ) (v : ℕ) where
   -- where what is known in the end is known once, also where it stopped, it begins with these names
   abbrev pub Begins : List Name → Done Name (Unit {0}) → Type 0
   Begins ks (Gives a t) = Once (names_in t.known) → Starts ks (names_in t.known)
-  Begins ks (Throws p t) = Unit {0}
-  Begins ks (Ejects n y t) = Unit {0}
   Begins ks (Stops c t) = Once (names_in t.known) → Starts ks (names_in t.known)
+  Begins ks other = Unit {0}
 
   learnt_begins : (ks k1 : List Name) (s t : Vat Name) → ((F : List Name) → Starts (names_in t.known) F → Once F → (names_in t.known ≡ k1) × AskedNew ks s t) → (d : Done Name (Unit {0})) → After Grows t d → Begins k1 d
   learnt_begins ks k1 s t l (Gives b u) g = λ o. let one = l (names_in u.known) g o in subst (λ ns. Starts ns (names_in u.known)) one.0 g
-  learnt_begins ks k1 s t l (Throws p u) g = tt
-  learnt_begins ks k1 s t l (Ejects n y u) g = tt
   learnt_begins ks k1 s t l (Stops c u) g = λ o. let one = l (names_in u.known) g o in subst (λ ns. Starts ns (names_in u.known)) one.0 g
+  learnt_begins ks k1 s t l other g = tt
 
   pub begins_with : {A : Type 0} (ks k1 : List Name) (s : Vat Name) (d : Done Name A) (f : A → Act Name (Unit {0})) → Learns ks k1 s d → ((a : A) → Keeps Grows (f a)) → Begins k1 (and_then d f)
   unfolding and_then
   begins_with ks k1 s (Gives a t) f l g = learnt_begins ks k1 s t l (f a t) ((g a).after t)
-  begins_with ks k1 s (Throws p t) f l g = tt
-  begins_with ks k1 s (Ejects n y t) f l g = tt
   begins_with ks k1 s (Stops c t) f l g = λ o. absurd (l (names_in t.known) (starts_same (names_in t.known)) o)
+  begins_with ks k1 s other f l g = tt
 
   pub begun_by : (ks k1 k2 : List Name) (s t : Vat Name) → ((F : List Name) → Starts (names_in t.known) F → Once F → (names_in t.known ≡ k1) × AskedNew ks s t) → (d : Done Name (Unit {0})) → After Grows t d → (names_in t.known ≡ k1 → Begins k2 d) → Begins k2 d
   begun_by ks k1 k2 s t l (Gives b u) g f = λ o. f (l (names_in u.known) g o).0 o
-  begun_by ks k1 k2 s t l (Throws p u) g f = tt
-  begun_by ks k1 k2 s t l (Ejects n y u) g f = tt
   begun_by ks k1 k2 s t l (Stops c u) g f = λ o. f (l (names_in u.known) g o).0 o
+  begun_by ks k1 k2 s t l other g f = tt
 
   then_begins : {A : Type 0} (ks k1 k2 : List Name) (s : Vat Name) (d : Done Name A) (f : A → Act Name (Unit {0})) → Learns ks k1 s d → ((a : A) → Keeps Grows (f a)) → ((a : A) (t : Vat Name) → names_in t.known ≡ k1 → Begins k2 (f a t)) → Begins k2 (and_then d f)
   unfolding and_then
   then_begins ks k1 k2 s (Gives a t) f l g h = begun_by ks k1 k2 s t l (f a t) ((g a).after t) (h a t)
-  then_begins ks k1 k2 s (Throws p t) f l g h = tt
-  then_begins ks k1 k2 s (Ejects n y t) f l g h = tt
   then_begins ks k1 k2 s (Stops c t) f l g h = λ o. absurd (l (names_in t.known) (starts_same (names_in t.known)) o)
+  then_begins ks k1 k2 s other f l g h = tt
 
   pub grows_begins : (ks : List Name) (s : Vat Name) → names_in s.known ≡ ks → (d : Done Name (Unit {0})) → After Grows s d → Begins ks d
   grows_begins ks s e (Gives a t) g = λ o. subst (λ ns. Starts ns (names_in t.known)) e g
-  grows_begins ks s e (Throws p t) g = tt
-  grows_begins ks s e (Ejects n y t) g = tt
   grows_begins ks s e (Stops c t) g = λ o. subst (λ ns. Starts ns (names_in t.known)) e g
+  grows_begins ks s e other g = tt
 
   abbrev pub Answered : ℕ → Words → Name → List (Value Name) → Name → Act Name (Unit {0})
   Answered from verb id args n = look (λ s. s.number) >>= (λ u. come K (IsAnswer u id) u >>= (λ a. alter K (ToTell from) a >> refs.send_on K (refs.settle K) (record { id = id; target = Ref n; verb = verb; args = args; answer = Some a })))

@@ -25,18 +25,12 @@ SentBy to n ns = AskFits ns to n × AllOf (IsKnownIn ns) (told_in n)
 abbrev pub AsksOwn : ℕ → Note Name → Type 0
 AsksOwn to (Ask p i n) = n ≡ Gift to i
 AsksOwn to (Deliver d n verb ys) = IsMessageName d.message
-AsksOwn to (Open i n) = Unit {0}
-AsksOwn to (SettledTo n y) = Unit {0}
-AsksOwn to (Elsewhere n c) = Unit {0}
-AsksOwn to (Shorten n c i) = Unit {0}
+AsksOwn to other = Unit {0}
 
 pub asks_own : (ns : List Name) (to : ℕ) (n : Note Name) → MailFits n → AskFits ns to n → AsksOwn to n
 asks_own ns to (Ask p i n) o h = h.1
 asks_own ns to (Deliver m n verb ys) o h = o
-asks_own ns to (Open i n) o h = tt
-asks_own ns to (SettledTo n y) o h = tt
-asks_own ns to (Elsewhere n c) o h = tt
-asks_own ns to (Shorten n c i) o h = tt
+asks_own ns to other o h = tt
 
 -- the receiver knows what it was asked for and what it was told
 abbrev pub HeardBy : ℕ → Note Name → List Name → Type 0
@@ -70,10 +64,7 @@ Grows us vs = (v : ℕ) (t : Vat Name) → slice_get vs v ≡ Some t → (s : Va
 answered_up : (ns ms : List Name) → ((n : Name) → IsAmong n ns → IsAmong n ms) → (v : ℕ) (n : Note Name) → Answered v ns n → Answered v ms n
 answered_up ns ms f v (Deliver d n verb ys) h = λ e. f _ (h e)
 answered_up ns ms f v (Ask p i n) h = f _ h
-answered_up ns ms f v (Open i n) h = tt
-answered_up ns ms f v (SettledTo n y) h = tt
-answered_up ns ms f v (Elsewhere n c) h = tt
-answered_up ns ms f v (Shorten n c i) h = tt
+answered_up ns ms f v other h = tt
 
 module _ (us vs : List (Vat Name)) (grows : Grows us vs) where
   knowing_up : (v : ℕ) (P : List Name → Type 0) → ((ns ms : List Name) → ((n : Name) → IsAmong n ns → IsAmong n ms) → P ns → P ms) → Knowing us v P → Knowing vs v P

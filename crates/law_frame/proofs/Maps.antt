@@ -92,10 +92,7 @@ module _ {N M W V : Type 0} (f : N → M) (g : W → V) (object : N → Bool) (o
   name_alike (op.YourExport p) s = if_alike (slice_get c.exports p) _ s (slice_get-map f c.exports p)
   name_alike (op.MyAnswer q) s = if_alike (slice_get c.questions q) _ s (slice_get-map f c.questions q)
   name_alike (op.YourAnswer q) s = if_alike (slice_get c.answers q) _ s (slice_get-map f c.answers q)
-  name_alike (op.Datum x) s = refl
-  name_alike (op.ListOf ds) s = refl
-  name_alike (op.Broken p) s = refl
-  name_alike (op.Third h i) s = refl
+  name_alike other s = refl
 
   abbrev Ps : Passed (Incoming N W) → Passed (Incoming M V)
   Ps = maps.passed In
@@ -129,11 +126,7 @@ module _ {N M W V : Type 0} (f : N → M) (g : W → V) (object : N → Bool) (o
   fact_alike : (x : Fact) → maps.value In (read.fact_heard object me peer F c x) ≡ read.fact_heard other me peer G d x
   unfolding read.fact_heard
   fact_alike plain.Null = refl
-  fact_alike (plain.Bool b) = refl
-  fact_alike (plain.Int z) = refl
-  fact_alike (plain.Char x) = refl
-  fact_alike (plain.Text x) = refl
-  fact_alike (plain.Prim n) = refl
+  fact_alike other = refl
 
   abbrev Pss : Passeds (Incoming N W) → Passeds (Incoming M V)
   Pss = maps.passeds In

@@ -29,27 +29,14 @@ use Rattle.law_reference.specs.GiftPassing.{gifts_in, gifts_in_all, gifts_in_not
 module _ (i : ℕ) where
   -- it is no gift of draw i that is asked for
   abbrev pub Missed : Bit Name → Type 0
-  Missed (Named n) = Unit {0}
-  Missed (Mail n) = Unit {0}
-  Missed (Drew j) = Unit {0}
-  Missed (At h) = Unit {0}
-  Missed (Off h) = Unit {0}
-  Missed (Entered n) = Unit {0}
-  Missed (Owns n j) = Unit {0}
   Missed (Gave j) = j ≡ i → ⊥
+  Missed other = Unit {0}
 
   -- ---- nothing that a vat has asks for one, but in notes
 
   value_all : (y : Value Name) → ValueOk Missed y
   value_all Null = tt
-  value_all (Flag b) = tt
-  value_all (Number z) = tt
-  value_all (Letter c) = tt
-  value_all (Text t) = tt
-  value_all (Prim n) = tt
-  value_all (Broken p) = tt
-  value_all (Items k) = tt
-  value_all (Ref n) = tt
+  value_all other = tt
 
   every : {A : Type 0} (P : A → Type 0) → ((a : A) → P a) → (xs : List A) → AllOf P xs
   every P f [] = tt
@@ -66,10 +53,8 @@ module _ (i : ℕ) where
   message_all m = (tt, value_all m.target, values_all m.args, answer_all m.answer)
 
   standing_all : (z : Standing Name) → StandingOk Missed z
-  standing_all Unsettled = tt
-  standing_all (WaitsOn q) = tt
-  standing_all (Viewed q) = tt
   standing_all (Settled y) = value_all y
+  standing_all other = tt
 
   known_all : (k : Known Name) → KnownOk Missed k
   known_all k = (tt, standing_all k.standing, every (MessageOk Missed) message_all k.held, every (EntryOk Missed) (λ n. tt) k.waiting, every (MessageOk Missed) message_all k.reactions, every (λ (w : ℕ). Unit {0}) (λ w. tt) k.told)
@@ -78,10 +63,8 @@ module _ (i : ℕ) where
   cell_all c = (value_all c.guard, value_all c.value)
 
   freedom_all : (f : Freedom Name) → FreedomOk Missed f
-  freedom_all IsSafe = tt
-  freedom_all IsItself = tt
   freedom_all (IsFinal g) = value_all g
-  freedom_all IsVar = tt
+  freedom_all other = tt
 
   view_all : (view : View Name) → ViewOk Missed view
   view_all view = every (λ (f : FreeName Name). FreedomOk Missed f.freedom) (λ f. freedom_all f.freedom) view.free
@@ -95,9 +78,8 @@ module _ (i : ℕ) where
 
   thing_all : (t : Thing Name) → ThingOk Missed t
   thing_all (Made node caught stamps) = (every (NounOk Missed) noun_all caught, values_all stamps)
-  thing_all (Ejector live) = tt
   thing_all (Audition live view) = view_all view
-  thing_all (Resolver p) = tt
+  thing_all other = tt
 
   gift_all : (g : GiftEntry Name) → GiftOk Missed g
   gift_all g = (tt, tt)
@@ -270,14 +252,7 @@ module _ (i : ℕ) where
 
   value_tells : (y : Value Name) → PassedTells (λ z. Unit {0}) (λ h j. j ≡ i → ⊥) (λ j. j ≡ i → ⊥) (Plain y)
   value_tells (Ref n) = tt
-  value_tells Null = tt
-  value_tells (Flag b) = tt
-  value_tells (Number z) = tt
-  value_tells (Letter c) = tt
-  value_tells (Text x) = tt
-  value_tells (Prim k) = tt
-  value_tells (Broken x) = tt
-  value_tells (Items k) = tt
+  value_tells other = tt
 
   mutual
     unfolding gifts_in gifts_in_all
@@ -294,19 +269,11 @@ module _ (i : ℕ) where
 -- a note asks for no gift of draw i
 abbrev pub AsksNoGift : ℕ → Note Name → Type 0
 AsksNoGift i (Ask p j n) = j ≡ i → ⊥
-AsksNoGift i (Deliver m n verb ys) = Unit {0}
-AsksNoGift i (Open j n) = Unit {0}
-AsksNoGift i (SettledTo n y) = Unit {0}
-AsksNoGift i (Elsewhere n c) = Unit {0}
-AsksNoGift i (Shorten n c j) = Unit {0}
+AsksNoGift i other = Unit {0}
 
 ok_asks : (i : ℕ) (n : Note Name) → (p : Put Name) → p.note ≡ n → PutOk (Missed i) p → AsksNoGift i n
 ok_asks i (Ask q j n) p e h = let one : PutOk (Missed i) (record p { note = Ask q j n }) = subst (λ z. PutOk (Missed i) (record p { note = z })) e h in one.0.0
-ok_asks i (Deliver m n verb ys) p e h = tt
-ok_asks i (Open j n) p e h = tt
-ok_asks i (SettledTo n y) p e h = tt
-ok_asks i (Elsewhere n c) p e h = tt
-ok_asks i (Shorten n c j) p e h = tt
+ok_asks i other p e h = tt
 
 all_asks : (i : ℕ) (ps : List (Put Name)) → AllOf (PutOk (Missed i)) ps → AllOf (λ (p : Put Name). AsksNoGift i p.note) ps
 all_asks i [] h = tt
@@ -314,11 +281,7 @@ all_asks i (p ∷ ps) h = (ok_asks i p.note p refl h.0, all_asks i ps h.1)
 
 no_asks : (i : ℕ) (n : Note Name) → IsNoAsk n → AsksNoGift i n
 no_asks i (Ask q j n) h = absurd h
-no_asks i (Deliver m n verb ys) h = tt
-no_asks i (Open j n) h = tt
-no_asks i (SettledTo n y) h = tt
-no_asks i (Elsewhere n c) h = tt
-no_asks i (Shorten n c j) h = tt
+no_asks i other h = tt
 
 all_no_asks : (i : ℕ) (ps : List (Put Name)) → AllOf (λ (p : Put Name). IsNoAsk p.note) ps → AllOf (λ (p : Put Name). AsksNoGift i p.note) ps
 all_no_asks i [] h = tt

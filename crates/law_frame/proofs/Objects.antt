@@ -17,7 +17,7 @@ use Rattle.law_name.proofs.Facts.{all_end, PlaceOk, Fact, Nothing, Also, IsName,
 use Rattle.law_name.proofs.Care.{Care, Under, Giving, Makes, Gets, Fine, Ends, fine_bind, fine_less, fine_then, fine_give, fine_look, fine_tell, fine_out, fine_draw, fine_wait, come_gift, changes_ok, begun_ok}
 use Rattle.law_name.proofs.SameNames.{reference_is}
 use Rattle.law_name.proofs.CareRefs.{fine_settle}
-use Rattle.law_name.proofs.Serves.{served_by}
+use Rattle.law_name.proofs.Serves.{served_by, closing_by}
 use Rattle.law_name.proofs.CareEval.{fine_opening, fine_taking}
 use Rattle.law_name.proofs.CareArrive.{Gifts, gifts_by, fine_gift_there, fine_ask_for, fine_make_list, fine_arrive_ask, fine_delivered, fine_opened, fine_went, fine_shortened, fine_notice}
 use Rattle.law_frame.specs.Asked.{told_value, told_passed, told_all, told_in}
@@ -26,21 +26,14 @@ use Rattle.law_frame.proofs.ArriveAsking.{MailFits, among_front, among_back}
 -- an object is the vat's own, or was told to it
 abbrev pub OwnOrTold : ℕ → (Name → Type 0) → Name → Type 0
 OwnOrTold v T (Object w i) = (w ≡ v) ⊎ T (Object w i)
-OwnOrTold v T (Root w) = Unit {0}
-OwnOrTold v T (Promise w i) = Unit {0}
-OwnOrTold v T (Answer w m) = Unit {0}
-OwnOrTold v T (Gift w i) = Unit {0}
-OwnOrTold v T (Sent m) = Unit {0}
+OwnOrTold v T other = Unit {0}
 
 abbrev pub Handed : ℕ → (Name → Type 0) → Bit Name → Type 0
 Handed v T (Named n) = OwnOrTold v T n
 Handed v T (Mail n) = IsMessageName n
-Handed v T (Drew i) = Unit {0}
-Handed v T (At h) = Unit {0}
-Handed v T (Off h) = Unit {0}
 Handed v T (Entered n) = OwnOrTold v T n
 Handed v T (Owns n i) = OwnOrTold v T n
-Handed v T (Gave i) = Unit {0}
+Handed v T other = Unit {0}
 
 -- so is each object in all that a vat has
 abbrev pub AllHanded : ℕ → (Name → Type 0) → Vat Name → Type 0
@@ -49,21 +42,14 @@ AllHanded v T s = Parts (Handed v T) s.things s.slots s.lists s.queue s.known s.
 own_up : (v : ℕ) (T U : Name → Type 0) → ((n : Name) → T n → U n) → (n : Name) → OwnOrTold v T n → OwnOrTold v U n
 own_up v T U f (Object w i) (inl e) = inl e
 own_up v T U f (Object w i) (inr h) = inr (f (Object w i) h)
-own_up v T U f (Root w) h = tt
-own_up v T U f (Promise w i) h = tt
-own_up v T U f (Answer w m) h = tt
-own_up v T U f (Gift w i) h = tt
-own_up v T U f (Sent m) h = tt
+own_up v T U f other h = tt
 
 pub handed_up : (v : ℕ) (T U : Name → Type 0) → ((n : Name) → T n → U n) → (b : Bit Name) → Handed v T b → Handed v U b
 handed_up v T U f (Named n) h = own_up v T U f n h
 handed_up v T U f (Mail n) h = h
-handed_up v T U f (Drew i) h = tt
-handed_up v T U f (At w) h = tt
-handed_up v T U f (Off w) h = tt
 handed_up v T U f (Entered n) h = own_up v T U f n h
 handed_up v T U f (Owns n i) h = own_up v T U f n h
-handed_up v T U f (Gave i) h = tt
+handed_up v T U f other h = tt
 
 module _ (v : ℕ) (T : Name → Type 0) where
   abbrev pub Hands : Care Name
@@ -107,11 +93,7 @@ module _ (v : ℕ) (T : Name → Type 0) where
     answer_ok : (h : ℕ) (m : Name) → IsMessageName m → OwnOrTold v T (answer_of h m)
     unfolding answer_of
     answer_ok h (Sent m) o = tt
-    answer_ok h (Root w) o = absurd o
-    answer_ok h (Object w i) o = absurd o
-    answer_ok h (Promise w i) o = absurd o
-    answer_ok h (Answer w m) o = absurd o
-    answer_ok h (Gift w i) o = absurd o
+    answer_ok h other o = absurd o
 
     pub under : Under K Hands
     unfolding naming name_of
@@ -219,7 +201,7 @@ module _ (v : ℕ) (T : Name → Type 0) where
     taking_handed tree depth m = fine_taking K Hands under makes tree depth m (record { at = λ r c. c })
 
     pub opening_handed : (tree : List Node) (depth : ℕ) (root : Name) (given : List (Binding Name)) → Fine Hands (Also (IsName root) (AreNouns given)) (eval.opening K tree depth root given) nothing
-    opening_handed tree depth root given = fine_opening K Hands (served_by K Hands under makes) tree depth root (record { at = λ r c. c.0 }) given (record { at = λ r c. c.1 })
+    opening_handed tree depth root given = fine_opening K Hands (served_by K Hands under makes) tree depth root (record { at = λ r c. c.0 }) (closing_by K Hands under root) given (record { at = λ r c. c.1 })
 
   given_handed : (ps : List Program) (us : List ℕ) → AllOf (NounOk (Handed v T)) (world.given ps us)
   unfolding world.given any_guard
@@ -229,15 +211,11 @@ module _ (v : ℕ) (T : Name → Type 0) where
   -- of the state that is given
   abbrev pub GivesHanded : {A : Type 0} → Done Name A → Type 0
   GivesHanded (Gives a t) = AllHanded v T t
-  GivesHanded (Throws p t) = Unit {0}
-  GivesHanded (Ejects n y t) = Unit {0}
-  GivesHanded (Stops c t) = Unit {0}
+  GivesHanded other = Unit {0}
 
   pub ends_handed : {A : Type 0} (G : A → Fact Name) (s : Vat Name) (d : Done Name A) → Ends Hands G s d → GivesHanded d
   ends_handed G s (Gives a t) h = let sound = h.1 in sound.parts
-  ends_handed G s (Throws p t) h = tt
-  ends_handed G s (Ejects n y t) h = tt
-  ends_handed G s (Stops c t) h = tt
+  ends_handed G s other h = tt
 
   pub nouns_handed : (ps : List Program) (us : List ℕ) → AllOf (NounOk (Handed v T)) (world.given ps us)
   nouns_handed ps us = given_handed ps us

@@ -10,11 +10,7 @@ use Rattle.law_frame.proofs.AlikeAsking.{IsNoAsk}
 -- the gift for which it asks is none of these
 abbrev pub AsksNew : List Name → Note Name → Type 0
 AsksNew seen (Ask p i n) = IsEventual n × (IsAmong n seen → ⊥)
-AsksNew seen (Deliver m n verb ys) = Unit {0}
-AsksNew seen (Open i n) = Unit {0}
-AsksNew seen (SettledTo n y) = Unit {0}
-AsksNew seen (Elsewhere n c) = Unit {0}
-AsksNew seen (Shorten n c i) = Unit {0}
+AsksNew seen other = Unit {0}
 
 -- each gift for which one of the notes asks is none of these names, nor told in a note in front of it
 abbrev pub InOrder : List Name → List (Note Name) → Type 0
@@ -24,11 +20,7 @@ InOrder seen (n ∷ ns) = AsksNew seen n × InOrder (seen ++ told_in n) ns
 -- it asks for a gift that is none of these
 abbrev pub IsNewAsk : List Name → Note Name → Type 0
 IsNewAsk seen (Ask p i n) = IsEventual n × (IsAmong n seen → ⊥)
-IsNewAsk seen (Deliver m n verb ys) = ⊥
-IsNewAsk seen (Open i n) = ⊥
-IsNewAsk seen (SettledTo n y) = ⊥
-IsNewAsk seen (Elsewhere n c) = ⊥
-IsNewAsk seen (Shorten n c i) = ⊥
+IsNewAsk seen other = ⊥
 
 unfoldable pub notes_of : List (Put Name) → List (Note Name)
 notes_of [] = []
@@ -42,11 +34,7 @@ Within less more = (n : Name) → IsEventual n → IsAmong n less → IsAmong n 
 
 new_less : (less more : List Name) → Within less more → (n : Note Name) → AsksNew more n → AsksNew less n
 new_less less more f (Ask p i n) h = (h.0, λ a. h.1 (f n h.0 a))
-new_less less more f (Deliver m n verb ys) h = tt
-new_less less more f (Open i n) h = tt
-new_less less more f (SettledTo n y) h = tt
-new_less less more f (Elsewhere n c) h = tt
-new_less less more f (Shorten n c i) h = tt
+new_less less more f other h = tt
 
 among_either : (n : Name) (xs ys : List Name) → IsAmong n (xs ++ ys) → IsAmong n xs ⊎ IsAmong n ys
 among_either n [] ys a = inr a
@@ -72,11 +60,7 @@ order_less less more f (n ∷ ns) h = (new_less less more f n h.0, order_less (l
 
 no_new : (seen : List Name) (n : Note Name) → IsNoAsk n → AsksNew seen n
 no_new seen (Ask p i n) h = absurd h
-no_new seen (Deliver m n verb ys) h = tt
-no_new seen (Open i n) h = tt
-no_new seen (SettledTo n y) h = tt
-no_new seen (Elsewhere n c) h = tt
-no_new seen (Shorten n c i) h = tt
+no_new seen other h = tt
 
 pub quiet_order : (seen : List Name) (ps : List (Put Name)) → AllOf (λ (p : Put Name). IsNoAsk p.note) ps → InOrder seen (notes_of ps)
 unfolding notes_of
@@ -86,11 +70,7 @@ quiet_order seen (p ∷ ps) h = (no_new seen p.note h.0, quiet_order (seen ++ to
 new_ask : (seen : List Name) (n : Note Name) → IsNewAsk seen n → AsksNew seen n × (told_in n ≡ [])
 unfolding told_in
 new_ask seen (Ask p i n) h = (h, refl)
-new_ask seen (Deliver m n verb ys) h = absurd h
-new_ask seen (Open i n) h = absurd h
-new_ask seen (SettledTo n y) h = absurd h
-new_ask seen (Elsewhere n c) h = absurd h
-new_ask seen (Shorten n c i) h = absurd h
+new_ask seen other h = absurd h
 
 pub asks_order : (seen : List Name) (ps qs : List (Put Name)) → AllOf (λ (p : Put Name). IsNewAsk seen p.note) ps → AllOf (λ (p : Put Name). IsNoAsk p.note) qs → InOrder seen (notes_of (ps ++ qs))
 unfolding notes_of

@@ -50,9 +50,7 @@ state_put x y u s r t there after e = some_same t r (sym (get_put x.vats u s t t
 
 pub given : (f : Local → Found) (d : Done Local (Unit {0})) (z : Vat Found) → maps.done f (λ a. a) d ≡ Gives tt z → (p : Vat Local) × (d ≡ Gives tt p) × (maps.vat f p ≡ z)
 given f (Gives a p) z e = (p, refl, let i : maps.vat f p ≡ z = cc in i)
-given f (Throws t p) z e = cc
-given f (Ejects n v p) z e = cc
-given f (Stops c p) z e = cc
+given f other z e = cc
 
 pub ends_with : (t : Table) (r : Vat Name) (d : Done Name (Unit {0})) → d ≡ Gives tt r → names_in r.known ≡ t.names → r.mails ≡ t.mails → EndsWith t d
 ends_with t r d e f g = subst (λ z. EndsWith t z) (sym e) (f, g)

@@ -46,9 +46,7 @@ module _ (script : Script) (x y : World) (u : ℕ) where
   put_still : (v : ℕ) → (v ≡ u → ⊥) → (w : World) (head : List Event) (k : ℕ) (d : Done Name (Unit {0})) → Still x u w.links → world.put_back v w head k d ≡ Going y → Still x u y.links
   unfolding world.put_back
   put_still v o w head k (Gives a t) g e = links_are (record { fuel = t.fuel; drawn = t.drawn; vats = put_at v t w.vats; links = push_all v t.outbox w.links; connections = world.connections_after v t head w.connections; history = w.history ++ head ++ world.events_of w.links v t.happened }) e (at_put x u v o t.outbox w.links g)
-  put_still v o w head k (Throws p t) g e = cc
-  put_still v o w head k (Ejects n z t) g e = cc
-  put_still v o w head k (Stops c t) g e = cc
+  put_still v o w head k other g e = cc
 
   idle_still : (k : ℕ) (w : World) → Still x u w.links → world.idle script k w ≡ Going y → Still x u y.links
   unfolding world.idle

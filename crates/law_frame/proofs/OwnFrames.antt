@@ -60,12 +60,8 @@ module _ (u v : ℕ) (t : Table) (good : IsTable u t) (S : Sight Local) (sees : 
 
   same_named : (a b : Name) → refers a ≡ true → same_reference a b ≡ same_name a b
   unfolding refers same_reference
-  same_named (Root w) b p = refl
-  same_named (Object w i) b p = refl
-  same_named (Promise w i) b p = refl
-  same_named (Answer h m) b p = refl
-  same_named (Gift h i) b p = refl
   same_named (Sent m) b p = cc
+  same_named other b p = refl
 
   same_is : (a b : Name) → refers a ≡ true → found_same (Is a) (Is b) ≡ (sight u v).same a b
   unfolding found_same sight
@@ -88,19 +84,11 @@ module _ (u v : ℕ) (t : Table) (good : IsTable u t) (S : Sight Local) (sees : 
 
   names_ask : (m : Note Name) → AsksAlike Is (sight u v) T m
   names_ask (Deliver e m x zs) = λ a. answer_is e.message
-  names_ask (Open i n) = tt
-  names_ask (Ask p i n) = tt
-  names_ask (SettledTo n y) = tt
-  names_ask (Elsewhere n c) = tt
-  names_ask (Shorten n c i) = tt
+  names_ask other = tt
 
   abbrev message_of : Found → Note Found → Found
   message_of x (Deliver d n verb ys) = d.message
-  message_of x (Open i n) = x
-  message_of x (Ask p i n) = x
-  message_of x (SettledTo n y) = x
-  message_of x (Elsewhere n c) = x
-  message_of x (Shorten n c i) = x
+  message_of x other = x
 
   answer_found : (x : Found) (m : Name) → x ≡ Is m → found_answer v x ≡ Is (answer_of v m)
   unfolding found_answer
@@ -108,16 +96,8 @@ module _ (u v : ℕ) (t : Table) (good : IsTable u t) (S : Sight Local) (sees : 
 
   numbers_ask : (n : Note Local) (m : Note Name) → maps.note (found u t) n ≡ maps.note Is m → AsksFor u v t S n m → AsksAlike (found u t) S T n
   numbers_ask (Deliver d n verb ys) (Deliver e m x zs) k a = λ b. answer_found (found u t d.message) e.message (ap (message_of (Is m)) k) ∙ sym (a b)
-  numbers_ask (Deliver d n verb ys) (Open i m) k a = cc
-  numbers_ask (Deliver d n verb ys) (Ask p i m) k a = cc
-  numbers_ask (Deliver d n verb ys) (SettledTo m y) k a = cc
-  numbers_ask (Deliver d n verb ys) (Elsewhere m c) k a = cc
-  numbers_ask (Deliver d n verb ys) (Shorten m c i) k a = cc
-  numbers_ask (Open i n) m k a = tt
-  numbers_ask (Ask p i n) m k a = tt
-  numbers_ask (SettledTo n y) m k a = tt
-  numbers_ask (Elsewhere n c) m k a = tt
-  numbers_ask (Shorten n c i) m k a = tt
+  numbers_ask (Deliver d n verb ys) other k a = cc
+  numbers_ask other m k a = tt
 
 pub frames_are_written_by_numbers : FramesAreWrittenByNumbers
 frames_are_written_by_numbers u v t good S sees c d n m e k may may_is note note_is asks =

@@ -76,14 +76,7 @@ module _ (v : ℕ) (asked : List Name) where
   value_starts : (y : Value Name) (ns : List Name) → Starts ns (wire.with_value v asked y ns)
   unfolding wire.with_value
   value_starts (Ref n) ns = export_starts n ns
-  value_starts Null ns = starts_same ns
-  value_starts (Flag b) ns = starts_same ns
-  value_starts (Number z) ns = starts_same ns
-  value_starts (Letter c) ns = starts_same ns
-  value_starts (Text t) ns = starts_same ns
-  value_starts (Prim i) ns = starts_same ns
-  value_starts (Broken p) ns = starts_same ns
-  value_starts (Items k) ns = starts_same ns
+  value_starts other ns = starts_same ns
 
   mutual
     unfolding wire.with_passed wire.with_all

@@ -31,15 +31,11 @@ use Rattle.law_frame.proofs.Grow.{true_false, on_bool, get_front, rank_less, sta
 
 -- it describes a name of one of the two vats
 abbrev IsNaming : Described → Type 0
-IsNaming (op.MyExport p) = Unit {0}
-IsNaming (op.MyPromise p) = Unit {0}
-IsNaming (op.YourExport p) = Unit {0}
-IsNaming (op.MyAnswer q) = Unit {0}
-IsNaming (op.YourAnswer q) = Unit {0}
 IsNaming (op.Datum x) = ⊥
 IsNaming (op.ListOf ds) = ⊥
 IsNaming (op.Broken p) = ⊥
 IsNaming (op.Third h s) = ⊥
+IsNaming other = Unit {0}
 
 -- what was heard, the numbers of what was exported by then, and how many names are known by then
 abbrev Gets : {A : Type 0} → A → List Local → ℕ → Option (Heard A)
@@ -211,11 +207,7 @@ module _ (script : Script) (w : World) (v u : ℕ) (s : Vat Name) (N : Note Name
   kind : (n : Name) → Eventually n ⊎ ((c : ℕ) × (j : ℕ) × (n ≡ Object c j))
   unfolding is_old import_number own_number wire.exported
   kind (Object c j) = inr (c, j, refl)
-  kind (Root c) = inl (record { old = λ ks. refl; known = λ ks k. k; imported = λ q. refl; owned = refl; described = λ p. refl })
-  kind (Promise c i) = inl (record { old = λ ks. refl; known = λ ks k. k; imported = λ q. refl; owned = refl; described = λ p. refl })
-  kind (Answer c m) = inl (record { old = λ ks. refl; known = λ ks k. k; imported = λ q. refl; owned = refl; described = λ p. refl })
-  kind (Gift c i) = inl (record { old = λ ks. refl; known = λ ks k. k; imported = λ q. refl; owned = refl; described = λ p. refl })
-  kind (Sent m) = inl (record { old = λ ks. refl; known = λ ks k. k; imported = λ q. refl; owned = refl; described = λ p. refl })
+  kind other = inl (record { old = λ ks. refl; known = λ ks k. k; imported = λ q. refl; owned = refl; described = λ p. refl })
 
   -- ---- numbers and what they stand for
 
@@ -459,11 +451,7 @@ module _ (script : Script) (w : World) (v u : ℕ) (s : Vat Name) (N : Note Name
   exported_naming : (p : ℕ) (n : Name) → IsNaming (wire.exported word_of w.links p n)
   unfolding wire.exported
   exported_naming p (Object c j) = tt
-  exported_naming p (Root c) = tt
-  exported_naming p (Promise c i) = tt
-  exported_naming p (Answer c m) = tt
-  exported_naming p (Gift c i) = tt
-  exported_naming p (Sent m) = tt
+  exported_naming p other = tt
 
   mine_naming : (n : Name) (b : Bool) → IsNaming (wire.mine word_of w.links v u n b)
   unfolding wire.mine
@@ -485,15 +473,11 @@ module _ (script : Script) (w : World) (v u : ℕ) (s : Vat Name) (N : Note Name
 
   passed_naming : (d : Described) (is : List Local) (k : ℕ) → IsNaming d → passed_heard u v T d is k ≡ next (λ x. told (reference_heard u v T x)) (name_heard u v T d is k)
   unfolding passed_heard all_heard
-  passed_naming (op.MyExport p) is k h = refl
-  passed_naming (op.MyPromise p) is k h = refl
-  passed_naming (op.YourExport p) is k h = refl
-  passed_naming (op.MyAnswer q) is k h = refl
-  passed_naming (op.YourAnswer q) is k h = refl
   passed_naming (op.Datum x) is k h = absurd h
   passed_naming (op.ListOf ds) is k h = absurd h
   passed_naming (op.Broken p) is k h = absurd h
   passed_naming (op.Third h s) is k f = absurd f
+  passed_naming other is k h = refl
 
   -- what is heard for what passes is what is read for it
   abbrev PassedAlike : List Name → List Name → Passed Name → Type 0

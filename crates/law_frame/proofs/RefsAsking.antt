@@ -66,9 +66,8 @@ module _ (v : ℕ) (P : Telling) where
   told_after : (p : Name) (w : ℕ) (s : Vat Name) (d : Done Name (Passed Name)) → Ends Any Goes s d → Result Listless d → Ends Any Goes s (and_then d (λ z. send_out w (SettledTo p z)))
   unfolding and_then
   told_after p w s (Gives z t) r q = widen Any Goes (base v P) {s = s} {t = t} r (send_out w (SettledTo p z) t) ((asking_settled v P w p z q).after t)
-  told_after p w s (Throws x t) r q = r
-  told_after p w s (Ejects n y t) r q = r
   told_after p w s (Stops c t) r q = tt
+  told_after p w s other r q = r
 
   asking_told : (p : Name) (w : ℕ) (y : Value Name) → Leads Any Goes (refs.pass Names w y >>= (λ z. send_out w (SettledTo p z)))
   unfolding ◌>>=◌
@@ -105,9 +104,8 @@ module _ (v : ℕ) (P : Telling) where
   deliver_ends m h n s (Gives args t) asks a q z r = λ e. let Q : Telling = Or P (answer_of h m.id) in let b = r e in let put : Put Name = record { to = h; note = Deliver (refs.delivery_of Ours m) n m.verb args } in
       let u : Vat Name = record t { happened = t.happened ++ Posted h m.id ∷ []; outbox = t.outbox ++ put ∷ [] } in
       (steady_on v Q s t u b (posted Q m h n args t b.number (λ i. names_on v Q s t b (answer_of h m.id) a) z), inr (inl (put, among_last t.outbox put, (asks, refl))))
-  deliver_ends m h n s (Throws p t) asks a q z r = absurd q
-  deliver_ends m h n s (Ejects i y t) asks a q z r = absurd q
   deliver_ends m h n s (Stops c t) asks a q z r = tt
+  deliver_ends m h n s other asks a q z r = absurd q
 
   pub delivered : (m : Message Name) (h : ℕ) (n : Name) (s : Vat Name) → is_some m.answer ≡ true → IsAmong (answer_of h m.id) (names_in s.known) → Ends Any (Owed v P (answer_of h m.id)) s (refs.deliver Ours m h n s)
   unfolding refs.deliver ◌>>=◌
@@ -122,9 +120,8 @@ module _ (v : ℕ) (P : Telling) where
   lone_ends m h n s (Gives args t) lone q z r = λ e. let b = r e in let put : Put Name = record { to = h; note = Deliver (refs.delivery_of Ours m) n m.verb args } in
       let u : Vat Name = record t { happened = t.happened ++ Posted h m.id ∷ []; outbox = t.outbox ++ put ∷ [] } in
       steady_on v P s t u b (posted P m h n args t b.number (λ i. absurd (no_answer (is_some m.answer) lone i)) z)
-  lone_ends m h n s (Throws p t) lone q z r = absurd q
-  lone_ends m h n s (Ejects i y t) lone q z r = absurd q
   lone_ends m h n s (Stops c t) lone q z r = tt
+  lone_ends m h n s other lone q z r = absurd q
 
   pub asking_lone : (m : Message Name) (h : ℕ) (n : Name) → is_some m.answer ≡ false → Leads Any (Asking v P) (refs.deliver Ours m h n)
   unfolding refs.deliver ◌>>=◌
@@ -163,14 +160,13 @@ module _ (v : ℕ) (P : Telling) where
 
   asking_send_to : (settle : Name → Value Name → Act Name (Unit {0})) → AskingSettler v P settle → (m : Message Name) (y : Value Name) (p : Place Name) → Leads Any Leading (refs.send_to Mines settle m y p)
   unfolding refs.send_to for_some
-  asking_send_to settle good m y Near = search (leads, asking) depth 14
-  asking_send_to settle good m y (Mine n) = search (leads, asking) depth 14
   asking_send_to settle good m y (Away h n o) = asking_pass_on v P m h n
   asking_send_to settle good m y (Gone p) = leads_then Any Leading (base v P) (asking_lost v P m.id) (breaks m.answer p)
     where
       breaks : (o : Option Name) (p : Words) → Leads Any Leading (for_some o (λ a. settle a (Broken p)) (give tt))
       breaks (Some a) p = good a (Broken p)
       breaks None p = leads_give Any Leading (base v P) tt
+  asking_send_to settle good m y other = search (leads, asking) depth 14
 
   pub asking_send_on : (settle : Name → Value Name → Act Name (Unit {0})) → AskingSettler v P settle → (m : Message Name) → Leads Any Leading (refs.send_on Mines settle m)
   unfolding refs.send_on

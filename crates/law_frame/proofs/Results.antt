@@ -9,9 +9,7 @@ use Rattle.law_frame.specs.Asked.{ListlessValue, Listless, AllListless}
 -- of what is given
 abbrev pub Result : {A : Type 0} → (A → Type 0) → Done Name A → Type 0
 Result Q (Gives a t) = Q a
-Result Q (Throws p t) = Unit {0}
-Result Q (Ejects n y t) = Unit {0}
-Result Q (Stops c t) = Unit {0}
+Result Q other = Unit {0}
 
 pub record Gains {A : Type 0} (m : Act Name A) (Q : A → Type 0) : Type 0 where
   pub after : (s : Vat Name) → Result Q (m s)
@@ -21,9 +19,7 @@ Whatever a = Unit {0}
 
 any_result : {A : Type 0} (d : Done Name A) → Result Whatever d
 any_result (Gives a t) = tt
-any_result (Throws p t) = tt
-any_result (Ejects n y t) = tt
-any_result (Stops c t) = tt
+any_result other = tt
 
 gains_any : {A : Type 0} (m : Act Name A) → Gains m Whatever
 gains_any m = record { after = λ s. any_result (m s) }
@@ -31,9 +27,7 @@ gains_any m = record { after = λ s. any_result (m s) }
 bind_result : {A B : Type 0} (P : A → Type 0) (Q : B → Type 0) (d : Done Name A) (f : A → Act Name B) → Result P d → ((a : A) → P a → Gains (f a) Q) → Result Q (and_then d f)
 unfolding and_then
 bind_result P Q (Gives a t) f h k = (k a h).after t
-bind_result P Q (Throws p t) f h k = tt
-bind_result P Q (Ejects n y t) f h k = tt
-bind_result P Q (Stops c t) f h k = tt
+bind_result P Q other f h k = tt
 
 gains_bind : {A B : Type 0} {m : Act Name A} {f : A → Act Name B} (P : A → Type 0) (Q : B → Type 0) → Gains m P → ((a : A) → P a → Gains (f a) Q) → Gains (m >>= f) Q
 unfolding ◌>>=◌
@@ -57,14 +51,7 @@ module _ (K : Naming Name Name) where
   shape_by_listless : (members : List (Value Name) → Passed Name) (ls : List (List (Value Name))) → ((vs : List (Value Name)) → Listless (members vs)) → (y : Value Name) → Listless (refs.shape_by K members ls y)
   unfolding refs.shape_by
   shape_by_listless members ls f (Items k) = f _
-  shape_by_listless members ls f Null = tt
-  shape_by_listless members ls f (Flag b) = tt
-  shape_by_listless members ls f (Number z) = tt
-  shape_by_listless members ls f (Letter c) = tt
-  shape_by_listless members ls f (Text t) = tt
-  shape_by_listless members ls f (Prim n) = tt
-  shape_by_listless members ls f (Broken p) = tt
-  shape_by_listless members ls f (Ref n) = tt
+  shape_by_listless members ls f other = tt
 
   shapes_listless : (f : Value Name → Passed Name) → ((y : Value Name) → Listless (f y)) → (vs : List (Value Name)) → AllListless (refs.shapes K f vs)
   unfolding refs.shapes
@@ -84,14 +71,7 @@ module _ (K : Naming Name Name) where
   parcel_at_listless : (s : Vat Name) (y : Value Name) → Listless (refs.parcel_at K s y).value
   unfolding refs.parcel_at
   parcel_at_listless s (Items k) = of_list s (Items k) _
-  parcel_at_listless s Null = tt
-  parcel_at_listless s (Flag b) = tt
-  parcel_at_listless s (Number z) = tt
-  parcel_at_listless s (Letter c) = tt
-  parcel_at_listless s (Text t) = tt
-  parcel_at_listless s (Prim n) = tt
-  parcel_at_listless s (Broken p) = tt
-  parcel_at_listless s (Ref n) = tt
+  parcel_at_listless s other = tt
 
   abbrev ListlessParcel : Parcel Name → Type 0
   ListlessParcel p = Listless p.value
@@ -106,8 +86,7 @@ module _ (K : Naming Name Name) where
   unfolding refs.address_plain
   plain_listless w y (Away h n o) q = gains_if (h == w) Listless (gains_give (Plain y) Listless q) (gains_bind Whatever Listless (gains_any _) (λ i u. gains_then _ Listless (gains_give (AGift h i) Listless tt)))
   plain_listless w y (Mine n) q = gains_then _ Listless (gains_give (Plain y) Listless q)
-  plain_listless w y Near q = gains_give (Plain y) Listless q
-  plain_listless w y (Gone t) q = gains_give (Plain y) Listless q
+  plain_listless w y other q = gains_give (Plain y) Listless q
 
   mutual
     unfolding refs.address refs.address_all

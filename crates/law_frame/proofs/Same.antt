@@ -13,15 +13,8 @@ all_same h l Q R e (x ∷ xs) i j = cc (e x i.0 j.0, all_same h l Q R e xs i.1 j
 module _ {N M : Type 0} (f g : N → M) (P Q : Bit N → Type 0) (name : (n : N) → P (Named n) → Q (Named n) → f n ≡ g n) (mail : (n : N) → P (Mail n) → Q (Mail n) → f n ≡ g n)
     (entry : (n : N) → P (Entered n) → Q (Entered n) → f n ≡ g n) (owned : (n : N) (i : ℕ) → P (Owns n i) → Q (Owns n i) → f n ≡ g n) where
   value_same : (v : Value N) → ValueOk P v → ValueOk Q v → maps.value f v ≡ maps.value g v
-  value_same Null h k = refl
-  value_same (Flag b) h k = refl
-  value_same (Number z) h k = refl
-  value_same (Letter c) h k = refl
-  value_same (Text t) h k = refl
-  value_same (Prim n) h k = refl
-  value_same (Broken p) h k = refl
-  value_same (Items i) h k = refl
   value_same (Ref n) h k = cc (name n h k)
+  value_same other h k = refl
 
   values_same : (vs : List (Value N)) → ValuesOk P vs → ValuesOk Q vs → map (maps.value f) vs ≡ map (maps.value g) vs
   values_same vs h k = all_same (maps.value f) (maps.value g) (ValueOk P) (ValueOk Q) value_same vs h k
@@ -62,10 +55,8 @@ module _ {N M : Type 0} (f g : N → M) (P Q : Bit N → Type 0) (name : (n : N)
   cell_same c h k = cc (value_same c.guard h.0 k.0, value_same c.value h.1 k.1)
 
   freedom_same : (x : Freedom N) → FreedomOk P x → FreedomOk Q x → maps.freedom f x ≡ maps.freedom g x
-  freedom_same IsSafe h k = refl
-  freedom_same IsItself h k = refl
   freedom_same (IsFinal y) h k = cc (value_same y h k)
-  freedom_same IsVar h k = refl
+  freedom_same other h k = refl
 
   free_same : (x : FreeName N) → FreedomOk P x.freedom → FreedomOk Q x.freedom → maps.free_name f x ≡ maps.free_name g x
   free_same x h k = cc (freedom_same x.freedom h k)

@@ -146,14 +146,7 @@ module _ (v u : ℕ) where
     value_clean : (y : Value Name) (is : List Name) → Clean is (read.exported_value (sight v u) asked y is)
     unfolding read.exported_value
     value_clean (Ref n) is = name_clean n is
-    value_clean Null is = clean_same is
-    value_clean (Flag b) is = clean_same is
-    value_clean (Number z) is = clean_same is
-    value_clean (Letter c) is = clean_same is
-    value_clean (Text x) is = clean_same is
-    value_clean (Prim i) is = clean_same is
-    value_clean (Broken x) is = clean_same is
-    value_clean (Items k) is = clean_same is
+    value_clean other is = clean_same is
 
     mutual
       unfolding read.exported_passed read.exported_all
@@ -355,14 +348,8 @@ module _ (v u : ℕ) where
     value_seen : (y : Value Name) (s : Stage Name) → ValueFits v u t y → Clean t.answers (read.exported_value (sight v u) t.answers y s.imports) E → IsSeen (Passing (read.described_value (sight v u) c y) s) (seen.seen_value v u t.answers y s) (read.exported_value (sight v u) t.answers y s.imports)
     unfolding read.described_value read.exported_value read.passed_heard read.fact_heard read.told seen.seen_value
     value_seen (Ref n) s f k = let r = reference_seen n s (Reads (read.described (sight v u) c n) s) (read.exported_as (sight v u) t.answers n s.imports) (name_seen n s f k) in (passing_name n s ∙ r.0, r.1)
-    value_seen Null s f k = (refl, refl)
-    value_seen (Flag a) s f k = (refl, refl)
-    value_seen (Number z) s f k = (refl, refl)
-    value_seen (Letter x) s f k = (refl, refl)
-    value_seen (Text x) s f k = (refl, refl)
-    value_seen (Prim i) s f k = (refl, refl)
-    value_seen (Broken x) s f k = (refl, refl)
     value_seen (Items i) s f k = absurd f
+    value_seen other s f k = (refl, refl)
 
     gift_seen : (h i : ℕ) (o : Option Name) (s : Stage Name) → IsSeen (read.gift_heard is_object u v F d h i o s) (seen.seen_gift v u t.answers h i o s) s.imports
     unfolding read.gift_heard read.told seen.seen_gift

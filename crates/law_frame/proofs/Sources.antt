@@ -107,11 +107,7 @@ logged v (q ∷ ps) ls h p (inr a) m e = rest_logged v p q ps ls m (λ k i. logg
 pub answer_host : (to : ℕ) (m : Name) → IsMessageName m → host_of (answer_of to m) ≡ to
 unfolding answer_of host_of
 answer_host to (Message_name m) h = refl
-answer_host to (Root w) h = absurd h
-answer_host to (Object w i) h = absurd h
-answer_host to (Promise w i) h = absurd h
-answer_host to (Answer w m) h = absurd h
-answer_host to (Gift w i) h = absurd h
+answer_host to other h = absurd h
 
 pub gift_host : (to i : ℕ) → host_of (Gift to i) ≡ to
 unfolding host_of
@@ -121,10 +117,7 @@ gift_host to i = refl
 asks_host : (to : ℕ) (x : Note Name) (n : Name) → MailFits x → AsksOwn to x → AsksOf to x n → host_of n ≡ to
 asks_host to (Deliver d t verb ys) n h k e = ap host_of (sym e.1) ∙ answer_host to d.message h
 asks_host to (Ask p i t) n h k e = ap host_of (sym e ∙ k) ∙ gift_host to i
-asks_host to (Open i t) n h k e = absurd e
-asks_host to (SettledTo t y) n h k e = absurd e
-asks_host to (Elsewhere t c) n h k e = absurd e
-asks_host to (Shorten t c i) n h k e = absurd e
+asks_host to other n h k e = absurd e
 
 -- a name for which a note was put
 pub source_asked : (ls : List Link) → AllOf Splits ls → (v : ℕ) (t : Vat Name) (n : Name) (p : Put Name) → IsAmong p t.outbox → MailFits p.note → AsksOwn p.to p.note → AsksOf p.to p.note n → Source (world.push_all v t.outbox ls) v t n
@@ -193,14 +186,7 @@ module _ (a v : ℕ) (n : Name) where
   value_either (Ref m) (inl h) (inl e) = inl (ap host_of e ∙ h)
   value_either (Ref m) (inr h) (inl e) = inr (ap host_of e ∙ h)
   value_either (Ref m) h (inr b) = absurd b
-  value_either Null h b = absurd b
-  value_either (Flag x) h b = absurd b
-  value_either (Number z) h b = absurd b
-  value_either (Letter c) h b = absurd b
-  value_either (Text t) h b = absurd b
-  value_either (Prim i) h b = absurd b
-  value_either (Broken p) h b = absurd b
-  value_either (Items k) h b = absurd b
+  value_either other h b = absurd b
 
   mutual
     unfolding told_passed told_all
@@ -219,11 +205,9 @@ module _ (a v : ℕ) (n : Name) where
   told_either (Deliver m t verb ys) o h k (inl e) = inr (ap host_of e ∙ h)
   told_either (Deliver m t verb ys) o h k (inr b) = all_either ys k.0 b
   told_either (Open i t) o h k (inl e) = inr (ap host_of e ∙ h)
-  told_either (Open i t) o h k (inr b) = absurd b
   told_either (Ask p i t) o h k b = absurd b
   told_either (SettledTo t y) o h k (inl e) = inl (ap host_of e ∙ h)
   told_either (SettledTo t y) o h k (inr b) = passed_either y k b
   told_either (Elsewhere t c) o h k (inl e) = inl (ap host_of e ∙ h)
-  told_either (Elsewhere t c) o h k (inr b) = absurd b
   told_either (Shorten t c i) o h k (inl e) = inr (ap host_of e ∙ h (rw e at o))
-  told_either (Shorten t c i) o h k (inr b) = absurd b
+  told_either other o h k (inr b) = absurd b

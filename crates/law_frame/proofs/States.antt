@@ -102,19 +102,11 @@ module _ (script : Script) (w : World) (v : ℕ) (s : Vat Name) (knows : KnowsVa
   mail_found : (n : Name) → IsMessageName n → IsAmong n s.mails → F n ≡ Is n
   unfolding number_of
   mail_found (Sent m) h a = message_found (Sent m) a
-  mail_found (Object h i) k a = absurd k
-  mail_found (Root u) k a = absurd k
-  mail_found (Promise u i) k a = absurd k
-  mail_found (Answer h m) k a = absurd k
-  mail_found (Gift h i) k a = absurd k
+  mail_found other k a = absurd k
 
   made_message : (n : Name) → IsMessageMade w.vats n → IsMessageName n
   made_message (Sent m) h = tt
-  made_message (Object h i) k = absurd k
-  made_message (Root u) k = absurd k
-  made_message (Promise u i) k = absurd k
-  made_message (Answer h m) k = absurd k
-  made_message (Gift h i) k = absurd k
+  made_message other k = absurd k
 
   all_mails : map F s.mails ≡ map Is s.mails
   all_mails = let kept = stands.kept in all_same F Is IsMessageName (λ n. IsAmong n s.mails) mail_found s.mails kept.mails (all_self s.mails)

@@ -40,27 +40,13 @@ after_more ks n m a = more_either ks n m (is_old ks n) a
 
 value_more : (ks : List Name) (y : Value Name) (m : Name) → IsAmong m ks → IsAmong m (read_value ks y).known
 unfolding read_value
-value_more ks Null m a = a
-value_more ks (Flag b) m a = a
-value_more ks (Number z) m a = a
-value_more ks (Letter c) m a = a
-value_more ks (Text t) m a = a
-value_more ks (Prim i) m a = a
-value_more ks (Broken t) m a = a
-value_more ks (Items k) m a = a
 value_more ks (Ref n) m a = after_more ks n m a
+value_more ks other m a = a
 
 value_told : (ks : List Name) (y : Value Name) → AllOf (IsKnownIn (read_value ks y).known) (told_value y)
 unfolding read_value told_value
-value_told ks Null = tt
-value_told ks (Flag b) = tt
-value_told ks (Number z) = tt
-value_told ks (Letter c) = tt
-value_told ks (Text t) = tt
-value_told ks (Prim i) = tt
-value_told ks (Broken t) = tt
-value_told ks (Items k) = tt
 value_told ks (Ref n) = (after_known ks n, tt)
+value_told ks other = tt
 
 mutual
   unfolding read_passed read_all plain_read many_read more_read
@@ -106,14 +92,7 @@ module _ (P : Bit Name → Type 0) where
   value_all : (y : Value Name) → ValueOk P y → AllOf OfName (told_value y)
   unfolding told_value
   value_all (Ref n) h = (h, tt)
-  value_all Null h = tt
-  value_all (Flag b) h = tt
-  value_all (Number z) h = tt
-  value_all (Letter c) h = tt
-  value_all (Text t) h = tt
-  value_all (Prim i) h = tt
-  value_all (Broken t) h = tt
-  value_all (Items k) h = tt
+  value_all other h = tt
 
   mutual
     unfolding told_passed told_all
@@ -133,8 +112,7 @@ module _ (P : Bit Name → Type 0) where
   note_told (Open i n) h = (h.1, tt)
   note_told (Ask p i n) h = tt
   note_told (SettledTo n y) h = (h.0, passed_all y h.1)
-  note_told (Elsewhere n c) h = (h.0, tt)
-  note_told (Shorten n c i) h = (h.0, tt)
+  note_told other h = (h.0, tt)
 
 -- ---- what was exported was told
 
@@ -155,14 +133,7 @@ module _ (v : ℕ) (asked : List Name) (P : Name → Type 0) where
   value_exports : (y : Value Name) (ns : List Name) → AllOf P ns → AllOf P (told_value y) → AllOf P (wire.with_value v asked y ns)
   unfolding wire.with_value told_value
   value_exports (Ref n) ns h p = export_all n ns h p.0
-  value_exports Null ns h p = h
-  value_exports (Flag b) ns h p = h
-  value_exports (Number z) ns h p = h
-  value_exports (Letter c) ns h p = h
-  value_exports (Text t) ns h p = h
-  value_exports (Prim i) ns h p = h
-  value_exports (Broken t) ns h p = h
-  value_exports (Items k) ns h p = h
+  value_exports other ns h p = h
 
   first_part : (xs ys : List Name) → AllOf P (xs ++ ys) → AllOf P xs
   first_part [] ys h = tt

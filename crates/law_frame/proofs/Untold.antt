@@ -76,11 +76,7 @@ module _ (script : Script) where
   module _ (w : World) (k : Knows w) (i : ℕ) (new : WasDrawn w.drawn i → ⊥) where
     not_of : (v : ℕ) (r : Vat Name) → slice_get w.vats v ≡ Some r → (z : Name) → IsKnownIn (names_in r.known) z → IsNotOf i z
     not_of v r there (Gift h j) a = λ e. let past = k.past in let stands = stands_of script w past.0 in let at_vat = stands.vats v r there in let parts = at_vat.parts in let made : WasDrawn w.drawn j = (name_had (Had script w v r) r.known (Gift h j) parts.known a).0 in new (subst (λ (z : ℕ). WasDrawn w.drawn z) e made)
-    not_of v r there (Root u) a = tt
-    not_of v r there (Object u j) a = tt
-    not_of v r there (Promise u j) a = tt
-    not_of v r there (Answer h m) a = tt
-    not_of v r there (Sent m) a = tt
+    not_of v r there other a = tt
 
     new_untold : (a b : ℕ) → AtLink a b (Untold i) w.links
     new_untold a b l e = each_so (NotTold i) l.log (λ n o. each_so (IsNotOf i) (told_in n) (λ z p. let t = told_known script w k.wire k.none a b l e n z o p in not_of a t.0 t.1 z t.2))

@@ -33,20 +33,13 @@ module _ (h : ℕ) (z : Name) where
   message_free : (id : Name) → ((m : Msg) → z ≡ Answer h m → ⊥) → IsMessageName id → answer_of h id ≡ z → ⊥
   unfolding answer_of
   message_free (Sent m) f o e = f m (sym e)
-  message_free (Root w) f o e = o
-  message_free (Object w j) f o e = o
-  message_free (Promise w j) f o e = o
-  message_free (Answer w m) f o e = o
-  message_free (Gift w j) f o e = o
+  message_free other f o e = o
 
   note_free : (n : Note Name) → ((m : Msg) → z ≡ Answer h m → AsksNot h z n) → ((i : ℕ) → z ≡ Gift h i → AsksNoGift i n) → AsksNot h z n
   unfolding answer_of
   note_free (Deliver d t verb ys) f g = λ o e. message_free d.message (λ m h. f m h o e) o e.1
   note_free (Ask p i t) f g = λ o e. g i (sym e ∙ o) refl
-  note_free (Open i t) f g = λ o e. e
-  note_free (SettledTo t y) f g = λ o e. e
-  note_free (Elsewhere t c) f g = λ o e. e
-  note_free (Shorten t c i) f g = λ o e. e
+  note_free other f g = λ o e. e
 
   pub puts_free : (ps : List (Put Name)) → ((m : Msg) → z ≡ Answer h m → PutsNot h z ps) → ((i : ℕ) → z ≡ Gift h i → AllOf (λ (p : Put Name). AsksNoGift i p.note) ps) → PutsNot h z ps
   puts_free [] f g = tt
@@ -77,13 +70,11 @@ module _ (script : Script) (x y : World) (b : Before script x) (apart : (m : Msg
   answers t f m e = subst (λ c. PutsNot h c t.outbox) (sym e) (f m (subst (λ c. IsAmong c (told_in n)) e among))
 
   move_free : (move : Moved script x y) → MovePutsNot x u h z script y move
-  move_free (Still v k d) = tt
-  move_free (Severs c e v k d) = tt
-  move_free (Drops c v note ns k f notes none vats links drawn) = tt
   move_free (Steps v s q t what alone d vats links drawn first fresh) = λ i. puts_free h z t.outbox
       (answers t (λ m a. move_puts script x y b apart wires next none u h l at n told m a (Steps v s q t what alone d vats links drawn first fresh) i)) (λ j e. alone_asks script x v s q t j what alone d)
   move_free (Arrives c v s t note ns j f cut notes d vats links drawn first fresh) = λ i. puts_free h z t.outbox
       (answers t (λ m a. move_puts script x y b apart wires next none u h l at n told m a (Arrives c v s t note ns j f cut notes d vats links drawn first fresh) i)) (arrival_free c v s t note ns j f notes d)
+  move_free other = tt
 
   nothing_before : Moved script x y → IsAmong z (wire.questions (λ i. i) y.links u h) → IsAmong z (wire.questions (λ i. i) x.links u h)
   nothing_before move a = asked_before x u h z script y next move (move_free move) a

@@ -34,10 +34,8 @@ IsOfNone _ = Unit {0}
 abbrev pub Proper : ℕ → ℕ → Note Name → Type 0
 Proper v to (Shorten n c i) = (to ≡ v → ⊥) → IsEventual n
 Proper v to (Deliver m n verb ys) = AllListless ys
-Proper v to (Open i n) = Unit {0}
-Proper v to (Ask p i n) = Unit {0}
 Proper v to (SettledTo n y) = Listless y
-Proper v to (Elsewhere n c) = Unit {0}
+Proper v to other = Unit {0}
 
 abbrev pub PutFits : ℕ → List Name → Put Name → Type 0
 PutFits v ns p = AskFits ns p.to p.note × Proper v p.to p.note
@@ -117,10 +115,7 @@ news_of v P s t h n a = go (among_split n (names_in s.known) (h.come).0 (rw (h.c
 pub ask_up : (ns ms : List Name) → ((n : Name) → IsAmong n ns → IsAmong n ms) → (w : ℕ) (n : Note Name) → AskFits ns w n → AskFits ms w n
 ask_up ns ms f w (Deliver d n verb ys) h = λ e. f _ (h e)
 ask_up ns ms f w (Ask p i n) h = (f n h.0, h.1)
-ask_up ns ms f w (Open i n) h = tt
-ask_up ns ms f w (SettledTo n y) h = tt
-ask_up ns ms f w (Elsewhere n c) h = tt
-ask_up ns ms f w (Shorten n c i) h = tt
+ask_up ns ms f w other h = tt
 
 pub fit_up : (v : ℕ) (ns ms : List Name) → ((n : Name) → IsAmong n ns → IsAmong n ms) → (gs : List (GiftEntry Name)) (ps : List (Put Name)) → Fit v ns gs ps → Fit v ms gs ps
 fit_up v ns ms f gs ps h = (all_map (λ g k. (k.0, f g.name k.1)) gs h.0, all_map (λ p k. (ask_up ns ms f p.to p.note k.0, k.1)) ps h.1)
@@ -319,10 +314,8 @@ module _ (v : ℕ) (P : Telling) where
 
   -- in a state of that vat
   pub here : {A : Type 0} (s : Vat Name) (d : Done Name A) → (s.number ≡ v → Ends Any R s d) → Ends Any R s d
-  here s (Gives a t) f = λ e. f e e
-  here s (Throws p t) f = λ e. f e e
-  here s (Ejects n y t) f = λ e. f e e
   here s (Stops c t) f = tt
+  here s other f = λ e. f e e
 
   pub asking_tell : (e : Happened Name) → IsOfNone e → Leads Any R (tell e)
   unfolding tell

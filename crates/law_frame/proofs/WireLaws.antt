@@ -34,10 +34,7 @@ asked_known ns to (Shorten n c i ∷ log) h = asked_known ns to log h.1
 answered_fits : (ns : List Name) (to : ℕ) (n : Note Name) → Answered to ns n → AsksOwn to n → AskFits ns to n
 answered_fits ns to (Deliver m n verb ys) h k = h
 answered_fits ns to (Ask p i n) h k = (rw (sym k) at h, k)
-answered_fits ns to (Open i n) h k = tt
-answered_fits ns to (SettledTo n y) h k = tt
-answered_fits ns to (Elsewhere n c) h k = tt
-answered_fits ns to (Shorten n c i) h k = tt
+answered_fits ns to other h k = tt
 
 all_both : {A : Type 0} {P Q R : A → Type 0} → ((x : A) → P x → Q x → R x) → (xs : List A) → AllOf P xs → AllOf Q xs → AllOf R xs
 all_both f [] h k = tt
@@ -116,10 +113,7 @@ arrived_known = in_runs _ (λ script w g h u s there v l e c. heard_told script 
 proper_listless : (v to : ℕ) (n : Note Name) → Proper v to n → HoldsNoList n
 proper_listless v to (Deliver m n verb ys) h = h
 proper_listless v to (SettledTo n y) h = h
-proper_listless v to (Open i n) h = tt
-proper_listless v to (Ask p i n) h = tt
-proper_listless v to (Elsewhere n c) h = tt
-proper_listless v to (Shorten n c i) h = tt
+proper_listless v to other h = tt
 
 pub notes_listless : NotesHoldNoLists
 notes_listless = in_runs _ (λ script w g h. all_map (λ l k. all_map (λ n i. proper_listless l.from l.to n i.1) l.log k.sent) w.links h.links)

@@ -140,19 +140,11 @@ module _ (script : Script) where
 
   message_made : (vats : List (Vat Name)) (m : Name) → IsMessageMade vats m → IsMessageName m
   message_made vats (Message_name m) h = tt
-  message_made vats (Root w) h = absurd h
-  message_made vats (Object w i) h = absurd h
-  message_made vats (Promise w i) h = absurd h
-  message_made vats (Answer w m) h = absurd h
-  message_made vats (Gift w i) h = absurd h
+  message_made vats other h = absurd h
 
   pub mail_fits : (vats : List (Vat Name)) (P : Bit Name → Type 0) → ((m : Name) → P (Mail m) → IsMessageMade vats m) → (n : Note Name) → NoteOk P n → MailFits n
   mail_fits vats P f (Deliver d n verb ys) h = message_made vats d.message (f d.message h.0)
-  mail_fits vats P f (Open i n) h = tt
-  mail_fits vats P f (Ask p i n) h = tt
-  mail_fits vats P f (SettledTo n y) h = tt
-  mail_fits vats P f (Elsewhere n c) h = tt
-  mail_fits vats P f (Shorten n c i) h = tt
+  mail_fits vats P f other h = tt
 
   -- the notes that were put
   puts_sent : (x : World) (v : ℕ) (us : List (Vat Name)) (t : Vat Name) → slice_get us v ≡ Some t → (ps : List (Put Name)) → AllOf (PutFits v (names_in t.known)) ps → AllOf (PutOk (Had script x v t)) ps → AllOf (λ (p : Put Name). Sent us v p.to p.note) ps
@@ -205,9 +197,7 @@ module _ (script : Script) where
         objects = objects_put w.vats after v t (vats_on w.vats w.links after (push_all_goes v t.outbox w.links sp) ob) (vat_on w.links after (push_all_goes v t.outbox w.links sp) v t hd);
         handed = push_all_handed after v t.outbox w.links (puts_handed after v t.outbox (out_handed after v t (vat_on w.links after (push_all_goes v t.outbox w.links sp) v t hd))) (logs_on w.links after (push_all_goes v t.outbox w.links sp) w.links ha);
       }) e
-  put_back_wire w x v s q P F head n (Throws p t) there same gifts out quiet noticed drawn words dr g tl sp so pairs ob ha hd h f told e k = cc
-  put_back_wire w x v s q P F head n (Ejects m y t) there same gifts out quiet noticed drawn words dr g tl sp so pairs ob ha hd h f told e k = cc
-  put_back_wire w x v s q P F head n (Stops c t) there same gifts out quiet noticed drawn words dr g tl sp so pairs ob ha hd h f told e k = cc
+  put_back_wire w x v s q P F head n other there same gifts out quiet noticed drawn words dr g tl sp so pairs ob ha hd h f told e k = cc
 
   links_up : (us : List (Vat Name)) (ls : List Link) (v : ℕ) (s t : Vat Name) → slice_get us v ≡ Some s → Has (names_in s.known) t → AllOf (LinkKnown us) ls → AllOf (LinkKnown (put_at v t us)) ls
   links_up us ls v s t there h k = all_map (link_up us (put_at v t us) (grows_put us v s t there h)) ls k
@@ -272,11 +262,7 @@ module _ (script : Script) where
 
   no_message : (vats : List (Vat Name)) (d : List ℕ) (m : Name) → WasMade vats d m → IsNoMessage m
   no_message vats d (Message_name m) h = h
-  no_message vats d (Root w) h = tt
-  no_message vats d (Object w i) h = tt
-  no_message vats d (Promise w i) h = tt
-  no_message vats d (Answer w m) h = tt
-  no_message vats d (Gift w i) h = tt
+  no_message vats d other h = tt
 
   pub no_messages : (w : World) (n : Note Name) → NoteOk (Told script w) n → (m : Name) → IsAmong m (told_in n) → IsNoMessage m
   no_messages w n ok m a = let made = all_among (λ x. Told script w (Named x)) (told_in n) m (note_told (Told script w) n ok) a in no_message w.vats w.drawn m made.0

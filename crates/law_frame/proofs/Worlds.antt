@@ -154,11 +154,7 @@ entered_or u p i gs None e h = let one_here = self_one (Gift u i) in absurd (ome
 pub asked_stands : (w : World) (v u : ℕ) (n : Note Name) (s : Vat Name) → BringsNew w v u n s → AskedGiftStands u n s
 unfolding world.read_note world.names_of brings_here brings
 asked_stands w v u (Ask p i n) s h = λ a. let b = h (Gift u i) in let c = claims_known u (Gift u i) s.known a in let d = allowed_once u (Gift u i) s w.drawn in entered_or u p i s.gifts (gift_at p i s.gifts) refl (omega arith)
-asked_stands w v u (Deliver m n verb ys) s h = tt
-asked_stands w v u (Open i n) s h = tt
-asked_stands w v u (SettledTo n y) s h = tt
-asked_stands w v u (Elsewhere n c) s h = tt
-asked_stands w v u (Shorten n c i) s h = tt
+asked_stands w v u other s h = tt
 
 -- ---- the vats of a link
 
@@ -168,14 +164,12 @@ unfolding told_in
 told_ends a v n (Deliver m t verb ys) o q h k (inl e) = inr (ap host_of e ∙ h)
 told_ends a v n (Deliver m t verb ys) o q h k (inr b) = all_either a v n ys k.0 b
 told_ends a v n (Open i t) o q h k (inl e) = inr (ap host_of e ∙ h)
-told_ends a v n (Open i t) o q h k (inr b) = absurd b
 told_ends a v n (Ask p i t) o q h k b = absurd b
 told_ends a v n (SettledTo t y) o q h k (inl e) = inl (ap host_of e ∙ h)
 told_ends a v n (SettledTo t y) o q h k (inr b) = passed_either a v n y k b
 told_ends a v n (Elsewhere t c) o q h k (inl e) = inl (ap host_of e ∙ h)
-told_ends a v n (Elsewhere t c) o q h k (inr b) = absurd b
 told_ends a v n (Shorten t c i) o q h k (inl e) = inr (ap host_of e ∙ h (q o))
-told_ends a v n (Shorten t c i) o q h k (inr b) = absurd b
+told_ends a v n other o q h k (inr b) = absurd b
 
 log_is : (l : Link) (o : Option Link) → o ≡ Some l → wire.log_of o ≡ l.log
 unfolding wire.log_of
@@ -315,21 +309,14 @@ module _ (script : Script) (once : KnowsOnce script) (w x : World) (es : List En
   message_late : (n : Name) → IsAmong n (told_in N) → (m : Name) (b : Bool) (c : Option Name) (to : Name) (verb : List ℕ) (ys : Passeds Name) → IsAmong (Deliver (record { message = m; asks = b; answer = c }) to verb ys) l.notes → IsMessageName m → answer_of u m ≡ n → ⊥
   unfolding answer_of
   message_late n t (Message_name m) b c to verb ys a o e = answer_before m (Deliver (record { message = Message_name m; asks = b; answer = c }) to verb ys) b c to verb ys refl a (subst (λ z. IsAmong z (told_in N)) (sym e) t)
-  message_late n t (Root w) b c to verb ys a o e = o
-  message_late n t (Object w i) b c to verb ys a o e = o
-  message_late n t (Promise w i) b c to verb ys a o e = o
-  message_late n t (Answer w m) b c to verb ys a o e = o
-  message_late n t (Gift w i) b c to verb ys a o e = o
+  message_late n t other b c to verb ys a o e = o
 
   -- a note under way that asks for what the first one tells asks for a gift
   asked_late : GiftsWereAskedFor x v u N → (n : Name) → IsAmong n (told_in N) → IsAmong n Put → (y : Note Name) → IsAmong y l.notes → AsksOwn u y → AsksOf u y n → IsAmong n Answers
   unfolding answer_of
   asked_late g n t p (Deliver d to verb ys) a o e = absurd (message_late n t d.message d.asks d.answer to verb ys a o e.1)
   asked_late g n t p (Ask q i m) a o e = let same : n ≡ Gift u i = sym e ∙ o in subst (λ z. IsAmong z Answers) (sym same) (g i (subst (λ z. IsAmong z (told_in N)) same t) (subst (λ z. IsAmong z Put) same p))
-  asked_late g n t p (Open i m) a o e = absurd e
-  asked_late g n t p (SettledTo m y) a o e = absurd e
-  asked_late g n t p (Elsewhere m c) a o e = absurd e
-  asked_late g n t p (Shorten m c i) a o e = absurd e
+  asked_late g n t p other a o e = absurd e
 
   own_asks : (y : Note Name) → IsAmong y l.notes → AsksOwn u y
   own_asks y a = let h = link_known in let all = all_among (Sent x.vats l.from l.to) l.log y h.sent (subst (λ ms. IsAmong y ms) (sym splits.1) (among_right y Front l.notes a)) in subst (λ (z : ℕ). AsksOwn z y) to_is all.0
@@ -345,11 +332,7 @@ module _ (script : Script) (once : KnowsOnce script) (w x : World) (es : List En
   not_answer : (m : Name) (i : ℕ) → IsMessageName m → answer_of u m ≡ Gift u i → ⊥
   unfolding answer_of
   not_answer (Message_name m) i o e = cc
-  not_answer (Root c) i o e = o
-  not_answer (Object c j) i o e = o
-  not_answer (Promise c j) i o e = o
-  not_answer (Answer c m) i o e = o
-  not_answer (Gift c j) i o e = o
+  not_answer other i o e = o
 
   told_none : (p i : ℕ) (n m : Name) → Ask p i n ≡ N → IsAmong m (told_in N) → ⊥
   unfolding told_in
@@ -359,10 +342,7 @@ module _ (script : Script) (once : KnowsOnce script) (w x : World) (es : List En
   late new i t (Deliver d to verb ys) a o e = not_answer d.message i o e.1
   late new i t (Ask p j n) (inl f) o e = told_none p j n (Gift u i) f t
   late new i t (Ask p j n) (inr a) o e = gifts_asked_first script once w x es k new opened stepped v u l at Front ns N (splits.1 ∙ ap (λ ms. Front ++ ms) head) p j n (subst (λ z. IsAmong z (told_in N)) (sym e) t) a
-  late new i t (Open j n) a o e = e
-  late new i t (SettledTo n y) a o e = e
-  late new i t (Elsewhere n c) a o e = e
-  late new i t (Shorten n c j) a o e = e
+  late new i t other a o e = e
 
   pub asked_for : NotesBringNew script es k w → GiftsWereAskedFor x v u N
   asked_for new i t p = either (among_split (Gift u i) Answers (wire.questions_in u l.notes) (subst (λ qs. IsAmong (Gift u i) qs) put_is p))

@@ -97,14 +97,7 @@ module _ {N M : Type 0} (f : N → M) (P : N → Bool) (S : Sight N) (T : Sight 
     value_exports : (y : Value N) (xs : List M) (ns : List N) → ValueMay P y → Exports xs ns → Exports (write.exported_value T Asked (maps.value f y) xs) (write.exported_value S asked y ns)
     unfolding write.exported_value
     value_exports (Ref n) xs ns p e = name_exports n xs ns p e
-    value_exports Null xs ns p e = e
-    value_exports (Flag b) xs ns p e = e
-    value_exports (Number z) xs ns p e = e
-    value_exports (Letter c) xs ns p e = e
-    value_exports (Text x) xs ns p e = e
-    value_exports (Prim i) xs ns p e = e
-    value_exports (Broken x) xs ns p e = e
-    value_exports (Items k) xs ns p e = e
+    value_exports other xs ns p e = e
 
     mutual
       unfolding write.exported_passed write.exported_all
@@ -168,14 +161,7 @@ module _ {N M : Type 0} (f : N → M) (P : N → Bool) (S : Sight N) (T : Sight 
     value_alike : (y : Value N) → ValueMay P y → write.described_value T d (maps.value f y) ≡ write.described_value S c y
     unfolding write.described_value
     value_alike (Ref n) p = described_alike n p
-    value_alike Null p = refl
-    value_alike (Flag b) p = refl
-    value_alike (Number z) p = refl
-    value_alike (Letter x) p = refl
-    value_alike (Text x) p = refl
-    value_alike (Prim i) p = refl
-    value_alike (Broken x) p = refl
-    value_alike (Items k) p = refl
+    value_alike other p = refl
 
     mutual
       unfolding write.described_passed write.described_all
@@ -213,11 +199,7 @@ module _ {N M : Type 0} (f : N → M) (P : N → Bool) (S : Sight N) (T : Sight 
   asked_alike : (n : Note N) → AsksAlike f S T n → write.asked_in T (maps.note f n) ≡ map f (write.asked_in S n)
   unfolding write.asked_in
   asked_alike (Deliver d n verb ys) e = asked_or d.asks d.message e
-  asked_alike (Open i n) e = refl
-  asked_alike (Ask p i n) e = refl
-  asked_alike (SettledTo n y) e = refl
-  asked_alike (Elsewhere n c) e = refl
-  asked_alike (Shorten n c i) e = refl
+  asked_alike other e = refl
 
   module _ (c : Connection N) (n : Note N) (m : TablesMay P c) (k : NoteMay P n) where
     grown : Exports (write.exported_note T (map f c.answers) (maps.note f n) (map f c.exports)) (write.exported_note S c.answers n c.exports)

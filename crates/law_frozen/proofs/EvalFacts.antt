@@ -29,15 +29,8 @@ three : {A : Type 0} (P : A → Type 0) (xs ys zs : List A) → AllOf P xs → A
 three P xs ys zs h i j = search (all_append)
 
 pub plain_there : {N : Type 0} (ls : Lists N) (v : Value N) → IsPlain v → IsThere ls v
-plain_there ls Null h = tt
-plain_there ls (Flag b) h = tt
-plain_there ls (Number z) h = tt
-plain_there ls (Letter c) h = tt
-plain_there ls (Text t) h = tt
-plain_there ls (Prim n) h = tt
-plain_there ls (Broken p) h = tt
 plain_there ls (Items k) h = absurd h
-plain_there ls (Ref n) h = tt
+plain_there ls other h = tt
 
 pub no_true : (b : Bool) → b ≡ false → b ≡ true → ⊥
 no_true b e h = cc
@@ -82,36 +75,18 @@ module _ {N W : Type 0} (K : Naming N W) where
 
   plain_from : (ls : Lists N) (d : ℕ) (v : Value N) → AllOf (AreThere ls) ls → IsThere ls v → scopes.is_plain d ls v ≡ true → HasNoName d ls v
   unfolding scopes.is_plain scopes.plain_by
-  plain_from ls zero Null all h e = tt
-  plain_from ls zero (Flag b) all h e = tt
-  plain_from ls zero (Number z) all h e = tt
-  plain_from ls zero (Letter c) all h e = tt
-  plain_from ls zero (Text t) all h e = tt
-  plain_from ls zero (Prim n) all h e = tt
-  plain_from ls zero (Broken p) all h e = tt
   plain_from ls zero (Items k) all h e = absurd (false_true e)
   plain_from ls zero (Ref n) all h e = absurd (false_true e)
-  plain_from ls (suc d) Null all h e = tt
-  plain_from ls (suc d) (Flag b) all h e = tt
-  plain_from ls (suc d) (Number z) all h e = tt
-  plain_from ls (suc d) (Letter c) all h e = tt
-  plain_from ls (suc d) (Text t) all h e = tt
-  plain_from ls (suc d) (Prim n) all h e = tt
-  plain_from ls (suc d) (Broken p) all h e = tt
   plain_from ls (suc d) (Items k) all h e = let members : AreThere ls h.0 = member_there ls (slice_get ls k) h.0 h.1 (get_all (AreThere ls) ls k all) in
       (h.0, h.1, plains_from ls (λ w. scopes.is_plain d ls w) (λ v. HasNoName d ls v) (λ v i j. plain_from ls d v all i j) h.0 members (sym (ap (λ vs. scopes.all_plain (λ w. scopes.is_plain d ls w) vs) (plain_list ls d k h.0 h.1)) ∙ e))
   plain_from ls (suc d) (Ref n) all h e = absurd (false_true e)
+  plain_from ls zero other all h e = tt
+  plain_from ls (suc d) other all h e = tt
 
   data_frozen : (ts : List (Thing N)) (ls : Lists N) (f : Value N → Bool) → ((k : ℕ) → f (Items k) ≡ false) → ((n : N) → f (Ref n) ≡ false) → (y : Value N) → f y ≡ true → IsFrozen K ts ls y
-  data_frozen ts ls f a b Null e = tt
-  data_frozen ts ls f a b (Flag c) e = tt
-  data_frozen ts ls f a b (Number z) e = tt
-  data_frozen ts ls f a b (Letter c) e = tt
-  data_frozen ts ls f a b (Text t) e = tt
-  data_frozen ts ls f a b (Prim n) e = tt
-  data_frozen ts ls f a b (Broken p) e = tt
   data_frozen ts ls f a b (Items k) e = absurd (no_true (f (Items k)) (a k) e)
   data_frozen ts ls f a b (Ref n) e = absurd (no_true (f (Ref n)) (b n) e)
+  data_frozen ts ls f a b other e = tt
 
   -- there, and frozen under a frozen guard
   abbrev Taken : List (Thing N) → Lists N → Guard → Value N → Type 0
@@ -176,9 +151,8 @@ module _ {N W : Type 0} (K : Naming N W) where
 
   resolver_there : (ls : Lists N) (verb : Words) (args : List (Value N)) → AreThere ls args → ResolverAskThere ls (scopes.resolver_ask verb args)
   unfolding scopes.resolver_ask
-  resolver_there ls verb [] h = tt
   resolver_there ls verb (x ∷ []) h = let i : IsThere ls x = h.0 in entry_has (ResolverAskThere ls) _ _ verb (i, (i, tt)) tt
-  resolver_there ls verb (x ∷ y ∷ ys) h = tt
+  resolver_there ls verb other h = tt
 
   ejector_there : (ls : Lists N) (verb : Words) (args : List (Value N)) → AreThere ls args → MayBe (IsThere ls) (scopes.ejector_ask verb args)
   unfolding scopes.ejector_ask
@@ -201,8 +175,7 @@ module _ {N W : Type 0} (K : Naming N W) where
   literal_there : (ls : Lists N) (l : Literal) → IsThere ls (form.literal_value {N = N} l)
   unfolding form.literal_value
   literal_there ls (literal.Int z) = tt
-  literal_there ls (literal.Char c) = tt
-  literal_there ls (literal.Text t) = tt
+  literal_there ls other = tt
 
   pub got_literal : (C : Fact N) (l : Literal) → Gets K C (IsValue (form.literal_value l))
   got_literal C l = record { at = λ ts ls c. literal_there ls l }
@@ -232,8 +205,7 @@ module _ {N W : Type 0} (K : Naming N W) where
   freedom_bound_there : (ts : List (Thing N)) (ls : Lists N) (o : Option (Bound N)) (x : Words) → MayBe (BoundWell K ts ls) o → FreedomThere ls (scopes.freedom_of_bound o x)
   unfolding scopes.freedom_of_bound
   freedom_bound_there ts ls (Some (Fixed v g)) x h = h.1
-  freedom_bound_there ts ls (Some (Slot k)) x h = tt
-  freedom_bound_there ts ls None x h = tt
+  freedom_bound_there ts ls other x h = tt
 
   freedom_there : (ts : List (Thing N)) (ls : Lists N) (own : Option Words) (ns : List (Binding N)) (x : Words) → AllOf (NounWell K ts ls) ns → FreedomThere ls (scopes.freedom_of own ns x)
   unfolding scopes.freedom_of
@@ -246,10 +218,8 @@ module _ {N W : Type 0} (K : Naming N W) where
 
   told_there : (ls : Lists N) (x : Freedom N) → FreedomThere ls x → IsThere ls (scopes.guard_told x)
   unfolding scopes.guard_told any_guard
-  told_there ls IsSafe h = tt
-  told_there ls IsItself h = tt
   told_there ls (IsFinal g) h = h
-  told_there ls IsVar h = tt
+  told_there ls other h = tt
 
   guard_at_there : (ls : Lists N) (fs : List (FreeName N)) (x : Words) → AllOf (λ (f : FreeName N). FreedomThere ls f.freedom) fs → ReplyThere ls (scopes.guard_at fs x)
   unfolding scopes.guard_at
@@ -258,15 +228,8 @@ module _ {N W : Type 0} (K : Naming N W) where
 
   guard_asked_there : (ls : Lists N) (fs : List (FreeName N)) (x : Value N) → AllOf (λ (f : FreeName N). FreedomThere ls f.freedom) fs → ReplyThere ls (scopes.guard_asked fs x)
   unfolding scopes.guard_asked
-  guard_asked_there ls fs Null h = tt
-  guard_asked_there ls fs (Flag b) h = tt
-  guard_asked_there ls fs (Number z) h = tt
-  guard_asked_there ls fs (Letter c) h = tt
   guard_asked_there ls fs (Text t) h = guard_at_there ls fs t h
-  guard_asked_there ls fs (Prim n) h = tt
-  guard_asked_there ls fs (Broken p) h = tt
-  guard_asked_there ls fs (Items k) h = tt
-  guard_asked_there ls fs (Ref n) h = tt
+  guard_asked_there ls fs other h = tt
 
   pub look_guard : (M : Keeper K) → {C : Fact N} (view : View N) (x : Value N) → Gets K C (IsView view) → Fine K M C (look (λ s. scopes.guard_asked view.free (refs.follow K s x))) IsReply
   look_guard M view x g = fine_sees K M (λ s. scopes.guard_asked view.free (refs.follow K s x)) IsReply (λ s h c. guard_asked_there s.lists view.free (refs.follow K s x) (g.at s.things s.lists c))
@@ -315,28 +278,18 @@ module _ {N W : Type 0} (K : Naming N W) (tree : List Node) where
   bears_from : (ts : List (Thing N)) (i : ℕ) (o : Option (Thing N)) → slice_get ts i ≡ o → perform.has_stamp K tree deep_frozen (scopes.stamps_of o) ≡ true → BearsFrozen ts i
   unfolding scopes.stamps_of perform.has_stamp
   bears_from ts i (Some (Made node caught stamps)) e h = (node, caught, stamps, e, stamp_among stamps h)
-  bears_from ts i (Some (Ejector b)) e h = absurd (false_true h)
-  bears_from ts i (Some (Audition b x)) e h = absurd (false_true h)
-  bears_from ts i (Some (Resolver p)) e h = absurd (false_true h)
-  bears_from ts i None e h = absurd (false_true h)
+  bears_from ts i other e h = absurd (false_true h)
 
   spot_frozen : (s : Vat N) (n : N) (p : Spot) → K.spot n ≡ p → perform.has_stamp K tree deep_frozen (perform.stamps_at K tree s p) ≡ true → IsFrozen K s.things s.lists (Ref n)
   unfolding perform.stamps_at perform.has_stamp
   spot_frozen s n (Own i) e h = (i, e, bears_from s.things i (slice_get s.things i) refl h)
-  spot_frozen s n (Foreign w) e h = absurd (false_true h)
-  spot_frozen s n NoObject e h = absurd (false_true h)
+  spot_frozen s n other e h = absurd (false_true h)
 
   frozen_from : (s : Vat N) → Sound K s → (y : Value N) → IsThere s.lists y → perform.is_frozen K tree s y ≡ true → IsFrozen K s.things s.lists y
   unfolding perform.is_frozen perform.is_stamped refs.highest
-  frozen_from s h Null i e = tt
-  frozen_from s h (Flag b) i e = tt
-  frozen_from s h (Number z) i e = tt
-  frozen_from s h (Letter c) i e = tt
-  frozen_from s h (Text t) i e = tt
-  frozen_from s h (Prim n) i e = tt
-  frozen_from s h (Broken p) i e = tt
   frozen_from s h (Items k) i e = plain_from K s.lists 100 (Items k) h.lists i e
   frozen_from s h (Ref n) i e = spot_frozen s n (K.spot n) refl e
+  frozen_from s h other i e = tt
 
   pub taken_well : (s : Vat N) → Sound K s → (g : Guard) (x y : Value N) → IsThere s.lists x → IsThere s.lists y → MayBe (Taken K s.things s.lists g) (perform.taken K tree s g x y)
   unfolding perform.taken scopes.freezes scopes.is_int scopes.is_boolean scopes.is_char scopes.is_text scopes.is_list scopes.is_null
@@ -376,14 +329,7 @@ module _ {N W : Type 0} (K : Naming N W) (tree : List Node) where
   broken_there : (ls : Lists N) (x : Value N) → ReplyThere ls (perform.broken_text K tree x)
   unfolding perform.broken_text
   broken_there ls Null = tt
-  broken_there ls (Flag b) = tt
-  broken_there ls (Number z) = tt
-  broken_there ls (Letter c) = tt
-  broken_there ls (Text t) = tt
-  broken_there ls (Prim n) = tt
-  broken_there ls (Broken p) = tt
-  broken_there ls (Items k) = tt
-  broken_there ls (Ref n) = tt
+  broken_there ls other = tt
 
   pub look_broken : (M : Keeper K) → {C : Fact N} (x : Value N) → Fine K M C (look (λ s. perform.broken_text K tree (refs.follow K s x))) IsReply
   look_broken M x = fine_sees K M (λ s. perform.broken_text K tree (refs.follow K s x)) IsReply (λ s h c. broken_there s.lists (refs.follow K s x))
@@ -391,14 +337,7 @@ module _ {N W : Type 0} (K : Naming N W) (tree : List Node) where
   thrown_there : (ls : Lists N) (x : Value N) → ReplyThere ls (perform.thrown_text K tree x)
   unfolding perform.thrown_text
   thrown_there ls Null = tt
-  thrown_there ls (Flag b) = tt
-  thrown_there ls (Number z) = tt
-  thrown_there ls (Letter c) = tt
-  thrown_there ls (Text t) = tt
-  thrown_there ls (Prim n) = tt
-  thrown_there ls (Broken p) = tt
-  thrown_there ls (Items k) = tt
-  thrown_there ls (Ref n) = tt
+  thrown_there ls other = tt
 
   pub look_thrown : (M : Keeper K) → {C : Fact N} (x : Value N) → Fine K M C (look (λ s. perform.thrown_text K tree (refs.follow K s x))) IsReply
   look_thrown M x = fine_sees K M (λ s. perform.thrown_text K tree (refs.follow K s x)) IsReply (λ s h c. thrown_there s.lists (refs.follow K s x))
@@ -406,27 +345,19 @@ module _ {N W : Type 0} (K : Naming N W) (tree : List Node) where
   problem_there : (ls : Lists N) (p : Place N) → IsThere ls (perform.problem_of K tree p)
   unfolding perform.problem_of
   problem_there ls Near = tt
-  problem_there ls (Mine n) = tt
-  problem_there ls (Away h n o) = tt
-  problem_there ls (Gone t) = tt
+  problem_there ls other = tt
 
   fulfilled_there : (ls : Lists N) (x : Value N) (p : Place N) → IsThere ls x → ReplyThere ls (perform.fulfilled K tree x p)
   unfolding perform.fulfilled
   fulfilled_there ls x Near i = i
-  fulfilled_there ls x (Mine n) i = tt
   fulfilled_there ls x (Away h n true) i = i
-  fulfilled_there ls x (Away h n false) i = tt
-  fulfilled_there ls x (Gone t) i = tt
+  fulfilled_there ls x other i = tt
 
   test_there : (ls : Lists N) (t : RefTest) (x : Value N) (p : Place N) → IsThere ls x → ReplyThere ls (perform.test_reply K tree t x p)
   unfolding perform.test_reply
-  test_there ls IsNear x p i = tt
-  test_there ls IsFar x p i = tt
-  test_there ls IsResolved x p i = tt
-  test_there ls IsBroken x p i = tt
   test_there ls OptProblem x p i = problem_there ls p
   test_there ls Fulfillment x p i = fulfilled_there ls x p i
-  test_there ls NoTest x p i = tt
+  test_there ls other x p i = tt
 
   pub look_test : (M : Keeper K) → {C : Fact N} (t : RefTest) (x : Value N) → Gets K C (IsValue x) → Fine K M C (look (λ s. perform.test_reply K tree t x (refs.place K s (refs.follow K s x)))) IsReply
   look_test M t x g = fine_sees K M (λ s. perform.test_reply K tree t x (refs.place K s (refs.follow K s x))) IsReply (λ s h c. test_there s.lists t x (refs.place K s (refs.follow K s x)) (g.at s.things s.lists c))

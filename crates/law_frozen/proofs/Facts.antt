@@ -24,44 +24,23 @@ all_append P (x ∷ xs) ys h k = (h.0, all_append P xs ys h.1 k)
 
 module _ {N : Type 0} (ts : List (Thing N)) (ls : Lists N) (us : List (Thing N)) (ms : Lists N) (grown : Grows ts ls us ms) where
   pub there_up : (v : Value N) → IsThere ls v → IsThere ms v
-  there_up Null h = tt
-  there_up (Flag b) h = tt
-  there_up (Number z) h = tt
-  there_up (Letter c) h = tt
-  there_up (Text t) h = tt
-  there_up (Prim n) h = tt
-  there_up (Broken p) h = tt
   there_up (Items k) h = (h.0, grown.lists k h.0 h.1)
-  there_up (Ref n) h = tt
+  there_up other h = tt
 
   pub no_name_up : (d : ℕ) (v : Value N) → HasNoName d ls v → HasNoName d ms v
-  no_name_up zero Null h = tt
-  no_name_up zero (Flag b) h = tt
-  no_name_up zero (Number z) h = tt
-  no_name_up zero (Letter c) h = tt
-  no_name_up zero (Text t) h = tt
-  no_name_up zero (Prim n) h = tt
-  no_name_up zero (Broken p) h = tt
   no_name_up zero (Items k) h = absurd h
   no_name_up zero (Ref n) h = absurd h
-  no_name_up (suc d) Null h = tt
-  no_name_up (suc d) (Flag b) h = tt
-  no_name_up (suc d) (Number z) h = tt
-  no_name_up (suc d) (Letter c) h = tt
-  no_name_up (suc d) (Text t) h = tt
-  no_name_up (suc d) (Prim n) h = tt
-  no_name_up (suc d) (Broken p) h = tt
   no_name_up (suc d) (Items k) h = (h.0, grown.lists k h.0 h.1, all_map (no_name_up d) h.0 h.2)
   no_name_up (suc d) (Ref n) h = absurd h
+  no_name_up zero other h = tt
+  no_name_up (suc d) other h = tt
 
   pub bears_up : (i : ℕ) → BearsFrozen ts i → BearsFrozen us i
   bears_up i h = (h.0, h.1, h.2, grown.objects i h.0 h.1 h.2 h.3, h.4)
 
   pub standing_up : (x : Standing N) → StandingThere ls x → StandingThere ms x
-  standing_up Unsettled h = tt
-  standing_up (WaitsOn q) h = tt
-  standing_up (Viewed q) h = tt
   standing_up (Settled y) h = there_up y h
+  standing_up other h = tt
 
   pub message_up : (m : Message N) → MessageThere ls m → MessageThere ms m
   message_up m h = (there_up m.target h.0, all_map there_up m.args h.1)
@@ -73,24 +52,16 @@ module _ {N : Type 0} (ts : List (Thing N)) (ls : Lists N) (us : List (Thing N))
   cell_up c h = (there_up c.guard h.0, there_up c.value h.1)
 
   pub freedom_up : (x : Freedom N) → FreedomThere ls x → FreedomThere ms x
-  freedom_up IsSafe h = tt
-  freedom_up IsItself h = tt
   freedom_up (IsFinal g) h = there_up g h
-  freedom_up IsVar h = tt
+  freedom_up other h = tt
 
   pub view_up : (x : View N) → ViewThere ls x → ViewThere ms x
   view_up x h = all_map (λ f k. freedom_up f.freedom k) x.free h
 
   pub frozen_up : {W : Type 0} (K : Naming N W) (v : Value N) → IsFrozen K ts ls v → IsFrozen K us ms v
-  frozen_up K Null h = tt
-  frozen_up K (Flag b) h = tt
-  frozen_up K (Number z) h = tt
-  frozen_up K (Letter c) h = tt
-  frozen_up K (Text t) h = tt
-  frozen_up K (Prim n) h = tt
-  frozen_up K (Broken p) h = tt
   frozen_up K (Items k) h = no_name_up 100 (Items k) h
   frozen_up K (Ref n) h = (h.0, h.1, bears_up h.0 h.2)
+  frozen_up K other h = tt
 
   pub bound_up : {W : Type 0} (K : Naming N W) (b : Bound N) → BoundWell K ts ls b → BoundWell K us ms b
   bound_up K (Fixed v g) h = (there_up v h.0, there_up g h.1, λ e. frozen_up K v (h.2 e))

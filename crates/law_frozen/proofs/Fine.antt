@@ -20,21 +20,17 @@ ReplyThere ls = ReplyHas (IsThere ls)
 
 abbrev pub ChangeThere : {N : Type 0} → Lists N → Change N → Type 0
 ChangeThere ls (Hold m) = MessageThere ls m
-ChangeThere ls (Wait q) = Unit {0}
-ChangeThere ls (WaitOn q) = Unit {0}
-ChangeThere ls (See q) = Unit {0}
 ChangeThere ls (React m) = MessageThere ls m
-ChangeThere ls (ToTell w) = Unit {0}
 ChangeThere ls (Settle y) = IsThere ls y
+ChangeThere ls other = Unit {0}
 
 abbrev pub AskedThere : {N : Type 0} → Lists N → Asked N → Type 0
 AskedThere ls = AskedHas (IsThere ls)
 
 abbrev pub AuditionAskThere : {N : Type 0} → Lists N → AuditionAsk N → Type 0
-AuditionAskThere ls GetsForm = Unit {0}
 AuditionAskThere ls (GetsGuard x) = IsThere ls x
 AuditionAskThere ls (Asks x) = IsThere ls x
-AuditionAskThere ls NoAuditionAsk = Unit {0}
+AuditionAskThere ls other = Unit {0}
 
 abbrev pub ResolverAskThere : {N : Type 0} → Lists N → ResolverAsk N → Type 0
 ResolverAskThere ls (Resolves x) = IsThere ls x
@@ -105,14 +101,7 @@ get_below (xs ∷ ls) (suc k) vs e = let l : k < length ls = get_below ls k vs e
 -- what is there is below the count of lists
 pub there_below : {N : Type 0} (ls : Lists N) (n : ℕ) → n ≡ zero + length ls → (v : Value N) → IsThere ls v → IsBelow n v
 there_below ls n e (Items k) h = let l : k < length ls = get_below ls k h.0 h.1 in omega arith
-there_below ls n e Null h = tt
-there_below ls n e (Flag b) h = tt
-there_below ls n e (Number z) h = tt
-there_below ls n e (Letter c) h = tt
-there_below ls n e (Text t) h = tt
-there_below ls n e (Prim p) h = tt
-there_below ls n e (Broken p) h = tt
-there_below ls n e (Ref r) h = tt
+there_below ls n e other h = tt
 
 pub get_end : {A : Type 0} (xs : List A) (x : A) → slice_get (xs ++ x ∷ []) (length xs) ≡ Some x
 get_end [] x = refl
@@ -122,12 +111,10 @@ dead_objects : {N : Type 0} (ts : List (Thing N)) (k i : ℕ) (node : ℕ) (caug
 unfolding change dead
 dead_objects [] k i node caught stamps e = e
 dead_objects (Made a b c ∷ ts) zero zero node caught stamps e = cc
-dead_objects (Ejector b ∷ ts) zero zero node caught stamps e = cc
-dead_objects (Audition b v ∷ ts) zero zero node caught stamps e = cc
-dead_objects (Resolver p ∷ ts) zero zero node caught stamps e = cc
 dead_objects (t ∷ ts) zero (suc i) node caught stamps e = e
 dead_objects (t ∷ ts) (suc k) zero node caught stamps e = e
 dead_objects (t ∷ ts) (suc k) (suc i) node caught stamps e = dead_objects ts k i node caught stamps e
+dead_objects other zero zero node caught stamps e = cc
 
 module _ {N W : Type 0} (K : Naming N W) where
   abbrev pub Holds : List (Thing N) → Lists N → Fact N → Type 0
@@ -217,43 +204,32 @@ module _ {N W : Type 0} (K : Naming N W) where
   module _ (ts : List (Thing N)) (ls : Lists N) (us : List (Thing N)) (ms : Lists N) (g : Grows ts ls us ms) where
     reply_up : (r : Reply N) → ReplyThere ls r → ReplyThere ms r
     reply_up (Says v) h = there_up ts ls us ms g v h
-    reply_up (Writes t) h = tt
     reply_up (Listed vs) h = all_map (there_up ts ls us ms g) vs h
     reply_up (Iterates o vs) h = (there_up ts ls us ms g o h.0, all_map (there_up ts ls us ms g) vs h.1)
-    reply_up (Fails p) h = tt
+    reply_up other h = tt
 
     change_up : (c : Change N) → ChangeThere ls c → ChangeThere ms c
     change_up (Hold m) h = message_up ts ls us ms g m h
-    change_up (Wait q) h = tt
-    change_up (WaitOn q) h = tt
-    change_up (See q) h = tt
     change_up (React m) h = message_up ts ls us ms g m h
-    change_up (ToTell w) h = tt
     change_up (Settle y) h = there_up ts ls us ms g y h
+    change_up other h = tt
 
     asked_up : (a : Asked N) → AskedThere ls a → AskedThere ms a
     asked_up (MakesList vs) h = all_map (there_up ts ls us ms g) vs h
-    asked_up (Ranges b x y) h = tt
-    asked_up (Same x y) h = tt
-    asked_up (Compares t x y) h = tt
     asked_up (Loops o) h = there_up ts ls us ms g o h
     asked_up (SendsTo only x v l) h = (there_up ts ls us ms g x h.0, there_up ts ls us ms g v h.1, there_up ts ls us ms g l h.2)
     asked_up (CallsTo x v l) h = (there_up ts ls us ms g x h.0, there_up ts ls us ms g v h.1, there_up ts ls us ms g l h.2)
-    asked_up MakesPromise h = tt
     asked_up (Breaks x) h = there_up ts ls us ms g x h
     asked_up (Tells t x) h = there_up ts ls us ms g x h
     asked_up (Whens x o) h = (there_up ts ls us ms g x h.0, there_up ts ls us ms g o h.1)
-    asked_up (ThrowsIt x) h = tt
-    asked_up (IsStamped a x) h = tt
     asked_up (Coerces k x j) h = (there_up ts ls us ms g x h.0, there_up ts ls us ms g j h.1)
     asked_up (AddsNull x) h = there_up ts ls us ms g x h
-    asked_up NoMethod h = tt
+    asked_up other h = tt
 
     audition_up : (a : AuditionAsk N) → AuditionAskThere ls a → AuditionAskThere ms a
-    audition_up GetsForm h = tt
     audition_up (GetsGuard x) h = there_up ts ls us ms g x h
     audition_up (Asks x) h = there_up ts ls us ms g x h
-    audition_up NoAuditionAsk h = tt
+    audition_up other h = tt
 
     resolver_up : (a : ResolverAsk N) → ResolverAskThere ls a → ResolverAskThere ms a
     resolver_up (Resolves x) h = there_up ts ls us ms g x h
@@ -284,11 +260,7 @@ module _ {N W : Type 0} (K : Naming N W) where
     holds_up (IsAsked a) h = asked_up a h
     holds_up (IsAuditionAsk a) h = audition_up a h
     holds_up (IsResolverAsk a) h = resolver_up a h
-    holds_up (DoesPass y) h = h
-    holds_up (DoAllPass ys) h = h
-    holds_up (NoteDoes n) h = h
-    holds_up (StampsMeet fs ys) h = h
-    holds_up (Approves fs y b) h = h
+    holds_up other h = h
 
     -- a sound state, with more things and lists
     pub sound_up : (xs : List (Thing N)) (cells : List (Cell N)) (vss : Lists N) (qs : List (Message N)) (ks : List (Known N)) (ps : List (Put N))
@@ -377,18 +349,15 @@ module _ {N W : Type 0} (K : Naming N W) (M : Keeper K) where
   -- ---- one thing after another
 
   pub widen : {A : Type 0} (G : A → Fact N) (s t : Vat N) (d : Done N A) → Grows s.things s.lists t.things t.lists → Ends K M G t d → Ends K M G s d
-  widen G s t (Gives a u) g h = (grows_trans _ _ _ _ _ _ g h.0, h.1, h.2)
   widen G s t (Throws p u) g h = (grows_trans _ _ _ _ _ _ g h.0, h.1)
-  widen G s t (Ejects n v u) g h = (grows_trans _ _ _ _ _ _ g h.0, h.1, h.2)
   widen G s t (Stops c u) g h = (grows_trans _ _ _ _ _ _ g h.0, h.1)
+  widen G s t other g h = (grows_trans _ _ _ _ _ _ g h.0, h.1, h.2)
 
   bind_ends : {A B : Type 0} (C : Fact N) (P : A → Fact N) (H : B → Fact N) (s : Vat N) (d : Done N A) (f : A → Act N B) → Holds K s.things s.lists C → Ends K M P s d
       → ((a : A) → Fine K M (Also C (P a)) (f a) H) → Ends K M H s (and_then d f)
   unfolding and_then
   bind_ends C P H s (Gives a t) f c h k = widen H s t (f a t) h.0 ((k a).after t h.1 (holds_up K s.things s.lists t.things t.lists h.0 C c, h.2))
-  bind_ends C P H s (Throws p t) f c h k = h
-  bind_ends C P H s (Ejects n v t) f c h k = h
-  bind_ends C P H s (Stops r t) f c h k = h
+  bind_ends C P H s other f c h k = h
 
   pub fine_bind : {A B : Type 0} {C : Fact N} {m : Act N A} {f : A → Act N B} {H : B → Fact N} (P : A → Fact N) → Fine K M C m P → ((a : A) → Fine K M (Also C (P a)) (f a) H) → Fine K M C (m >>= f) H
   unfolding ◌>>=◌
@@ -398,9 +367,7 @@ module _ {N W : Type 0} (K : Naming N W) (M : Keeper K) where
       → ((a : A) → Fine K M C (f a) H) → Ends K M H s (and_then d f)
   unfolding and_then
   less_ends C P H s (Gives a t) f c h k = widen H s t (f a t) h.0 ((k a).after t h.1 (holds_up K s.things s.lists t.things t.lists h.0 C c))
-  less_ends C P H s (Throws p t) f c h k = h
-  less_ends C P H s (Ejects n v t) f c h k = h
-  less_ends C P H s (Stops r t) f c h k = h
+  less_ends C P H s other f c h k = h
 
   pub fine_less : {A B : Type 0} {C : Fact N} {m : Act N A} {f : A → Act N B} {H : B → Fact N} (P : A → Fact N) → Fine K M C m P → ((a : A) → Fine K M C (f a) H) → Fine K M C (m >>= f) H
   unfolding ◌>>=◌
@@ -455,9 +422,7 @@ module _ {N W : Type 0} (K : Naming N W) (M : Keeper K) where
 
   more_ends : {A : Type 0} (P H : A → Fact N) (s : Vat N) (d : Done N A) → ((a : A) → Gets K (P a) (H a)) → Ends K M P s d → Ends K M H s d
   more_ends P H s (Gives a t) g h = (h.0, h.1, (g a).at t.things t.lists h.2)
-  more_ends P H s (Throws p t) g h = h
-  more_ends P H s (Ejects n v t) g h = h
-  more_ends P H s (Stops r t) g h = h
+  more_ends P H s other g h = h
 
   pub fine_more : {A : Type 0} {C : Fact N} {m : Act N A} (P H : A → Fact N) → Fine K M C m P → ((a : A) → Gets K (P a) (H a)) → Fine K M C m H
   fine_more {m = m} P H h g = record { after = λ s i c. more_ends P H s (m s) g (h.after s i c) }
@@ -507,10 +472,8 @@ module _ {N W : Type 0} (K : Naming N W) (M : Keeper K) where
 
   dead_well : (ts : List (Thing N)) (ls : Lists N) (x : Thing N) → ThingWell K ts ls x → ThingWell K ts ls (dead x)
   unfolding dead
-  dead_well ts ls (Made node caught stamps) h = h
   dead_well ts ls (Ejector live) h = tt
-  dead_well ts ls (Audition live view) h = h
-  dead_well ts ls (Resolver p) h = h
+  dead_well ts ls other h = h
 
   change_well : {A : Type 0} (P : A → Type 0) (f : A → A) → ((x : A) → P x → P (f x)) → (n : ℕ) (xs : List A) → AllOf P xs → AllOf P (change f n xs)
   unfolding change
@@ -672,19 +635,16 @@ module _ {N W : Type 0} (K : Naming N W) where
   to_there : (ls : Lists N) (c : Change N) (k : Known N) → ChangeThere ls c → KnownThere ls k → KnownThere ls (changed_to c k)
   unfolding changed_to
   to_there ls (Hold m) k g h = (h.0, all_end _ k.held m h.1 g, h.2)
-  to_there ls (Wait q) k g h = h
   to_there ls (WaitOn q) k g h = (tt, h.1, h.2)
   to_there ls (See q) k g h = (tt, h.1, h.2)
   to_there ls (React m) k g h = (h.0, h.1, all_end _ k.reactions m h.2 g)
-  to_there ls (ToTell w) k g h = h
   to_there ls (Settle y) k g h = (g, tt, tt)
+  to_there ls other k g h = h
 
   unless_there : (ls : Lists N) (x : Standing N) (k new : Known N) → KnownThere ls k → KnownThere ls new → KnownThere ls (unless_settled x k new)
   unfolding unless_settled
   unless_there ls (Settled y) k new h i = h
-  unless_there ls Unsettled k new h i = i
-  unless_there ls (WaitsOn q) k new h i = i
-  unless_there ls (Viewed q) k new h i = i
+  unless_there ls other k new h i = i
 
   either_there : (ls : Lists N) (b : Bool) (k j : Known N) (ks js : List (Known N)) → KnownThere ls k → KnownThere ls j → AllOf (KnownThere ls) ks → AllOf (KnownThere ls) js
       → AllOf (KnownThere ls) (elim b [ true ↦ k ∷ ks | false ↦ j ∷ js ])

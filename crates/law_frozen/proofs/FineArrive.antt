@@ -18,15 +18,9 @@ module _ {N W : Type 0} (K : Naming N W) (M : Keeper K) (law : Loose K M) (telli
 
   pub fine_learn_value : {C : Fact N} → (x1 : Value (Incoming N W)) → PlainPasses x1 → Fine K M C (arrive.learn_value K x1) IsValue
   unfolding arrive.learn_value
-  fine_learn_value {C = C} Null q1 = search (fine, looks) depth 30
-  fine_learn_value {C = C} (Flag b) q1 = search (fine, looks) depth 30
-  fine_learn_value {C = C} (Number z) q1 = search (fine, looks) depth 30
-  fine_learn_value {C = C} (Letter c) q1 = search (fine, looks) depth 30
-  fine_learn_value {C = C} (Text t) q1 = search (fine, looks) depth 30
-  fine_learn_value {C = C} (Prim n) q1 = search (fine, looks) depth 30
-  fine_learn_value {C = C} (Broken p) q1 = search (fine, looks) depth 30
   fine_learn_value {C = C} (Items k) q1 = absurd q1
   fine_learn_value {C = C} (Ref x) q1 = search (fine, looks, fine_learn_name) depth 30
+  fine_learn_value {C = C} other q1 = search (fine, looks) depth 30
 
   pub fine_ask_for : {C : Fact N} → (x1 : ℕ) → (x2 : ℕ) → (x3 : ℕ) → (x4 : N) → Fine K M C (arrive.ask_for K x1 x2 x3 x4) nothing
   unfolding arrive.ask_for
@@ -141,10 +135,9 @@ module _ {N W : Type 0} (K : Naming N W) (M : Keeper K) (law : Loose K M) (telli
 
   pub fine_break_hosted : {C : Fact N} → (x1 : ℕ) → (x2 : N) → (x3 : Words) → (x4 : Standing N) → Fine K M C (arrive.break_hosted K x1 x2 x3 x4) nothing
   unfolding arrive.break_hosted
-  fine_break_hosted {C = C} w n p Unsettled = search (fine, looks, fine_settle) depth 30
-  fine_break_hosted {C = C} w n p (WaitsOn q) = search (fine, looks, fine_settle) depth 30
   fine_break_hosted {C = C} w n p (Viewed q) = search (fine, looks) depth 30
   fine_break_hosted {C = C} w n p (Settled y) = search (fine, looks) depth 30
+  fine_break_hosted {C = C} w n p other = search (fine, looks, fine_settle) depth 30
 
   pub fine_notice_name : {C : Fact N} → (x1 : ℕ) → (x2 : Known N) → Fine K M C (arrive.notice_name K x1 x2) nothing
   unfolding arrive.notice_name

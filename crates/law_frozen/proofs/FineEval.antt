@@ -80,16 +80,7 @@ module _ {N W : Type 0} (K : Naming N W) (M : Keeper K) (serves : Serves K M) (s
   coerce_prim : {C : Fact N} → (again : Caller N) → GoodCaller K M again → (act n : ℕ) → (p : Primitive) → primitive n ≡ p → (j : Value N) → Gets K C (IsValue j) → (x : Value N) → Gets K C (IsValue x) → Fine K M C (perform.coerce_native K tree again act (native_guard p) j x) (λ v. IsBound (Fixed v (Prim n)))
   unfolding perform.coerce_native native_guard
   coerce_prim {C = C} again h1 act n (Guarding g) e j g1 x g2 = native_bound again h1 act n g e j g1 x g2
-  coerce_prim {C = C} again h1 act n MakeList e j g1 x g2 = fine_throw K M _
-  coerce_prim {C = C} again h1 act n Equalizer e j g1 x g2 = fine_throw K M _
-  coerce_prim {C = C} again h1 act n Comparer e j g1 x g2 = fine_throw K M _
-  coerce_prim {C = C} again h1 act n Looper e j g1 x g2 = fine_throw K M _
-  coerce_prim {C = C} again h1 act n Sender e j g1 x g2 = fine_throw K M _
-  coerce_prim {C = C} again h1 act n References e j g1 x g2 = fine_throw K M _
-  coerce_prim {C = C} again h1 act n Thrower e j g1 x g2 = fine_throw K M _
-  coerce_prim {C = C} again h1 act n StampReader e j g1 x g2 = fine_throw K M _
-  coerce_prim {C = C} again h1 act n (Judging r) e j g1 x g2 = fine_throw K M _
-  coerce_prim {C = C} again h1 act n NoPrimitive e j g1 x g2 = fine_throw K M _
+  coerce_prim {C = C} again h1 act n other e j g1 x g2 = fine_throw K M _
 
   pub fine_coerce_near : {C : Fact N} → (x1 : Caller N) → GoodCaller K M x1 → (x2 : ℕ) → (x3 : Value N) → Gets K C (IsValue x3) → (x4 : Value N) → Gets K C (IsValue x4) → (x5 : Value N) → Gets K C (IsValue x5) → (x6 : Place N) → Fine K M C (perform.coerce_near K tree x1 x2 x3 x4 x5 x6) IsValue
   unfolding perform.coerce_near
@@ -100,13 +91,7 @@ module _ {N W : Type 0} (K : Naming N W) (M : Keeper K) (serves : Serves K M) (s
   unfolding perform.coerce
   coerce_bound {C = C} again h1 act (Prim n) g0 j g1 x g2 = coerce_prim again h1 act n (primitive n) refl j g1 x g2
   coerce_bound {C = C} again h1 act (Ref n) g0 j g1 x g2 = let all : Fine K M C (perform.coerce K tree again act (Ref n) j x) IsValue = search (fine, looks, knows, fine_coerce_near) depth 30 in fine_more K M IsValue (λ v. IsBound (Fixed v (Ref n))) all (λ v. got_unguarded K v n)
-  coerce_bound {C = C} again h1 act Null g0 j g1 x g2 = fine_throw K M _
-  coerce_bound {C = C} again h1 act (Flag b) g0 j g1 x g2 = fine_throw K M _
-  coerce_bound {C = C} again h1 act (Number z) g0 j g1 x g2 = fine_throw K M _
-  coerce_bound {C = C} again h1 act (Letter c) g0 j g1 x g2 = fine_throw K M _
-  coerce_bound {C = C} again h1 act (Text t) g0 j g1 x g2 = fine_throw K M _
-  coerce_bound {C = C} again h1 act (Broken t) g0 j g1 x g2 = fine_throw K M _
-  coerce_bound {C = C} again h1 act (Items k) g0 j g1 x g2 = fine_throw K M _
+  coerce_bound {C = C} again h1 act other g0 j g1 x g2 = fine_throw K M _
 
   pub fine_coerce : {C : Fact N} → (again : Caller N) → GoodCaller K M again → (act : ℕ) → (g : Value N) → Gets K C (IsValue g) → (j : Value N) → Gets K C (IsValue j) → (x : Value N) → Gets K C (IsValue x) → Fine K M C (perform.coerce K tree again act g j x) IsValue
   fine_coerce {C = C} again h1 act g g0 j g1 x g2 = fine_more K M (λ v. IsBound (Fixed v g)) IsValue (coerce_bound again h1 act g g0 j g1 x g2) (λ v. got_of_bound K v g)
@@ -197,9 +182,6 @@ module _ {N W : Type 0} (K : Naming N W) (M : Keeper K) (serves : Serves K M) (s
   pub fine_perform : {C : Fact N} → (x1 : Caller N) → GoodCaller K M x1 → (x2 : ℕ) → (x3 : Asked N) → Gets K C (IsAsked x3) → Fine K M C (perform.perform K tree x1 x2 x3) IsValue
   unfolding perform.perform
   fine_perform {C = C} again h1 act (MakesList vs) g1 = let d_g1 : Gets K C (AreValues vs) = record { at = λ ts ls h. (g1.at ts ls h) } in search (fine, looks, knows, fine_make_list) depth 30
-  fine_perform {C = C} again h1 act (Ranges last a b) g1 = search (fine, looks, knows, fine_reply) depth 30
-  fine_perform {C = C} again h1 act (Same a b) g1 = search (fine, looks, knows, fine_reply) depth 30
-  fine_perform {C = C} again h1 act (Compares test a b) g1 = search (fine, looks, knows, fine_reply) depth 30
   fine_perform {C = C} again h1 act (Loops o) g1 = let d_g1 : Gets K C (IsValue o) = record { at = λ ts ls h. (g1.at ts ls h) } in search (fine, looks, knows, fine_loop) depth 30
   fine_perform {C = C} again h1 act (SendsTo only x v l) g1 = let d0_g1 : Gets K C (IsValue x) = record { at = λ ts ls h. (g1.at ts ls h).0 } in let d1_g1 : Gets K C (IsValue v) = record { at = λ ts ls h. (g1.at ts ls h).1 } in let d2_g1 : Gets K C (IsValue l) = record { at = λ ts ls h. (g1.at ts ls h).2 } in search (fine, looks, knows, fine_send_with) depth 30
   fine_perform {C = C} again h1 act (CallsTo x v l) g1 = let d0_g1 : Gets K C (IsValue x) = record { at = λ ts ls h. (g1.at ts ls h).0 } in let d1_g1 : Gets K C (IsValue v) = record { at = λ ts ls h. (g1.at ts ls h).1 } in let d2_g1 : Gets K C (IsValue l) = record { at = λ ts ls h. (g1.at ts ls h).2 } in search (fine, looks, knows, fine_call_with) depth 30
@@ -207,11 +189,11 @@ module _ {N W : Type 0} (K : Naming N W) (M : Keeper K) (serves : Serves K M) (s
   fine_perform {C = C} again h1 act (Breaks t) g1 = let d_g1 : Gets K C (IsValue t) = record { at = λ ts ls h. (g1.at ts ls h) } in search (fine, looks, knows, fine_reply) depth 30
   fine_perform {C = C} again h1 act (Tells test x) g1 = let d_g1 : Gets K C (IsValue x) = record { at = λ ts ls h. (g1.at ts ls h) } in search (fine, looks, knows, fine_reply) depth 30
   fine_perform {C = C} again h1 act (Whens x o) g1 = let d0_g1 : Gets K C (IsValue x) = record { at = λ ts ls h. (g1.at ts ls h).0 } in let d1_g1 : Gets K C (IsValue o) = record { at = λ ts ls h. (g1.at ts ls h).1 } in search (fine, looks, knows, fine_when_resolved) depth 30
-  fine_perform {C = C} again h1 act (ThrowsIt t) g1 = search (fine, looks, knows, fine_reply) depth 30
   fine_perform {C = C} again h1 act (IsStamped a x) g1 = search (fine, looks, knows) depth 30
   fine_perform {C = C} again h1 act (Coerces g x j) g1 = let d0_g1 : Gets K C (IsValue x) = record { at = λ ts ls h. (g1.at ts ls h).0 } in let d1_g1 : Gets K C (IsValue j) = record { at = λ ts ls h. (g1.at ts ls h).1 } in search (fine, looks, knows, fine_native_coerce) depth 30
   fine_perform {C = C} again h1 act (AddsNull g) g1 = let d_g1 : Gets K C (IsValue g) = record { at = λ ts ls h. (g1.at ts ls h) } in search (fine, looks, knows, fine_reply) depth 30
   fine_perform {C = C} again h1 act NoMethod g1 = search (fine, looks, knows) depth 30
+  fine_perform {C = C} again h1 act other g1 = search (fine, looks, knows, fine_reply) depth 30
 
   pub fine_leave : {C : Fact N} → {A : Type 0} → {G : A → Fact N} → (x1 : ℕ) → (x2 : Act N A) → Fine K M C x2 G → Fine K M C (calls.leave K tree {A = A} x1 x2) G
   unfolding calls.leave
@@ -240,13 +222,7 @@ module _ {N W : Type 0} (K : Naming N W) (M : Keeper K) (serves : Serves K M) (s
   unfolding calls.verdict
   fine_verdict {C = C} again h1 act view g1 a g2 (Prim n) = fine_if K M (scopes.is_auditor (primitive n)) (fine_give K M _ (record { at = λ ts ls c e d. by_its_rule n view.free (prim_number n e) d })) (fine_throw K M _)
   fine_verdict {C = C} again h1 act view g1 a g2 (Ref n) = let all : Fine K M C (calls.verdict K tree again act view a (Ref n)) nothing = search (fine, looks, knows, fine_audit) depth 30 in fine_more K M nothing (λ b. Approves view.free (Ref n) b) all (λ b. record { at = λ ts ls c e. absurd (no_prim n e) })
-  fine_verdict {C = C} again h1 act view g1 a g2 Null = fine_throw K M _
-  fine_verdict {C = C} again h1 act view g1 a g2 (Flag b) = fine_throw K M _
-  fine_verdict {C = C} again h1 act view g1 a g2 (Number z) = fine_throw K M _
-  fine_verdict {C = C} again h1 act view g1 a g2 (Letter c) = fine_throw K M _
-  fine_verdict {C = C} again h1 act view g1 a g2 (Text t) = fine_throw K M _
-  fine_verdict {C = C} again h1 act view g1 a g2 (Broken t) = fine_throw K M _
-  fine_verdict {C = C} again h1 act view g1 a g2 (Items k) = fine_throw K M _
+  fine_verdict {C = C} again h1 act view g1 a g2 other = fine_throw K M _
 
   pub any_verdict : {C : Fact N} → (again : Caller N) → GoodCaller K M again → (act : ℕ) → (view : View N) → Gets K C (IsView view) → (a : Value N) → Gets K C (IsValue a) → (y : Value N) → Fine K M C (calls.verdict K tree again act view a y) nothing
   any_verdict {C = C} again h1 act view g1 a g2 y = fine_more K M (λ b. Approves view.free y b) nothing (fine_verdict again h1 act view g1 a g2 y) (λ b. got_nothing K (Approves view.free y b))
@@ -300,9 +276,7 @@ module _ {N W : Type 0} (K : Naming N W) (M : Keeper K) (serves : Serves K M) (s
   then_null : (s : Vat N) (d : Done N (Unit {0})) → Ends K M nothing s d → Ends K M IsValue s (and_then d (λ _. give Null))
   unfolding and_then give
   then_null s (Gives a t) h = (h.0, h.1, tt)
-  then_null s (Throws e t) h = h
-  then_null s (Ejects n v t) h = h
-  then_null s (Stops r t) h = h
+  then_null s other h = h
 
   -- how an act ends from each state in which a name did neither settle nor wait
   abbrev OpenEnds : Fact N → N → Act N (Unit {0}) → Type 0
@@ -311,9 +285,7 @@ module _ {N W : Type 0} (K : Naming N W) (M : Keeper K) (serves : Serves K M) (s
   open_ends : (C : Fact N) (p : N) (m : Act N (Unit {0})) → OpenEnds C p m → (s : Vat N) → M.holds s → Holds K s.things s.lists C → (w : Standing N) → standing_of K s.known p ≡ w → Ends K M IsValue s (calls.where_unresolved K tree w m s)
   unfolding calls.where_unresolved ◌>>◌ throw
   open_ends C p m ends s h c Unsettled e = then_null s (m s) (ends s h c e)
-  open_ends C p m ends s h c (WaitsOn q) e = (grows_same s.things s.lists, h)
-  open_ends C p m ends s h c (Viewed q) e = (grows_same s.things s.lists, h)
-  open_ends C p m ends s h c (Settled y) e = (grows_same s.things s.lists, h)
+  open_ends C p m ends s h c other e = (grows_same s.things s.lists, h)
 
   -- a resolver resolves and breaks none but a name that did neither settle nor wait
   fine_open : {C : Fact N} (p : N) (m : Act N (Unit {0})) → OpenEnds C p m → Fine K M C (look (λ s. standing_of K s.known p) >>= (λ w. calls.where_unresolved K tree w m)) IsValue

@@ -78,10 +78,8 @@ module _ {N W : Type 0} (K : Naming N W) (M : Keeper K) (law : Loose K M) (telli
 
   pub fine_send_to : {C : Fact N} → (x1 : N → Value N → Act N (Unit {0})) → GoodSettler K M x1 → (x2 : Message N) → Gets K C (IsMessage x2) → (x3 : Value N) → Gets K C (IsValue x3) → (x4 : Place N) → Fine K M C (refs.send_to K x1 x2 x3 x4) nothing
   unfolding refs.send_to
-  fine_send_to {C = C} settle h1 m g1 y g2 Near = let mt_m : Gets K C (IsValue m.target) = record { at = λ ts ls h. (g1.at ts ls h).0 } in let ma_m : Gets K C (AreValues m.args) = record { at = λ ts ls h. (g1.at ts ls h).1 } in search (fine, looks) depth 30
-  fine_send_to {C = C} settle h1 m g1 y g2 (Mine n) = let mt_m : Gets K C (IsValue m.target) = record { at = λ ts ls h. (g1.at ts ls h).0 } in let ma_m : Gets K C (AreValues m.args) = record { at = λ ts ls h. (g1.at ts ls h).1 } in search (fine, looks) depth 30
   fine_send_to {C = C} settle h1 m g1 y g2 (Away h n o) = let mt_m : Gets K C (IsValue m.target) = record { at = λ ts ls h. (g1.at ts ls h).0 } in let ma_m : Gets K C (AreValues m.args) = record { at = λ ts ls h. (g1.at ts ls h).1 } in search (fine, looks, fine_pass_on) depth 30
-  fine_send_to {C = C} settle h1 m g1 y g2 (Gone p) = let mt_m : Gets K C (IsValue m.target) = record { at = λ ts ls h. (g1.at ts ls h).0 } in let ma_m : Gets K C (AreValues m.args) = record { at = λ ts ls h. (g1.at ts ls h).1 } in search (fine, looks) depth 30
+  fine_send_to {C = C} settle h1 m g1 y g2 other = let mt_m : Gets K C (IsValue m.target) = record { at = λ ts ls h. (g1.at ts ls h).0 } in let ma_m : Gets K C (AreValues m.args) = record { at = λ ts ls h. (g1.at ts ls h).1 } in search (fine, looks) depth 30
 
   pub fine_send_on : {C : Fact N} → (x1 : N → Value N → Act N (Unit {0})) → GoodSettler K M x1 → (x2 : Message N) → Gets K C (IsMessage x2) → Fine K M C (refs.send_on K x1 x2) nothing
   unfolding refs.send_on

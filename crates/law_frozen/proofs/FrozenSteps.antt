@@ -23,9 +23,7 @@ loose K = record { any = λ s t h i. i }
 ends_sound : {N W A : Type 0} (K : Naming N W) (G : A → Fact N) (s : Vat N) (d : Done N A) → Ends K (plain K) G s d → After (λ _. Sound K) s d
 unfolding plain
 ends_sound K G s (Gives a t) h = h.1
-ends_sound K G s (Throws p t) h = h.1
-ends_sound K G s (Ejects n v t) h = h.1
-ends_sound K G s (Stops c t) h = h.1
+ends_sound K G s other h = h.1
 
 module _ {N W : Type 0} (K : Naming N W) (spots : (i : ℕ) → K.spot (K.object i) ≡ Own i) where
   abbrev M : Keeper K

@@ -43,21 +43,14 @@ module _ {N W : Type 0} (K : Naming N W) where
   unfolding refs.led
   led_there ls on n (Settled y) f h = f y h
   led_there ls on n (Viewed q) f h = f (Ref q) tt
-  led_there ls on n (WaitsOn q) f h = tt
-  led_there ls on n Unsettled f h = tt
+  led_there ls on n other f h = tt
 
   follow_at_there : (ls : Lists N) (d : ℕ) (ks : List (Known N)) (x : Value N) → AllOf (KnownThere ls) ks → IsThere ls x → IsThere ls (refs.follow_at K d ks x)
   unfolding refs.follow_at refs.standing_of
   follow_at_there ls zero ks x h i = i
   follow_at_there ls (suc d) ks (Ref n) h i = led_there ls (λ y. refs.follow_at K d ks y) n (refs.standing_of K ks n) (λ y j. follow_at_there ls d ks y h j) (standing_there ls (refs.entry_of K ks n) (entry_there ls ks n h))
-  follow_at_there ls (suc d) ks Null h i = tt
-  follow_at_there ls (suc d) ks (Flag b) h i = tt
-  follow_at_there ls (suc d) ks (Number z) h i = tt
-  follow_at_there ls (suc d) ks (Letter c) h i = tt
-  follow_at_there ls (suc d) ks (Text t) h i = tt
-  follow_at_there ls (suc d) ks (Prim p) h i = tt
-  follow_at_there ls (suc d) ks (Broken p) h i = tt
   follow_at_there ls (suc d) ks (Items k) h i = i
+  follow_at_there ls (suc d) ks other h i = tt
 
   by_there : (ls : Lists N) (n : N) (b : Bool) (t : Words) → IsThere ls (elim b [ true ↦ Broken t | false ↦ Ref n ])
   by_there ls n true t = tt
@@ -71,15 +64,9 @@ module _ {N W : Type 0} (K : Naming N W) where
 
   severed_there : (s : Vat N) (x : Value N) → IsThere s.lists x → IsThere s.lists (refs.severed K s x)
   unfolding refs.severed
-  severed_there s Null h = tt
-  severed_there s (Flag b) h = tt
-  severed_there s (Number z) h = tt
-  severed_there s (Letter c) h = tt
-  severed_there s (Text t) h = tt
-  severed_there s (Prim p) h = tt
-  severed_there s (Broken p) h = tt
   severed_there s (Items k) h = h
   severed_there s (Ref n) h = at_there s n (K.spot n)
+  severed_there s other h = tt
 
   pub follow_there : (s : Vat N) → Sound K s → (x : Value N) → IsThere s.lists x → IsThere s.lists (refs.follow K s x)
   unfolding refs.follow
@@ -89,15 +76,8 @@ module _ {N W : Type 0} (K : Naming N W) where
 
   shape_by_passes : (f : List (Value N) → Passed N) (ls : Lists N) (y : Value N) → ((vs : List (Value N)) → Passes (f vs)) → Passes (refs.shape_by K f ls y)
   unfolding refs.shape_by
-  shape_by_passes f ls Null h = tt
-  shape_by_passes f ls (Flag b) h = tt
-  shape_by_passes f ls (Number z) h = tt
-  shape_by_passes f ls (Letter c) h = tt
-  shape_by_passes f ls (Text t) h = tt
-  shape_by_passes f ls (Prim p) h = tt
-  shape_by_passes f ls (Broken p) h = tt
   shape_by_passes f ls (Items k) h = h (list_at ls k)
-  shape_by_passes f ls (Ref n) h = tt
+  shape_by_passes f ls other h = tt
 
   shapes_pass : (f : Value N → Passed N) (vs : List (Value N)) → ((v : Value N) → Passes (f v)) → AllPass (refs.shapes K f vs)
   unfolding refs.shapes
@@ -116,15 +96,8 @@ module _ {N W : Type 0} (K : Naming N W) where
 
   parcel_at_passes : (s : Vat N) (y : Value N) → Passes (refs.parcel_at K s y).value
   unfolding refs.parcel_at
-  parcel_at_passes s Null = tt
-  parcel_at_passes s (Flag b) = tt
-  parcel_at_passes s (Number z) = tt
-  parcel_at_passes s (Letter c) = tt
-  parcel_at_passes s (Text t) = tt
-  parcel_at_passes s (Prim p) = tt
-  parcel_at_passes s (Broken p) = tt
   parcel_at_passes s (Items k) = of_list_passes s (Items k) _
-  parcel_at_passes s (Ref n) = tt
+  parcel_at_passes s other = tt
 
   parcel_passes : (s : Vat N) (x : Value N) → Passes (refs.parcel K s x).value
   unfolding refs.parcel
@@ -139,15 +112,8 @@ module _ {N W : Type 0} (K : Naming N W) where
 
   pub target_there : (s : Vat N) (p : N) (x : Value N) → IsThere s.lists x → IsThere s.lists (refs.target_of K s p x)
   unfolding refs.target_of
-  target_there s p Null h = tt
-  target_there s p (Flag b) h = tt
-  target_there s p (Number z) h = tt
-  target_there s p (Letter c) h = tt
-  target_there s p (Text t) h = tt
-  target_there s p (Prim n) h = tt
-  target_there s p (Broken t) h = tt
   target_there s p (Items k) h = cut_there s.lists (refs.reaches K (suc (length s.lists)) s p (Items k)) (Items k) h
-  target_there s p (Ref n) h = tt
+  target_there s p other h = tt
 
   -- ---- looks
 

@@ -15,24 +15,12 @@ all_at P (y ∷ xs) x h (inl e) = rw e h.0
 all_at P (y ∷ xs) x h (inr i) = all_at P xs x h.1 i
 
 no_name_more : {N : Type 0} (ls : Lists N) (d : ℕ) (v : Value N) → HasNoName d ls v → HasNoName (suc d) ls v
-no_name_more ls zero Null h = tt
-no_name_more ls zero (Flag b) h = tt
-no_name_more ls zero (Number z) h = tt
-no_name_more ls zero (Letter c) h = tt
-no_name_more ls zero (Text t) h = tt
-no_name_more ls zero (Prim n) h = tt
-no_name_more ls zero (Broken p) h = tt
 no_name_more ls zero (Items k) h = absurd h
 no_name_more ls zero (Ref n) h = absurd h
-no_name_more ls (suc d) Null h = tt
-no_name_more ls (suc d) (Flag b) h = tt
-no_name_more ls (suc d) (Number z) h = tt
-no_name_more ls (suc d) (Letter c) h = tt
-no_name_more ls (suc d) (Text t) h = tt
-no_name_more ls (suc d) (Prim n) h = tt
-no_name_more ls (suc d) (Broken p) h = tt
 no_name_more ls (suc d) (Items k) h = (h.0, h.1, all_map (no_name_more ls d) h.0 h.2)
 no_name_more ls (suc d) (Ref n) h = absurd h
+no_name_more ls zero other h = tt
+no_name_more ls (suc d) other h = tt
 
 same_list : {A : Type 0} (o : Option A) (x y : A) → o ≡ Some x → o ≡ Some y → x ≡ y
 same_list o x y e f = cc
@@ -42,15 +30,9 @@ own_same p i j e f = cc
 
 module _ {N W : Type 0} (K : Naming N W) (spots : (i : ℕ) → K.spot (K.object i) ≡ Own i) where
   plain_frozen : (ts : List (Thing N)) (ls : Lists N) (w : Value N) → HasNoName 99 ls w → IsFrozen K ts ls w
-  plain_frozen ts ls Null h = tt
-  plain_frozen ts ls (Flag b) h = tt
-  plain_frozen ts ls (Number z) h = tt
-  plain_frozen ts ls (Letter c) h = tt
-  plain_frozen ts ls (Text t) h = tt
-  plain_frozen ts ls (Prim p) h = tt
-  plain_frozen ts ls (Broken p) h = tt
   plain_frozen ts ls (Items k) h = no_name_more ls 99 (Items k) h
   plain_frozen ts ls (Ref n) h = absurd h
+  plain_frozen ts ls other h = tt
 
   thing_at : (ts us : List (Thing N)) (ls : Lists N) (o : Option (Thing N)) (x : Thing N) → o ≡ Some x → MayBe (ThingWell K ts ls) o → ThingWell K ts ls x
   thing_at ts us ls (Some y) x e h = let same : y ≡ x = cc in rw same at h
@@ -74,30 +56,17 @@ module _ {N W : Type 0} (K : Naming N W) (spots : (i : ℕ) → K.spot (K.object
       well.2 among
 
   leads_frozen : (s : Vat N) → Sound K s → (u w : Value N) → IsFrozen K s.things s.lists u → Leads K s u w → IsFrozen K s.things s.lists w
-  leads_frozen s h Null w f l = absurd l
-  leads_frozen s h (Flag b) w f l = absurd l
-  leads_frozen s h (Number z) w f l = absurd l
-  leads_frozen s h (Letter c) w f l = absurd l
-  leads_frozen s h (Text t) w f l = absurd l
-  leads_frozen s h (Prim p) w f l = absurd l
-  leads_frozen s h (Broken p) w f l = absurd l
   leads_frozen s h (Items k) w f l = let same : l.0 ≡ f.0 = same_list (slice_get s.lists k) l.0 f.0 l.1 f.1 in let among : IsAmong w f.0 = rw same at l.2 in plain_frozen s.things s.lists w (all_at (λ v. HasNoName 99 s.lists v) f.0 w f.2 among)
   leads_frozen s h (Ref n) w f l = all_at (λ b. FrozenCapture K s.things s.lists b.bound) l.2 (record { noun = l.4; bound = Fixed w l.5 }) (captures_frozen s h n f l.0 l.1 l.2 l.3 l.6 l.7) l.8
+  leads_frozen s h other w f l = absurd l
 
   reaches_frozen : (n : ℕ) (s : Vat N) → Sound K s → (v w : Value N) → IsFrozen K s.things s.lists v → Reaches K n s v w → IsFrozen K s.things s.lists w
   reaches_frozen zero s h v w f r = rw r at f
   reaches_frozen (suc n) s h v w f r = leads_frozen s h r.0 w (reaches_frozen n s h v r.0 f r.1) r.2
 
   no_slots : (s : Vat N) → Sound K s → (w : Value N) → IsFrozen K s.things s.lists w → HasNoSlot K s w
-  no_slots s h Null f = tt
-  no_slots s h (Flag b) f = tt
-  no_slots s h (Number z) f = tt
-  no_slots s h (Letter c) f = tt
-  no_slots s h (Text t) f = tt
-  no_slots s h (Prim p) f = tt
-  no_slots s h (Broken p) f = tt
-  no_slots s h (Items k) f = tt
   no_slots s h (Ref n) f = λ i node k caught stamps noun e t a. all_at (λ b. FrozenCapture K s.things s.lists b.bound) caught (record { noun = noun; bound = Slot k }) (captures_frozen s h n f i node caught stamps e t) a
+  no_slots s h other f = tt
 
   pub frozen_reach : (s : Vat N) → Sound K s → FrozenReach K s
   frozen_reach s h i n w b r = let frozen : IsFrozen K s.things s.lists w = reaches_frozen n s h (Ref (K.object i)) w (i, spots i, b) r in (frozen, no_slots s h w frozen)

@@ -31,15 +31,8 @@ pub record WorldSound (script : Script) (w : World) : Type 0 where
 
 read_plain : (ks : List Name) (y : Value Name) → PlainPasses y → PlainPasses (world.read_value ks y).read
 unfolding world.read_value
-read_plain ks Null h = tt
-read_plain ks (Flag b) h = tt
-read_plain ks (Number z) h = tt
-read_plain ks (Letter c) h = tt
-read_plain ks (Text t) h = tt
-read_plain ks (Prim n) h = tt
-read_plain ks (Broken p) h = tt
 read_plain ks (Items k) h = absurd h
-read_plain ks (Ref n) h = tt
+read_plain ks other h = tt
 
 mutual
   unfolding world.read_passed world.read_all world.plain_read world.many_read world.more_read
@@ -56,11 +49,8 @@ mutual
 pub note_read : (ks : List Name) (n : Note Name) → NotePasses n → NotePasses (read_note ks n)
 unfolding read_note
 note_read ks (Deliver m n verb ys) h = reads_pass ys ks h
-note_read ks (Open i n) h = tt
-note_read ks (Ask p i n) h = tt
 note_read ks (SettledTo n y) h = read_passes y (world.known_after ks n) h
-note_read ks (Elsewhere n c) h = tt
-note_read ks (Shorten n c i) h = tt
+note_read ks other h = tt
 
 -- ---- links
 
@@ -123,9 +113,7 @@ module _ (script : Script) where
   put_back_sound : (v : ℕ) (w x : World) (head : List Event) (n : ℕ) (d : Done Name (Unit {0})) → WorldSound script w → (s : Vat Name) → After (λ _. Sound (names script v)) s d → world.put_back v w head n d ≡ Goes x → WorldSound script x
   unfolding world.put_back
   put_back_sound v w x head n (Gives a t) h s k e = moved _ x (record { vats = λ u r i. put_one v t w h k u r (put_at_or v t w.vats u r i); links = push_all_passes v t.outbox w.links k.outbox h.links }) e
-  put_back_sound v w x head n (Throws p t) h s k e = cc
-  put_back_sound v w x head n (Ejects m y t) h s k e = cc
-  put_back_sound v w x head n (Stops c t) h s k e = cc
+  put_back_sound v w x head n other h s k e = cc
 
   within_sound : (v : ℕ) (w x : World) (head : List Event) (n : ℕ) (what : Step Name Name) (q : Vat Name) → WorldSound script w → Sound (names script v) q → StepWell (names script v) (world.readied w q) what
       → world.within v w head n (does (names script v) what) (Some q) ≡ Goes x → WorldSound script x

@@ -53,10 +53,8 @@ entries_of_value d = flat_map (written (round 3)) (one_or_none (step_in vat_name
 
 -- no notice
 abbrev is_quiet : Entry → Bool
-is_quiet (Turn v) = true
-is_quiet (Carry v w) = true
-is_quiet (Cut v w) = true
 is_quiet (Notice v w) = false
+is_quiet other = true
 
 record Right (text : List ℕ) (e : Entry) : Type 0 where
   plain : are_plain text ≡ true
@@ -199,10 +197,8 @@ pub schedule_quiet : (g : ℕ → ℕ) (xs : List ℕ) (m : ℕ) → list_all is
 schedule_quiet g xs m = picked_quiet g xs (repeat m (round 3)) (rounds_quiet m)
 
 quiet_follows : (before : List Entry) (e : Entry) → is_quiet e ≡ true → may_follow before e ≡ true
-quiet_follows before (Turn v) h = refl
-quiet_follows before (Carry v w) h = refl
-quiet_follows before (Cut v w) h = refl
 quiet_follows before (Notice v w) h = cc
+quiet_follows before other h = refl
 
 pub in_order : (before es : List Entry) → list_all is_quiet es ≡ true → are_in_order before es ≡ true
 in_order before [] h = refl

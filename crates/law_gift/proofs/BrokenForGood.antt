@@ -33,9 +33,7 @@ goes_is w x e = cc
 put_gives : (v : ℕ) (w x : World) (head : List Event) (n : ℕ) (s : Vat Name) (d : Done Name (Unit {0})) → slice_get w.vats v ≡ Some s → put_back v w head n d ≡ Goes x → (t : Vat Name) × (d ≡ Gives tt t) × (slice_get x.vats v ≡ Some t)
 unfolding put_back
 put_gives v w x head n s (Gives tt t) here e = (t, refl, subst (λ (y : World). slice_get y.vats v ≡ Some t) (goes_is _ x e) (put_found v t s w.vats here))
-put_gives v w x head n s (Throws p t) here e = cc
-put_gives v w x head n s (Ejects m y t) here e = cc
-put_gives v w x head n s (Stops c t) here e = cc
+put_gives v w x head n s other here e = cc
 
 module _ (script : Script) (v w : ℕ) where
   within_gives : (k : ℕ) (first x : World) (o : Option (Vat Name)) (s : Vat Name) → o ≡ Some s → slice_get first.vats v ≡ Some s

@@ -18,19 +18,11 @@ use Rattle.law_gift.proofs.Opened.{IsOpenedBy, opened_later}
 -- Names that may settle at vat v, whose gifts are those: all but its own gifts that were not opened.
 abbrev pub MaySettle : ℕ → List (GiftEntry Name) → Name → Type 0
 MaySettle v gs (Gift h i) = h ≡ v → (p : ℕ) × IsOpenedBy p i gs
-MaySettle v gs (Root w) = Unit {0}
-MaySettle v gs (Object w j) = Unit {0}
-MaySettle v gs (Promise w j) = Unit {0}
-MaySettle v gs (Answer w m) = Unit {0}
-MaySettle v gs (Sent m) = Unit {0}
+MaySettle v gs other = Unit {0}
 
 pub may_later : (v : ℕ) (s t : Vat Name) → SameGifts s t → (n : Name) → MaySettle v s.gifts n → MaySettle v t.gifts n
 may_later v s t same (Gift h i) f = λ e. let x = f e in (x.0, opened_later x.0 i s t same x.1)
-may_later v s t same (Root w) f = tt
-may_later v s t same (Object w j) f = tt
-may_later v s t same (Promise w j) f = tt
-may_later v s t same (Answer w m) f = tt
-may_later v s t same (Sent m) f = tt
+may_later v s t same other f = tt
 
 -- ---- where more may settle
 
@@ -94,9 +86,8 @@ module _ (word : ℕ → ℕ) (v : ℕ) where
     calm_so : (k : Known Name) (t : Standing Name) → k.standing ≡ t → IsCalm t → Calms n (Some k)
     unfolding standing_in
     calm_so k Unsettled e h = inl e
-    calm_so k (WaitsOn q) e h = absurd h
-    calm_so k (Viewed q) e h = absurd h
     calm_so k (Settled y) e h = broken_so k y e h
+    calm_so k other e h = absurd h
 
     entry_so : (k : Known Name) → k.name ≡ n → IsCalm k.standing ⊎ May k.name → Calms n (Some k)
     entry_so k e (inl h) = calm_so k k.standing refl h

@@ -14,21 +14,13 @@ use Rattle.law_reference.proofs.Kept.{is, changed_or}
 -- a broken reference
 abbrev pub IsBreak : Value Name → Type 0
 IsBreak (Broken p) = Unit {0}
-IsBreak Null = ⊥
-IsBreak (Flag b) = ⊥
-IsBreak (Number z) = ⊥
-IsBreak (Letter c) = ⊥
-IsBreak (Text t) = ⊥
-IsBreak (Prim n) = ⊥
-IsBreak (Items k) = ⊥
-IsBreak (Ref n) = ⊥
+IsBreak other = ⊥
 
 -- it neither waits nor settled, but to a broken reference
 abbrev pub IsCalm : Standing Name → Type 0
 IsCalm Unsettled = Unit {0}
-IsCalm (WaitsOn q) = ⊥
-IsCalm (Viewed q) = ⊥
 IsCalm (Settled y) = IsBreak y
+IsCalm other = ⊥
 
 -- ---- gifts
 
@@ -79,21 +71,19 @@ module _ (word : ℕ → ℕ) (v : ℕ) (May : Name → Type 0) where
   abbrev pub Fair : Change Name → Name → Type 0
   Fair (Hold m) n = MayAnswer m
   Fair (Wait q) n = May q
-  Fair (WaitOn q) n = May n
-  Fair (See q) n = May n
   Fair (React m) n = MayAnswer m
   Fair (ToTell w) n = Unit {0}
   Fair (Settle y) n = IsBreak y ⊎ May n
+  Fair other n = May n
 
   changed_entry : (c : Change Name) (k : Known Name) → Fair c k.name → Entry k → Entry (changed_to c k)
   unfolding changed_to
   changed_entry (Hold m) k f h = (h.0, all_end MayAnswer k.held m h.1 f, h.2, h.3)
   changed_entry (Wait q) k f h = (h.0, h.1, all_end May k.waiting q h.2 f, h.3)
-  changed_entry (WaitOn q) k f h = (inr f, h.1, h.2, h.3)
-  changed_entry (See q) k f h = (inr f, h.1, h.2, h.3)
   changed_entry (React m) k f h = (h.0, h.1, h.2, all_end MayAnswer k.reactions m h.3 f)
   changed_entry (ToTell w) k f h = h
   changed_entry (Settle y) k f h = (f, tt, tt, tt)
+  changed_entry other k f h = (inr f, h.1, h.2, h.3)
 
   changed_so : (c : Change Name) (k : Known Name) → Fair c k.name → Entry k → (changed c k ≡ k) ⊎ (changed c k ≡ changed_to c k) → Entry (changed c k)
   changed_so c k f h (inl e) = subst Entry (sym e) h

@@ -45,9 +45,7 @@ module _ (word : ℕ → ℕ) (v : ℕ) (May : Name → Type 0) (answers : (m : 
   bound : {A B : Type 0} (G : A → Type 0) (d : Done Name A) (f : A → Act Name B) → Leaves G d → ((a : A) → G a → Holds Keeps (f a)) → Leaves (any {A = B}) (and_then d f)
   unfolding and_then
   bound G (Gives a t) f h k = (k a h.1).after t h.0
-  bound G (Throws p t) f h k = h
-  bound G (Ejects n x t) f h k = h
-  bound G (Stops c t) f h k = h
+  bound G other f h k = h
 
   bind_so : {A B : Type 0} (G : A → Type 0) {m : Act Name A} {f : A → Act Name B} → Yields G m → ((a : A) → G a → Holds Keeps (f a)) → Holds Keeps (m >>= f)
   unfolding ◌>>=◌
@@ -58,9 +56,7 @@ module _ (word : ℕ → ℕ) (v : ℕ) (May : Name → Type 0) (answers : (m : 
 
   less_leaves : {A : Type 0} (G : A → Type 0) (d : Done Name A) → Leaves G d → Leaves (any {A = A}) d
   less_leaves G (Gives a t) h = (h.0, tt)
-  less_leaves G (Throws p t) h = h
-  less_leaves G (Ejects n x t) h = h
-  less_leaves G (Stops c t) h = h
+  less_leaves G other h = h
 
   less : {A : Type 0} (G : A → Type 0) {m : Act Name A} → Yields G m → Holds Keeps m
   less G {m = m} h = record { after = λ s i. less_leaves G (m s) (h.after s i) }
@@ -264,9 +260,7 @@ module _ (word : ℕ → ℕ) (v : ℕ) (May : Name → Type 0) (answers : (m : 
   rest_settle_standing : (settle : Settler) → Good settle → (p : Name) (y : Value Name) (k : Known Name) (t : Standing Name) → IsBreak y ⊎ May p → Entry k → Holds Keeps (refs.settle_standing N settle p y k t)
   unfolding refs.settle_standing
   rest_settle_standing settle good p y k (Settled z) f h = rest_give tt
-  rest_settle_standing settle good p y k Unsettled f h = rest_settle_known settle good p y k f h
-  rest_settle_standing settle good p y k (WaitsOn q) f h = rest_settle_known settle good p y k f h
-  rest_settle_standing settle good p y k (Viewed q) f h = rest_settle_known settle good p y k f h
+  rest_settle_standing settle good p y k other f h = rest_settle_known settle good p y k f h
 
   rest_settle_entry : (settle : Settler) → Good settle → (p : Name) (y : Value Name) (o : Option (Known Name)) → IsBreak y ⊎ May p → WhereSome Entry o → Holds Keeps (refs.settle_entry N settle p y o)
   unfolding refs.settle_entry
@@ -297,9 +291,7 @@ module _ (word : ℕ → ℕ) (v : ℕ) (May : Name → Type 0) (answers : (m : 
   unfolding refs.resolve_to
   rest_resolve_to p y (Mine q) i = rest_wait_unless_cycle p q i
   rest_resolve_to p y (Away h q false) i = rest_wait_unless_cycle p q i
-  rest_resolve_to p y (Away h q true) i = rest_settle p y (inr i)
-  rest_resolve_to p y Near i = rest_settle p y (inr i)
-  rest_resolve_to p y (Gone t) i = rest_settle p y (inr i)
+  rest_resolve_to p y other i = rest_settle p y (inr i)
 
   pub rest_resolve : (p : Name) (x : Value Name) → May p → Holds Keeps (refs.resolve N p x)
   unfolding refs.resolve
@@ -339,9 +331,7 @@ module _ (word : ℕ → ℕ) (v : ℕ) (May : Name → Type 0) (answers : (m : 
   unfolding refs.react_at
   rest_react_at m (Mine n) i = rest_react m n i
   rest_react_at m (Away h n false) i = rest_react m n i
-  rest_react_at m (Away h n true) i = rest_queue m i
-  rest_react_at m Near i = rest_queue m i
-  rest_react_at m (Gone t) i = rest_queue m i
+  rest_react_at m other i = rest_queue m i
 
   pub rest_reacts : (act : ℕ) (x o near : Value Name) → Holds Keeps (refs.react N act x o near)
   unfolding refs.react refs.reaction
@@ -429,11 +419,7 @@ module _ (word : ℕ → ℕ) (v : ℕ) (May : Name → Type 0) (answers : (m : 
   answer_may : (h : ℕ) (n : Name) → h ≡ v → IsMessageName n → May (answer_of h n)
   unfolding answer_of
   answer_may h (Sent m) e i = subst (λ (u : ℕ). May (Answer u m)) (sym e) (answers m)
-  answer_may h (Root w) e i = absurd i
-  answer_may h (Object w j) e i = absurd i
-  answer_may h (Promise w j) e i = absurd i
-  answer_may h (Answer w m) e i = absurd i
-  answer_may h (Gift w j) e i = absurd i
+  answer_may h other e i = absurd i
 
   comes_answer : (h : ℕ) (id : Name) → h ≡ v → IsMessageName id → Yields May (come N (IsAnswer h id) h)
   unfolding come naming name_of
@@ -495,10 +481,9 @@ module _ (word : ℕ → ℕ) (v : ℕ) (May : Name → Type 0) (answers : (m : 
   abbrev pub NoteMay : Note (Incoming Name Name) → Type 0
   NoteMay (Deliver d x verb ys) = IsMessageName (told_name d.message)
   NoteMay (Open i x) = May (Gift v i)
-  NoteMay (Ask p i x) = Unit {0}
   NoteMay (SettledTo x y) = May (told_name x)
   NoteMay (Elsewhere x c) = May (told_name x)
-  NoteMay (Shorten x c i) = Unit {0}
+  NoteMay other = Unit {0}
 
   pub rest_arrive : (from : ℕ) (n : Note (Incoming Name Name)) → NoteMay n → Holds Keeps (arrive.arrive N from n)
   unfolding arrive.arrive
@@ -513,10 +498,9 @@ module _ (word : ℕ → ℕ) (v : ℕ) (May : Name → Type 0) (answers : (m : 
 
   rest_break_hosted : (w : ℕ) (n : Name) (p : Words) (t : Standing Name) → Holds Keeps (arrive.break_hosted N w n p t)
   unfolding arrive.break_hosted
-  rest_break_hosted w n p Unsettled = search (rests, rest_break) depth 14
-  rest_break_hosted w n p (WaitsOn q) = search (rests, rest_break) depth 14
   rest_break_hosted w n p (Viewed q) = search rests depth 14
   rest_break_hosted w n p (Settled y) = search rests depth 14
+  rest_break_hosted w n p other = search (rests, rest_break) depth 14
 
   rest_notice_name : (w : ℕ) (k : Known Name) → Holds Keeps (arrive.notice_name N w k)
   unfolding arrive.notice_name

@@ -49,20 +49,12 @@ all_named v (f ∷ gs) (suc i) g h e = all_named v gs i g h.1 e
 far_may : (v : ℕ) (gs : List (GiftEntry Name)) (n : Name) → (host_of n ≡ v → ⊥) → MaySettle v gs n
 unfolding host_of
 far_may v gs (Gift h i) f = λ e. absurd (f e)
-far_may v gs (Root w) f = tt
-far_may v gs (Object w j) f = tt
-far_may v gs (Promise w j) f = tt
-far_may v gs (Answer w m) f = tt
-far_may v gs (Sent m) f = tt
+far_may v gs other f = tt
 
 -- what a note opens at vat v
 abbrev OpensIt : ℕ → Note Name → Name → Type 0
 OpensIt v (Open i x) m = m ≡ Gift v i
-OpensIt v (Deliver d x verb ys) m = ⊥
-OpensIt v (Ask p i x) m = ⊥
-OpensIt v (SettledTo x y) m = ⊥
-OpensIt v (Elsewhere x c) m = ⊥
-OpensIt v (Shorten x c i) m = ⊥
+OpensIt v other m = ⊥
 
 module _ (script : Script) where
   abbrev word : ℕ → ℕ
@@ -104,11 +96,7 @@ module _ (script : Script) where
     opened_may : (k : Note Name) → does (names script v) (Receives from (read_note (names_of s) k)) (readied w s) ≡ Gives tt t → (m : Name) → OpensIt v k m → MaySettle v t.gifts m
     unfolding does read_note
     opened_may (Open i x) e m h = subst (MaySettle v t.gifts) (sym h) (λ same. (from, gives_given (λ u. IsOpenedBy from i u.gifts) _ t (opens (names script v) from i (world.read_name (names_of s) x) (readied w s)) e))
-    opened_may (Deliver d x verb ys) e m h = absurd h
-    opened_may (Ask p i x) e m h = absurd h
-    opened_may (SettledTo x y) e m h = absurd h
-    opened_may (Elsewhere x c) e m h = absurd h
-    opened_may (Shorten x c i) e m h = absurd h
+    opened_may other e m h = absurd h
 
     may_after : (m : Name) → May m → MaySettle v t.gifts m
     unfolding readied
@@ -122,10 +110,9 @@ module _ (script : Script) where
     unfolding read_note
     note_may (Deliver d x verb ys) e ok b apart = ok.0
     note_may (Open i x) e ok b apart = inr (subst (λ z. OpensIt v z (Gift v i)) e refl)
-    note_may (Ask p i x) e ok b apart = tt
     note_may (SettledTo x y) e ok b apart = told_may x b apart
     note_may (Elsewhere x z) e ok b apart = told_may x b apart
-    note_may (Shorten x z i) e ok b apart = tt
+    note_may other e ok b apart = tt
 
     arrive_well : NoteOk MailBits n → IsBetween from v n → (from ≡ v → ⊥) → NotePasses n → Sound (N v) s → Well v s → Well v t
     arrive_well ok b apart passes sound h = kept_more word v May (MaySettle v t.gifts) may_after t

@@ -40,9 +40,8 @@ module _ (word : ℕ → ℕ) (v : ℕ) (May : Name → Type 0) (answers : (m : 
 
   joined : {A : Type 0} (G : A → Fact Name) (s : Vat Name) (d : Done Name A) → Ends K plain G s d → Leaves word v May (λ a. Unit {0}) d → Ends K both G s d
   joined G s (Gives a t) h k = (h.0, (h.1, k.0), h.2)
-  joined G s (Throws p t) h k = (h.0, (h.1, k))
   joined G s (Ejects n x t) h k = (h.0, (h.1, k), h.2)
-  joined G s (Stops c t) h k = (h.0, (h.1, k))
+  joined G s other h k = (h.0, (h.1, k))
 
   fine_both : {A : Type 0} {C : Fact Name} {m : Act Name A} {G : A → Fact Name} → Fine K plain C m G → Holds (rests.Keeps word v May answers) m → Fine K both C m G
   fine_both {m = m} {G = G} f h = record { after = λ s k c. joined G s (m s) (f.after s k.0 c) (h.after s k.1) }
@@ -78,15 +77,11 @@ module _ (word : ℕ → ℕ) (v : ℕ) (May : Name → Type 0) (answers : (m : 
 
   ends_well : (G : Unit {0} → Fact Name) (s : Vat Name) (d : Done Name (Unit {0})) → Ends K both G s d → After (λ r t. Well t) s d
   ends_well G s (Gives a t) h = h.1.1
-  ends_well G s (Throws p t) h = h.1.1
-  ends_well G s (Ejects n x t) h = h.1.1
-  ends_well G s (Stops c t) h = h.1.1
+  ends_well G s other h = h.1.1
 
   leaves_well : (s : Vat Name) (d : Done Name (Unit {0})) → Leaves word v May (λ a. Unit {0}) d → After (λ r t. Well t) s d
   leaves_well s (Gives a t) h = h.0
-  leaves_well s (Throws p t) h = h
-  leaves_well s (Ejects n x t) h = h
-  leaves_well s (Stops c t) h = h
+  leaves_well s other h = h
 
   pub step_keeps : (step : Step Name Name) (s : Vat Name) → StepMay step → Sound K s → StepWell K s step → Well s → After (λ r t. Well t) s (does K step s)
   unfolding does

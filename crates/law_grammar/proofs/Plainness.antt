@@ -96,25 +96,7 @@ plain_pair (Some x) = Some (plain_line x.0, plain_tail x.1)
 
 tower_plain : (l : Line) → plain_tower (plain_line l) ≡ plain_pair (tower_of l)
 tower_plain lines.Expr = refl
-tower_plain lines.ExprBeforeBlock = refl
-tower_plain lines.Or = refl
-tower_plain lines.And = refl
-tower_plain lines.Equality = refl
-tower_plain lines.Bits = refl
-tower_plain lines.Relation = refl
-tower_plain lines.Range = refl
-tower_plain lines.Sum = refl
-tower_plain lines.Product = refl
-tower_plain lines.Power = refl
-tower_plain lines.Prefix = refl
-tower_plain lines.Postfix = refl
-tower_plain lines.Prim = refl
-tower_plain lines.Block = refl
-tower_plain lines.Branch = refl
-tower_plain lines.Pattern = refl
-tower_plain lines.OtherPattern = refl
-tower_plain lines.Guard = refl
-tower_plain lines.Member = refl
+tower_plain other = refl
 
 assigned_plain : (s : Shape) → plain_of (assigned_rule lines.Expr s) ≡ plain_of (assigned_rule lines.ExprBeforeBlock s)
 assigned_plain shapes.Noun = refl
@@ -141,48 +123,15 @@ becomes_plain s _ = refl
 
 more_plain : (c : Tail) (s : Shape) (k : TokenKind) → plain_more (plain_tail c) s k ≡ plain_of (more_rule c s k)
 more_plain tails.BecomesBeforeBlock s k = becomes_plain s k
-more_plain tails.Becomes s k = refl
-more_plain tails.Ors s k = refl
-more_plain tails.Ands s k = refl
-more_plain tails.Equality s k = refl
-more_plain tails.Bits s k = refl
-more_plain tails.Relation s k = refl
-more_plain tails.Range s k = refl
-more_plain tails.Sums s k = refl
-more_plain tails.Products s k = refl
-more_plain tails.Power s k = refl
-more_plain tails.Suffixes s k = refl
-more_plain tails.Nothing s k = refl
+more_plain other s k = refl
 
 again_plain : (c : Tail) → plain_tail (again c) ≡ again (plain_tail c)
 again_plain tails.Becomes = refl
-again_plain tails.BecomesBeforeBlock = refl
-again_plain tails.Ors = refl
-again_plain tails.Ands = refl
-again_plain tails.Equality = refl
-again_plain tails.Bits = refl
-again_plain tails.Relation = refl
-again_plain tails.Range = refl
-again_plain tails.Sums = refl
-again_plain tails.Products = refl
-again_plain tails.Power = refl
-again_plain tails.Suffixes = refl
-again_plain tails.Nothing = refl
+again_plain other = refl
 
 begun_plain : (c : Tail) (v : Tree) (t : Word) → begun c v t ≡ begun (plain_tail c) v t
 begun_plain tails.Becomes v t = refl
-begun_plain tails.BecomesBeforeBlock v t = refl
-begun_plain tails.Ors v t = refl
-begun_plain tails.Ands v t = refl
-begun_plain tails.Equality v t = refl
-begun_plain tails.Bits v t = refl
-begun_plain tails.Relation v t = refl
-begun_plain tails.Range v t = refl
-begun_plain tails.Sums v t = refl
-begun_plain tails.Products v t = refl
-begun_plain tails.Power v t = refl
-begun_plain tails.Suffixes v t = refl
-begun_plain tails.Nothing v t = refl
+begun_plain other v t = refl
 
 -- what the lines spell, the plain lines spell
 to_plain : {g : Aim} {ts us : List Word} {w : Tree} → Reads g ts w us → Plain (plain_aim g) ts w us
@@ -360,16 +309,9 @@ no_side members_on e = cc
 no_side members_end e = cc
 
 ended_there : {g : Aim} {ts us : List Word} {w : Tree} → Plain g ts w us → (s : Shape) (f : Word) (fs : Trees) → g ≡ rest (ends s) f fs → us ≡ ts
-ended_there (plained.form e d) s f fs g = cc
-ended_there (plained.tower e d tl) s f fs g = cc
-ended_there plained.stays s f fs g = cc
-ended_there (plained.goes e d tl) s f fs g = cc
 ended_there plained.at_end s f fs g = refl
-ended_there (plained.at_stop i) s f fs g = cc
-ended_there (plained.takes e d) s f fs g = cc
-ended_there (plained.reads d n) s f fs g = cc
-ended_there (plained.groups e d) s f fs g = cc
 ended_there (plained.opens {p = p} o d) s f fs g = let i : p ≡ ends s = cc in absurd (no_side o (ap simple i))
+ended_there other s f fs g = cc
 
 block_kind : (k : TokenKind) (p : Rule) → plain_at lines.Block k ≡ Some p → k ≡ kinds.OpenBrace
 block_kind kinds.OpenBrace p e = refl
@@ -378,26 +320,12 @@ block_kind _ p e = cc
 block_first : {g : Aim} {ts us : List Word} {w : Tree} → Plain g ts w us → g ≡ line lines.Block → Brace ts
 block_first (plained.form {l = l} {t = t} {p = p} e d) g = let i : l ≡ lines.Block = cc in block_kind t.kind p (ap (λ (x : Line). plain_at x t.kind) (sym i) ∙ e)
 block_first (plained.tower {l = l} {m = m} {c = c} e d tl) g = let i : l ≡ lines.Block = cc in let j : None ≡ Some (m, c) = ap plain_tower (sym i) ∙ e in cc
-block_first plained.stays g = cc
-block_first (plained.goes e d tl) g = cc
-block_first plained.at_end g = cc
-block_first (plained.at_stop i) g = cc
-block_first (plained.takes e d) g = cc
-block_first (plained.reads d n) g = cc
-block_first (plained.groups e d) g = cc
-block_first (plained.opens o d) g = cc
+block_first other g = cc
 
 block_next : {g : Aim} {ts us : List Word} {w : Tree} → Plain g ts w us → (q : Rule) (f : Word) (fs : Trees) → g ≡ rest (tree lines.Block q) f fs → Brace ts
-block_next (plained.form e d) q f fs g = cc
-block_next (plained.tower e d tl) q f fs g = cc
-block_next plained.stays q f fs g = cc
-block_next (plained.goes e d tl) q f fs g = cc
-block_next plained.at_end q f fs g = cc
-block_next (plained.at_stop i) q f fs g = cc
-block_next (plained.takes e d) q f fs g = cc
 block_next (plained.reads {l = l} d n) q f fs g = let i : l ≡ lines.Block = cc in block_first d (ap line i)
-block_next (plained.groups e d) q f fs g = cc
 block_next (plained.opens {p = p} o d) q f fs g = let i : p ≡ tree lines.Block q = cc in absurd (no_side o (ap simple i))
+block_next other q f fs g = cc
 
 -- behind an expression before a block a block comes
 brace_behind : (q : Rule) (f : Word) (fs : Trees) (mid : List Word) (w : Tree) (us : List Word) → Plain (rest (plain q) f fs) mid w us → before_ok q ≡ true → (is_end q ≡ true → Brace us) → Brace mid
@@ -413,25 +341,7 @@ Back (rest p' f fs) ts w us = (p : Rule) → plain p ≡ p' → safe p ≡ true 
 
 line_back : (l l' : Line) (ts : List Word) (v : Tree) (mid : List Word) → plain_line l ≡ l' → Back (line l') ts v mid → (is_before l ≡ true → Brace mid) → Reads (line l) ts v mid
 line_back lines.ExprBeforeBlock l' ts v mid e b h = b.1 (h refl) (sym e)
-line_back lines.Expr l' ts v mid e b h = subst (λ (x : Line). Reads (line x) ts v mid) (sym e) b.0
-line_back lines.Or l' ts v mid e b h = subst (λ (x : Line). Reads (line x) ts v mid) (sym e) b.0
-line_back lines.And l' ts v mid e b h = subst (λ (x : Line). Reads (line x) ts v mid) (sym e) b.0
-line_back lines.Equality l' ts v mid e b h = subst (λ (x : Line). Reads (line x) ts v mid) (sym e) b.0
-line_back lines.Bits l' ts v mid e b h = subst (λ (x : Line). Reads (line x) ts v mid) (sym e) b.0
-line_back lines.Relation l' ts v mid e b h = subst (λ (x : Line). Reads (line x) ts v mid) (sym e) b.0
-line_back lines.Range l' ts v mid e b h = subst (λ (x : Line). Reads (line x) ts v mid) (sym e) b.0
-line_back lines.Sum l' ts v mid e b h = subst (λ (x : Line). Reads (line x) ts v mid) (sym e) b.0
-line_back lines.Product l' ts v mid e b h = subst (λ (x : Line). Reads (line x) ts v mid) (sym e) b.0
-line_back lines.Power l' ts v mid e b h = subst (λ (x : Line). Reads (line x) ts v mid) (sym e) b.0
-line_back lines.Prefix l' ts v mid e b h = subst (λ (x : Line). Reads (line x) ts v mid) (sym e) b.0
-line_back lines.Postfix l' ts v mid e b h = subst (λ (x : Line). Reads (line x) ts v mid) (sym e) b.0
-line_back lines.Prim l' ts v mid e b h = subst (λ (x : Line). Reads (line x) ts v mid) (sym e) b.0
-line_back lines.Block l' ts v mid e b h = subst (λ (x : Line). Reads (line x) ts v mid) (sym e) b.0
-line_back lines.Branch l' ts v mid e b h = subst (λ (x : Line). Reads (line x) ts v mid) (sym e) b.0
-line_back lines.Pattern l' ts v mid e b h = subst (λ (x : Line). Reads (line x) ts v mid) (sym e) b.0
-line_back lines.OtherPattern l' ts v mid e b h = subst (λ (x : Line). Reads (line x) ts v mid) (sym e) b.0
-line_back lines.Guard l' ts v mid e b h = subst (λ (x : Line). Reads (line x) ts v mid) (sym e) b.0
-line_back lines.Member l' ts v mid e b h = subst (λ (x : Line). Reads (line x) ts v mid) (sym e) b.0
+line_back other l' ts v mid e b h = subst (λ (x : Line). Reads (line x) ts v mid) (sym e) b.0
 
 abbrev option_safe : Option Rule → Bool
 option_safe None = true
@@ -444,20 +354,8 @@ forms_safe lines.Expr kinds.Break b = refl
 forms_safe lines.Expr kinds.Continue b = refl
 forms_safe lines.Expr kinds.Def b = refl
 forms_safe lines.Expr kinds.Var b = refl
-forms_safe lines.Expr _ b = refl
-forms_safe lines.Or _ b = refl
-forms_safe lines.And _ b = refl
-forms_safe lines.Equality _ b = refl
-forms_safe lines.Bits _ b = refl
-forms_safe lines.Relation _ b = refl
-forms_safe lines.Range _ b = refl
-forms_safe lines.Sum _ b = refl
-forms_safe lines.Product _ b = refl
-forms_safe lines.Power _ b = refl
 forms_safe lines.Prefix kinds.Minus b = refl
 forms_safe lines.Prefix kinds.Not b = refl
-forms_safe lines.Prefix _ b = refl
-forms_safe lines.Postfix _ b = refl
 forms_safe lines.Prim kinds.Number b = refl
 forms_safe lines.Prim kinds.Text b = refl
 forms_safe lines.Prim kinds.Character b = refl
@@ -472,29 +370,23 @@ forms_safe lines.Prim kinds.Escape b = refl
 forms_safe lines.Prim kinds.Try b = refl
 forms_safe lines.Prim kinds.When b = refl
 forms_safe lines.Prim kinds.Fn b = refl
-forms_safe lines.Prim _ b = refl
 forms_safe lines.Block kinds.OpenBrace b = refl
-forms_safe lines.Block _ b = refl
 forms_safe lines.Branch kinds.OpenBrace b = refl
 forms_safe lines.Branch kinds.If b = refl
-forms_safe lines.Branch _ b = refl
 forms_safe lines.Pattern kinds.Ignore b = refl
 forms_safe lines.Pattern kinds.Identifier b = refl
 forms_safe lines.Pattern kinds.Var b = refl
 forms_safe lines.Pattern kinds.OpenBracket b = refl
 forms_safe lines.Pattern kinds.Via b = refl
-forms_safe lines.Pattern _ b = refl
 forms_safe lines.OtherPattern kinds.Var b = refl
 forms_safe lines.OtherPattern kinds.OpenBracket b = refl
 forms_safe lines.OtherPattern kinds.Via b = refl
-forms_safe lines.OtherPattern _ b = refl
 forms_safe lines.Guard kinds.Identifier b = refl
 forms_safe lines.Guard kinds.OpenParen b = refl
-forms_safe lines.Guard _ b = refl
 forms_safe lines.Member kinds.To b = refl
 forms_safe lines.Member kinds.Method b = refl
 forms_safe lines.Member kinds.Match b = refl
-forms_safe lines.Member _ b = refl
+forms_safe other _ b = refl
 
 assigned_safe : (s : Shape) → option_safe (assigned_rule lines.Expr s) ≡ true
 assigned_safe shapes.Noun = refl
@@ -518,44 +410,33 @@ mores_safe tails.Becomes s kinds.PowAssign n = changed_safe s
 mores_safe tails.Becomes s kinds.AndAssign n = changed_safe s
 mores_safe tails.Becomes s kinds.OrAssign n = changed_safe s
 mores_safe tails.Becomes s kinds.XorAssign n = changed_safe s
-mores_safe tails.Becomes s _ n = refl
 mores_safe tails.Ors s kinds.LogicalOr n = refl
-mores_safe tails.Ors s _ n = refl
 mores_safe tails.Ands s kinds.LogicalAnd n = refl
-mores_safe tails.Ands s _ n = refl
 mores_safe tails.Equality s kinds.Same n = refl
 mores_safe tails.Equality s kinds.NotSame n = refl
 mores_safe tails.Equality s kinds.Matches n = refl
-mores_safe tails.Equality s _ n = refl
 mores_safe tails.Bits s kinds.And n = refl
 mores_safe tails.Bits s kinds.Or n = refl
 mores_safe tails.Bits s kinds.Xor n = refl
-mores_safe tails.Bits s _ n = refl
 mores_safe tails.Relation s kinds.Less n = refl
 mores_safe tails.Relation s kinds.AtMost n = refl
 mores_safe tails.Relation s kinds.AsBigAs n = refl
 mores_safe tails.Relation s kinds.AtLeast n = refl
 mores_safe tails.Relation s kinds.Greater n = refl
-mores_safe tails.Relation s _ n = refl
 mores_safe tails.Range s kinds.Through n = refl
 mores_safe tails.Range s kinds.Till n = refl
-mores_safe tails.Range s _ n = refl
 mores_safe tails.Sums s kinds.Plus n = refl
 mores_safe tails.Sums s kinds.Minus n = refl
-mores_safe tails.Sums s _ n = refl
 mores_safe tails.Products s kinds.Times n = refl
 mores_safe tails.Products s kinds.FloorDivide n = refl
 mores_safe tails.Products s kinds.Remainder n = refl
 mores_safe tails.Products s kinds.Mod n = refl
-mores_safe tails.Products s _ n = refl
 mores_safe tails.Power s kinds.Pow n = refl
-mores_safe tails.Power s _ n = refl
 mores_safe tails.Suffixes s kinds.OpenParen n = refl
 mores_safe tails.Suffixes s kinds.OpenBracket n = refl
 mores_safe tails.Suffixes s kinds.Dot n = refl
 mores_safe tails.Suffixes s kinds.Send n = refl
-mores_safe tails.Suffixes s _ n = refl
-mores_safe tails.Nothing s _ n = refl
+mores_safe other s _ n = refl
 
 not_edged : (b : Bool) → not_b b ≡ true → b ≡ true → ⊥
 not_edged true h e = cc
@@ -608,25 +489,7 @@ more_rule_of tails.Nothing s k p' e = rule_of (more_rule tails.Nothing s k) p' e
 
 tower_back : (l : Line) (x : Line × Tail) → plain_tower l ≡ Some x → tower_of l ≡ Some x
 tower_back lines.ExprBeforeBlock x e = cc
-tower_back lines.Expr x e = e
-tower_back lines.Or x e = e
-tower_back lines.And x e = e
-tower_back lines.Equality x e = e
-tower_back lines.Bits x e = e
-tower_back lines.Relation x e = e
-tower_back lines.Range x e = e
-tower_back lines.Sum x e = e
-tower_back lines.Product x e = e
-tower_back lines.Power x e = e
-tower_back lines.Prefix x e = e
-tower_back lines.Postfix x e = e
-tower_back lines.Prim x e = e
-tower_back lines.Block x e = e
-tower_back lines.Branch x e = e
-tower_back lines.Pattern x e = e
-tower_back lines.OtherPattern x e = e
-tower_back lines.Guard x e = e
-tower_back lines.Member x e = e
+tower_back other x e = e
 
 either_reads : {p q : Rule} {f : Word} {fs : Trees} {ts us : List Word} {w : Tree} → Reads (rest (either p q) f fs) ts w us → Reads (rest p f fs) ts w us ⊎ Reads (rest q f fs) ts w us
 either_reads (lined.opens left d) = inl d
@@ -691,19 +554,12 @@ assign_of s kinds.XorAssign p' e = changed_of s p' e
 assign_of s _ p' e = cc
 
 nothing_stays : {g : Aim} {ts us : List Word} {w : Tree} → Plain g ts w us → (v : Tree) → g ≡ tail tails.Nothing v → us ≡ ts
-nothing_stays (plained.form e d) v g = cc
-nothing_stays (plained.tower e d tl) v g = cc
 nothing_stays plained.stays v g = refl
 nothing_stays (plained.goes {c = c} {t = t} {p = p} {v = x} e d tl) v g =
     let i : c ≡ tails.Nothing = cc in
     let j : None ≡ Some p = ap (λ (y : Tail). plain_more y (shape_of x) t.kind) (sym i) ∙ e in
     cc
-nothing_stays plained.at_end v g = cc
-nothing_stays (plained.at_stop i) v g = cc
-nothing_stays (plained.takes e d) v g = cc
-nothing_stays (plained.reads d n) v g = cc
-nothing_stays (plained.groups e d) v g = cc
-nothing_stays (plained.opens o d) v g = cc
+nothing_stays other v g = cc
 
 module _ (c : Tail) (t : Word) (p' : Rule) (v u w : Tree) (ts mid us : List Word) where
   goes_before : plain_more c (shape_of v) t.kind ≡ Some p' → Back (rest p' (word_of v) (begun c v t)) ts u mid → Plain (tail (again c) u) mid w us → Back (tail (again c) u) mid w us → Brace us → c ≡ tails.Becomes → Reads (tail tails.BecomesBeforeBlock v) (t ∷ ts) w us

@@ -43,9 +43,8 @@ alike_stop (t ∷ ts) [] a i = absurd a
 alike_stop (t ∷ ts) (u ∷ us) a i = subst (λ (k : TokenKind). is_stop k ≡ true) a.0 i
 
 alike_end : (e : Ending) (s : Shape) (ts us : List Word) → Alike ts us → MayEnd e s ts → MayEnd e s us
-alike_end endings.Never s ts us a m = m
-alike_end (endings.Ends x) s ts us a m = m
 alike_end (endings.BeforeStop x) s ts us a m = (m.0, alike_stop ts us a m.1)
+alike_end other s ts us a m = m
 
 wrapped_tall : (s : Shape) (fs gs : Trees) → tallest fs ≡ tallest gs → tallest (wrapped s fs) ≡ tallest (wrapped s gs)
 wrapped_tall s fs gs e = ap (λ (n : ℕ). max 0 (weight s + n)) e

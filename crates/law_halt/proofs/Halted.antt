@@ -25,9 +25,8 @@ stops_here x c k d j w e = cc
 put_stops : (v : ℕ) (x : World) (head : List Event) (n : ℕ) (d : Done Name (Unit {0})) → StopsBy (IsThat x) (world.put_back v x head n d)
 unfolding world.put_back
 put_stops v x head n (Gives u s) = goes_on (IsThat x) _
-put_stops v x head n (Throws t s) = stops_here x _ n
-put_stops v x head n (Ejects i y s) = stops_here x _ n
 put_stops v x head n (Stops c s) = stops_here x c n
+put_stops v x head n other = stops_here x _ n
 
 within_stops : (v : ℕ) (x : World) (head : List Event) (n : ℕ) (m : Act Name (Unit {0})) (o : Option (Vat Name)) → StopsBy (IsThat x) (world.within v x head n m o)
 unfolding world.within

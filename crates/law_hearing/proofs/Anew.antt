@@ -53,11 +53,7 @@ module _ (script : Script) (x : World) (of : Worldly script x) (u : ℕ) (s : Va
   none_back : ((c h : ℕ) → sight.knows c h (key h (draw_word script.key (length x.drawn))) ≡ false) → (n : Note Name) → receive.leads_back (names script u) sight (read_note (names_of s) n) (readied x s) ≡ false
   unfolding receive.leads_back read_note
   none_back f (Elsewhere n c) = ap (λ (b : Bool). not (is_in c (readied x s).noticed) && b) (none_had f c _) ∙ and_false (not (is_in c (readied x s).noticed))
-  none_back f (Deliver d n verb ys) = refl
-  none_back f (Open i n) = refl
-  none_back f (Ask p i n) = refl
-  none_back f (SettledTo n y) = refl
-  none_back f (Shorten n c i) = refl
+  none_back f other = refl
 
   number_or : (p i : ℕ) → sight.numbers (Gift u i) ≡ false → (o : Option (GiftEntry Name)) → gift_at p i s.gifts ≡ o → receive.has_number (names script u) sight o ≡ false
   unfolding receive.has_number
@@ -70,9 +66,7 @@ module _ (script : Script) (x : World) (of : Worldly script x) (u : ℕ) (s : Va
   tells_new v (Deliver d n verb ys) a f = refl
   tells_new v (Ask p i n) a f = number_or p i a (gift_at p i s.gifts) refl
   tells_new v (Shorten n c i) a f = refl
-  tells_new v (Open i n) a f = f tt
-  tells_new v (SettledTo n y) a f = f tt
-  tells_new v (Elsewhere n c) a f = f tt
+  tells_new v other a f = f tt
 
 pub received_arrive : NextNotesAreReceived
 received_arrive script once w x es k follow opened stepped new v u s there other l at uncut n ns head sight sees told = let of = stepped_worldly script once w x es k follow opened stepped in

@@ -42,12 +42,10 @@ module _ (g i : ℕ) where
   abbrev pub Bare : ℕ → Bit Name → Type 0
   Bare v (Named n) = n ≡ X → ⊥
   Bare v (Mail n) = IsMessageName n
-  Bare v (Drew j) = Unit {0}
-  Bare v (At h) = Unit {0}
-  Bare v (Off h) = Unit {0}
   Bare v (Entered n) = n ≡ X → v ≡ g
   Bare v (Owns n j) = n ≡ X → (v ≡ g) × (j ≡ i)
   Bare v (Gave j) = v ≡ g → j ≡ i → ⊥
+  Bare v other = Unit {0}
 
   same_gift : (h j : ℕ) → Gift h j ≡ X → (h ≡ g) × (j ≡ i)
   same_gift h j e = let a : h ≡ g = cc in let b : j ≡ i = cc in (a, b)
@@ -61,11 +59,7 @@ module _ (g i : ℕ) where
   pub no_answer : (h : ℕ) (m : Name) → IsMessageName m → answer_of h m ≡ X → ⊥
   unfolding answer_of
   no_answer h (Sent m) o e = cc
-  no_answer h (Root w) o e = absurd o
-  no_answer h (Object w j) o e = absurd o
-  no_answer h (Promise w j) o e = absurd o
-  no_answer h (Answer w m) o e = absurd o
-  no_answer h (Gift w j) o e = absurd o
+  no_answer h other o e = absurd o
 
   module _ (v : ℕ) where
     abbrev pub Bares : Care Name

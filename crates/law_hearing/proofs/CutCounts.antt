@@ -65,11 +65,7 @@ module _ (g : ℕ) (m : Msg) where
   sent_is : (id : Name) → IsMessageName id → answer_of g id ≡ Answer g m → 1 ≤ same_one id (Sent m)
   unfolding answer_of
   sent_is (Sent n) o e = let same : n ≡ m = cc in subst (λ k. 1 ≤ same_one (Sent k) (Sent m)) (sym same) (self_least m)
-  sent_is (Root w) o e = absurd o
-  sent_is (Object w i) o e = absurd o
-  sent_is (Promise w i) o e = absurd o
-  sent_is (Answer w n) o e = absurd o
-  sent_is (Gift w i) o e = absurd o
+  sent_is other o e = absurd o
 
   no_gift : (i : ℕ) → Gift g i ≡ Answer g m → ⊥
   no_gift i e = cc
@@ -79,10 +75,7 @@ module _ (g : ℕ) (m : Msg) where
   unfolding of_note in_note
   asks_bears (Deliver d t verb ys) o e = sent_is d.message o e.1
   asks_bears (Ask p i t) o e = absurd (no_gift i (sym o ∙ e))
-  asks_bears (Open i t) o e = absurd e
-  asks_bears (SettledTo t y) o e = absurd e
-  asks_bears (Elsewhere t c) o e = absurd e
-  asks_bears (Shorten t c i) o e = absurd e
+  asks_bears other o e = absurd e
 
   none_asks : (n : Note Name) → of_note (Sent m) n ≤ 0 → AsksNot g (Answer g m) n
   none_asks n h = λ o e. let k = asks_bears n o e in absurd (omega arith)

@@ -106,19 +106,12 @@ module _ (script : Script) where
       message_told : (id : Name) → IsMessageName id → answer_of v id ≡ z → ⊥
       unfolding answer_of
       message_told (Sent m) o e = answer_told m (sym e)
-      message_told (Root w) o e = o
-      message_told (Object w i) o e = o
-      message_told (Promise w i) o e = o
-      message_told (Answer w m) o e = o
-      message_told (Gift w i) o e = o
+      message_told other o e = o
 
       asks_told : (n : Note Name) → AsksOwn v n → AsksOf v n z → ⊥
       asks_told (Deliver d c verb ys) own e = message_told d.message own e.1
       asks_told (Ask q i c) own e = gift_told i (sym e ∙ own)
-      asks_told (Open i c) own e = e
-      asks_told (SettledTo c x) own e = e
-      asks_told (Elsewhere c x) own e = e
-      asks_told (Shorten c x i) own e = e
+      asks_told other own e = e
 
       none_told : ⊥
       unfolding wire.questions

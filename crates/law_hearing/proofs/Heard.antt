@@ -27,29 +27,17 @@ use Rattle.law_hearing.proofs.Kept.{in_has}
 
 pub in_known : (ks : List Name) (n : Name) → IsAmong n ks → IsKnownIn ks n
 in_known ks (Object c i) a = tt
-in_known ks (Root c) a = a
-in_known ks (Promise c i) a = a
-in_known ks (Answer c m) a = a
-in_known ks (Gift c i) a = a
-in_known ks (Sent m) a = a
+in_known ks other a = a
 
 known_in : (ks : List Name) (n : Name) → is_object n ≡ false → IsKnownIn ks n → IsAmong n ks
 unfolding is_object
 known_in ks (Object c i) e k = cc
-known_in ks (Root c) e k = k
-known_in ks (Promise c i) e k = k
-known_in ks (Answer c m) e k = k
-known_in ks (Gift c i) e k = k
-known_in ks (Sent m) e k = k
+known_in ks other e k = k
 
 object_known : (ks : List Name) (n : Name) → is_object n ≡ true → IsKnownIn ks n
 unfolding is_object
 object_known ks (Object c i) e = tt
-object_known ks (Root c) e = cc
-object_known ks (Promise c i) e = cc
-object_known ks (Answer c m) e = cc
-object_known ks (Gift c i) e = cc
-object_known ks (Sent m) e = cc
+object_known ks other e = cc
 
 end_in : {A : Type 0} (x : A) (xs : List A) → IsAmong x (xs ++ x ∷ [])
 end_in x [] = inl refl
@@ -169,14 +157,7 @@ module _ (v u : ℕ) (answers told : List Name) where
     value_alike : (ks : List Name) (s : Stage Name) (y : Value Name) → At ks s → ((z : Name) → IsAmong z (told_value y) → IsAmong z told) → Alike (seen.seen_value v u answers y s) (Plain (let r = world.read_value ks y in r.read)) (let r = world.read_value ks y in r.known)
     unfolding seen.seen_value world.read_value told_value
     value_alike ks s (Ref n) h f = let r = name_alike ks s n h (f n (inl refl)) in (ap (λ x. Plain (Ref x)) r.0, r.1)
-    value_alike ks s Null h f = (refl, h)
-    value_alike ks s (Flag b) h f = (refl, h)
-    value_alike ks s (Number z) h f = (refl, h)
-    value_alike ks s (Letter c) h f = (refl, h)
-    value_alike ks s (Text t) h f = (refl, h)
-    value_alike ks s (Prim i) h f = (refl, h)
-    value_alike ks s (Broken t) h f = (refl, h)
-    value_alike ks s (Items k) h f = (refl, h)
+    value_alike ks s other h f = (refl, h)
 
     -- ---- gifts that are learnt
 
@@ -207,14 +188,7 @@ module _ (v u : ℕ) (answers told : List Name) where
     value_learnt : (y : Value Name) (s : Stage Name) → (let h : Heard Name (Passed (Incoming Name Name)) = seen.seen_value v u answers y s in h.after.learnt) ≡ s.learnt
     unfolding seen.seen_value
     value_learnt (Ref n) s = name_learnt n s
-    value_learnt Null s = refl
-    value_learnt (Flag b) s = refl
-    value_learnt (Number z) s = refl
-    value_learnt (Letter c) s = refl
-    value_learnt (Text t) s = refl
-    value_learnt (Prim i) s = refl
-    value_learnt (Broken t) s = refl
-    value_learnt (Items k) s = refl
+    value_learnt other s = refl
 
     abbrev Unlearnt : ℕ → ℕ → Stage Name → Type 0
     Unlearnt h i s = learnt_at h i s.learnt ≡ None

@@ -49,11 +49,7 @@ here_put us ls v t h g u r e = go (put_cases v t us u r e)
 
 mail_of : (v : ℕ) (n : Note Name) → AsksOwn v n → MailFits n
 mail_of v (Deliver d x verb ys) h = h
-mail_of v (Open i x) h = tt
-mail_of v (Ask p i x) h = tt
-mail_of v (SettledTo x y) h = tt
-mail_of v (Elsewhere x c) h = tt
-mail_of v (Shorten x c i) h = tt
+mail_of v other h = tt
 
 module _ (script : Script) where
   roots : (v : ℕ) (T : Name → Type 0) (p : Program) → slice_get script.vats v ≡ Some p → Handed v T (Named (Root v)) × AllOf (NounOk (Handed v T)) (world.given script.vats p.knows)
@@ -89,11 +85,7 @@ module _ (script : Script) where
       unfolding host_of
       told_or (Object c i) (inl e) b = inr (told_here (Object c i) e b)
       told_or (Object c i) (inr e) b = inl e
-      told_or (Root c) e b = tt
-      told_or (Promise c i) e b = tt
-      told_or (Answer c m) e b = tt
-      told_or (Gift c i) e b = tt
-      told_or (Message_name m) e b = tt
+      told_or other e b = tt
 
       arrives_here : VatsHere (put_at v t w.vats) (push_all v t.outbox Taken)
       arrives_here = let T = ToldHere Taken v in let after = push_all v t.outbox Taken in let first = take_goes n ns a v l w.links at notes (splits script w f) in let goes = push_all_goes v t.outbox Taken (take_splits n ns a v l w.links at notes (splits script w f)) in

@@ -45,14 +45,7 @@ module _ (v u : ℕ) where
     value_same : (y : Value Name) (ns : List Name) → ((z : Name) → IsAmong z (told_value y) → Heard z) → tables.exported_value (sight v u) answers y ns ≡ wire.with_value v asked y ns
     unfolding tables.exported_value wire.with_value told_value
     value_same (Ref n) ns f = as_same n ns (f n (inl refl))
-    value_same Null ns f = refl
-    value_same (Flag b) ns f = refl
-    value_same (Number z) ns f = refl
-    value_same (Letter c) ns f = refl
-    value_same (Text t) ns f = refl
-    value_same (Prim i) ns f = refl
-    value_same (Broken p) ns f = refl
-    value_same (Items k) ns f = refl
+    value_same other ns f = refl
 
     mutual
       unfolding tables.exported_passed tables.exported_all wire.with_passed wire.with_all told_passed told_all
@@ -83,11 +76,7 @@ module _ (v u : ℕ) where
   pub asked_same : (n : Note Name) → asked_in (sight v u) n ≡ wire.questions_in u (n ∷ [])
   unfolding tables.asked_in wire.questions_in
   asked_same (Deliver d t verb ys) = if_same d.asks d.message
-  asked_same (Open i t) = refl
-  asked_same (Ask p i t) = refl
-  asked_same (SettledTo t y) = refl
-  asked_same (Elsewhere t c) = refl
-  asked_same (Shorten t c i) = refl
+  asked_same other = refl
 
   pub asked_more : (ns : List (Note Name)) (n : Note Name) → wire.questions_in u ns ++ asked_in (sight v u) n ≡ wire.questions_in u (ns ++ n ∷ [])
   asked_more ns n = ap (λ qs. wire.questions_in u ns ++ qs) (asked_same n) ∙ sym (questions_twice u ns (n ∷ []))

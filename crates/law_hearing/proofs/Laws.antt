@@ -50,11 +50,7 @@ use Rattle.law_hearing.proofs.Heard.{At, in_known as among_known, note_alike}
 message_same : (v u : ℕ) (n : Note Name) → with_message v u (message_of n) n ≡ n
 unfolding with_message message_of
 message_same v u (Deliver d n verb ys) = refl
-message_same v u (Open i n) = refl
-message_same v u (Ask p i n) = refl
-message_same v u (SettledTo n y) = refl
-message_same v u (Elsewhere n c) = refl
-message_same v u (Shorten n c i) = refl
+message_same v u other = refl
 
 length_names : (ks : List (Known Name)) → length ks ≡ length (names_in ks)
 length_names [] = refl

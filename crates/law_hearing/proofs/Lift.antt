@@ -26,9 +26,7 @@ module _ (script : Script) (v : ℕ) (p : Program) (x y : World) (there : slice_
   opened_by : (s : Vat Name) → slice_get x.vats v ≡ Some s → (d : Done Name (Unit {0})) → does (names script v) (Starts p.tree script.depth (Root v) (world.given script.vats p.knows)) (readied x s) ≡ d → world.put_back v x (Opens v ∷ []) v d ≡ Going y → Opened script x y v p
   unfolding world.put_back went waiting
   opened_by s q (Gives u t) f e = (s, t, record { there = q; number = refl; known = refl; promises = refl; messages = refl; gifts = refl; waits = λ n. omega arith; begins = (p, there, refl, refl, refl); gives = f }, going_as _ e)
-  opened_by s q (Throws n t) f e = cc
-  opened_by s q (Ejects n z t) f e = cc
-  opened_by s q (Stops c t) f e = cc
+  opened_by s q other f e = cc
 
   opened_or : (o : Option (Vat Name)) → slice_get x.vats v ≡ o → world.within v x (Opens v ∷ []) v (opening (names script v) p.tree script.depth (Root v) (world.given script.vats p.knows)) o ≡ Going y → Opened script x y v p
   unfolding world.within does

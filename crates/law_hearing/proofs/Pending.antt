@@ -80,14 +80,7 @@ module _ (g i : ℕ) where
     value_tells : (y : Value Name) → (IsAmong X (told_value y) → ⊥) → ValueTells T G Q y
     unfolding told_value
     value_tells (Ref n) f = λ e. f (inl (sym e))
-    value_tells Null f = tt
-    value_tells (Flag b) f = tt
-    value_tells (Number z) f = tt
-    value_tells (Letter c) f = tt
-    value_tells (Text x) f = tt
-    value_tells (Prim k) f = tt
-    value_tells (Broken x) f = tt
-    value_tells (Items k) f = tt
+    value_tells other f = tt
 
     once_other : (j : ℕ) (b : Bool) → (i == j) ≡ b → once b ≡ 0 → j ≡ i → ⊥
     unfolding once
@@ -112,11 +105,9 @@ module _ (g i : ℕ) where
     note_tells : (word : ℕ → ℕ) (n : Note Name) → NoteOk MailBits n → (IsAmong X (told_in n) → ⊥) → gifts_in_note i n ≡ 0 → (v ≡ g → AsksNoGift i n) → bare.Tells g i v word n
     unfolding told_in gifts_in_note
     note_tells word (Deliver m n verb ys) o f e q = (o.0, λ k. f (inl (sym k)), passeds_tell ys (λ a. f (inr a)) e)
-    note_tells word (Open j n) o f e q = λ k. f (inl (sym k))
     note_tells word (Ask p j n) o f e q = q
     note_tells word (SettledTo n y) o f e q = (λ k. f (inl (sym k)), passed_tells y (λ a. f (inr a)) e)
-    note_tells word (Elsewhere n c) o f e q = λ k. f (inl (sym k))
-    note_tells word (Shorten n c j) o f e q = λ k. f (inl (sym k))
+    note_tells word other o f e q = λ k. f (inl (sym k))
 
     -- what a vat without it puts
     pub told_not : (n : Note Name) → NoteOk (Bare g i v) n → IsAmong X (told_in n) → ⊥
@@ -137,9 +128,6 @@ module _ (g i : ℕ) where
     shuns_bare : (b : Bit Name) → Shuns i v b → Bare g i v b
     shuns_bare (Named n) h = not_it n h
     shuns_bare (Mail n) h = h
-    shuns_bare (Drew j) h = tt
-    shuns_bare (At w) h = tt
-    shuns_bare (Off w) h = tt
     shuns_bare (Entered n) h = λ e. host_is n h e
     shuns_bare (Owns n j) h = λ e. (host_is n h.0 e, owned j (eq_dec j i) (λ f. not_it n (h.1 f) e))
       where
@@ -147,6 +135,7 @@ module _ (g i : ℕ) where
         owned j (inl a) f = a
         owned j (inr a) f = absurd (f a)
     shuns_bare (Gave j) h = λ e. h
+    shuns_bare other h = tt
 
   spares_named : (n : Note Name) → NoteOk (Spares i) n → IsAmong X (told_in n) → ⊥
   spares_named n h a = not_it zero X (all_among (λ z. Spares i (Named z)) (told_in n) X (note_told (Spares i) n h) a) refl
@@ -156,11 +145,7 @@ module _ (g i : ℕ) where
     where
       asks : (n : Note Name) → NoteOk (Spares i) n → AsksNoGift i n
       asks (Ask p j x) k = k.0
-      asks (Deliver m x verb ys) k = tt
-      asks (Open j x) k = tt
-      asks (SettledTo x y) k = tt
-      asks (Elsewhere x c) k = tt
-      asks (Shorten x c j) k = tt
+      asks other k = tt
 
   shuns_asks : (v : ℕ) (ps : List (Put Name)) → AllOf (PutOk (Shuns i v)) ps → AllOf (λ (p : Put Name). AsksNoGift i p.note) ps
   shuns_asks v [] h = tt
@@ -417,10 +402,7 @@ module _ (script : Script) where
         ask_late e o b (Ask p j z) c own k = let ordered = found_all (λ (q : Link). InOrder [] q.log) a v l w.links f.ordered from in
             told_not_asked [] split.0 ns n It p j b (subst (λ y. IsAmong (Ask p j y) ns) k c) (subst (λ ms. InOrder [] ms) (split.1 ∙ ap (λ ms. split.0 ++ ms) notes) ordered)
         ask_late e o b (Deliver q z verb ys) c own k = bare.no_answer g i g q.message own k.1
-        ask_late e o b (Open j z) c own k = k
-        ask_late e o b (SettledTo z q) c own k = k
-        ask_late e o b (Elsewhere z q) c own k = k
-        ask_late e o b (Shorten z q j) c own k = k
+        ask_late e o b other c own k = k
 
         to_host : AsksFor u g i w → a ≡ u → v ≡ g → IsAmong It (told_in n) → ⊥
         to_host b e o c = let r = behind b e o in let sends = sent w f a v l from r.0 r.2 in ask_late e o c r.0 r.1 (subst (λ (z : ℕ). AsksOwn z r.0) o sends.0) r.3
@@ -430,11 +412,7 @@ module _ (script : Script) where
           where
             go : (x : Note Name) → AsksOwn g x → IsAmong x (arrived (Some m)) → AsksNoGift i x
             go (Ask p j z) own c = λ k. unheard (asks_in g It (arrived (Some m)) (Ask p j z) c (own ∙ ap (λ q. Gift g q) k))
-            go (Deliver q z verb ys) own c = tt
-            go (Open j z) own c = tt
-            go (SettledTo z q) own c = tt
-            go (Elsewhere z q) own c = tt
-            go (Shorten z q j) own c = tt
+            go other own c = tt
 
       -- nothing arrives by a link that is cut
       shut : a ≡ u → v ≡ g → m.cut ≡ true → ⊥

@@ -99,11 +99,7 @@ module _ (script : Script) (w : World) (f : Facts script w) (here : VatsHere w.v
   unfolding answer_of
   message_heard z k x i (Message_name q) b d c verb ys e o r = let known_here : IsAmong (Answer a q) (names_in t.known) = subst (λ y. IsKnownIn (names_in t.known) y) (sym r) (known z k) in
       let none = early u a q t m there known_here back in let some = on_link_one q x m b d c verb ys e i in absurd (omega arith)
-  message_heard z k x i (Root c) b f d verb ys e o r = o
-  message_heard z k x i (Object c j) b f d verb ys e o r = o
-  message_heard z k x i (Promise c j) b f d verb ys e o r = o
-  message_heard z k x i (Answer c q) b f d verb ys e o r = o
-  message_heard z k x i (Gift c j) b f d verb ys e o r = o
+  message_heard z k x i other b f d verb ys e o r = o
 
   gift_late : (i : ℕ) → IsAmong (Gift a i) (told_in n) → IsAmong (Gift a i) Asks → (Heard (Gift a i) → ⊥) → ⊥
   gift_late i k b o = told_not a i a n (bare i (late u a i (λ e. other (sym e)) m back clear b o)).0 k
@@ -111,10 +107,7 @@ module _ (script : Script) (w : World) (f : Facts script w) (here : VatsHere w.v
   asked_heard : (z : Name) → IsAmong z (told_in n) → IsAmong z Asks → (Heard z → ⊥) → (x : Note Name) → IsAmong x m.notes → AsksOwn a x → AsksOf a x z → ⊥
   asked_heard z k b o (Deliver d c verb ys) i own e = message_heard z k (Deliver d c verb ys) i d.message d.asks d.answer c verb ys refl own e.1
   asked_heard z k b o (Ask p j c) i own e = let same : z ≡ Gift a j = sym e ∙ own in gift_late j (subst (λ y. IsAmong y (told_in n)) same k) (subst (λ y. IsAmong y Asks) same b) (λ h. o (subst Heard (sym same) h))
-  asked_heard z k b o (Open j c) i own e = e
-  asked_heard z k b o (SettledTo c y) i own e = e
-  asked_heard z k b o (Elsewhere c y) i own e = e
-  asked_heard z k b o (Shorten c y j) i own e = e
+  asked_heard z k b o other i own e = e
 
   asks_log : (z : Name) → IsAmong z Asks → IsAmong z (wire.questions_in a m.log)
   unfolding wire.questions

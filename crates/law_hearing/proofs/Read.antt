@@ -44,13 +44,7 @@ module _ (v u : ℕ) where
     unfolding told_value
     value_fits (Ref n) f l = f n (inl refl)
     value_fits (Items k) f l = l
-    value_fits Null f l = tt
-    value_fits (Flag b) f l = tt
-    value_fits (Number z) f l = tt
-    value_fits (Letter c) f l = tt
-    value_fits (Text x) f l = tt
-    value_fits (Prim i) f l = tt
-    value_fits (Broken x) f l = tt
+    value_fits other f l = tt
 
     mutual
       unfolding told_passed told_all
@@ -86,29 +80,17 @@ module _ (v u : ℕ) where
   same_frame : (m : Name) (n : Note Name) (t : Connection Name) → frame_now (sight v u) (with_message m n) t ≡ frame_now (sight v u) n t
   unfolding with_message tables.frame_now tables.operation tables.exporting tables.exported_note
   same_frame m (Deliver d n verb ys) t = refl
-  same_frame m (Open i n) t = refl
-  same_frame m (Ask p i n) t = refl
-  same_frame m (SettledTo n y) t = refl
-  same_frame m (Elsewhere n c) t = refl
-  same_frame m (Shorten n c i) t = refl
+  same_frame m other t = refl
 
   same_export : (m : Name) (n : Note Name) (answers ns : List Name) → exported_note (sight v u) answers (with_message m n) ns ≡ exported_note (sight v u) answers n ns
   unfolding with_message tables.exported_note
   same_export m (Deliver d n verb ys) answers ns = refl
-  same_export m (Open i n) answers ns = refl
-  same_export m (Ask p i n) answers ns = refl
-  same_export m (SettledTo n y) answers ns = refl
-  same_export m (Elsewhere n c) answers ns = refl
-  same_export m (Shorten n c i) answers ns = refl
+  same_export m other answers ns = refl
 
   message_fits : (m : Name) (n : Note Name) (t : Connection Name) → NoteFits v u t n → NoteFits v u t (with_message m n)
   unfolding with_message
   message_fits m (Deliver d n verb ys) t h = h
-  message_fits m (Open i n) t h = h
-  message_fits m (Ask p i n) t h = h
-  message_fits m (SettledTo n y) t h = h
-  message_fits m (Elsewhere n c) t h = h
-  message_fits m (Shorten n c i) t h = h
+  message_fits m other t h = h
 
   -- ---- the next frame
 
@@ -175,9 +157,7 @@ module _ (v u : ℕ) where
     message_is (Deliver q z verb ys) e y w zs f = let same : record q { message = m } ≡ e = cc in ap (λ (k : Delivery Name). k.message) same
     message_is (Open i z) e y w zs f = cc
     message_is (Ask p i z) e y w zs f = cc
-    message_is (SettledTo z y) e b w zs f = cc
-    message_is (Elsewhere z y) e b w zs f = cc
-    message_is (Shorten z y i) e b w zs f = cc
+    message_is other e b w zs f = cc
 
     nth_mid : (xs zs : List Name) (x : Name) → slice_get ((xs ++ x ∷ []) ++ zs) (length xs) ≡ Some x
     nth_mid [] zs x = refl
@@ -187,11 +167,7 @@ module _ (v u : ℕ) where
     unfolding with_message numbered tables.asked_in
     asked_now (Ask q j y) e p i z f = let k = next.1 in let same : y ≡ z = cc in
         ap (λ o. unwrap_or o (Root c.from)) (ap (λ (qs : List Name). slice_get c.tables.questions (length qs)) k.questions ∙ ap (λ (qs : List Name). slice_get qs (length d.tables.answers)) (k.asks ∙ ap (λ (x : Note Name). (d.tables.answers ++ asked_in (sight v u) x) ++ wire.questions_in u ns) e) ∙ nth_mid d.tables.answers (wire.questions_in u ns) y) ∙ same
-    asked_now (Deliver q y verb ys) e p i z f = cc
-    asked_now (Open j y) e p i z f = cc
-    asked_now (SettledTo y q) e p i z f = cc
-    asked_now (Elsewhere y q) e p i z f = cc
-    asked_now (Shorten y q j) e p i z f = cc
+    asked_now other e p i z f = cc
 
     brings : Brings v u T (newcomers c m) (with_message m n)
     unfolding newcomers

@@ -183,10 +183,9 @@ module _ (script : Script) where
   -- ---- an entry
 
   pub honest : (x : World) (e : Entry) → IsHonest script Nobody AnyNotice NoDeed NoWord x e
-  honest x (Turn v) = λ i. i
-  honest x (Carry a v) = λ i. i
   honest x (CutLink a b) = tt
   honest x (NoticeLink v to) = (λ i. i, tt)
+  honest x other = λ i. i
 
   going_is : (x y : World) → Going x ≡ Going y → y ≡ x
   going_is x y e = cc

@@ -88,11 +88,7 @@ module _ (script : Script) (hs : List ℕ) where
   message_known : (v : ℕ) (vats : List (Vat Name)) (m : Name) (a b : Vat Name) → IsMessageMade vats m → (arrive.learn_message (names script v) (New m (host_of m)) >>= (λ id. come (names script v) (IsAnswer v id) v >> give (tt {0}))) a ≡ Gives (tt {0}) b → (z : Name) → IsAmong z (names_in b.known) → IsAmong z (names_in a.known) ⊎ (host_of z ≡ v)
   unfolding ◌>>=◌ ◌>>◌ and_then give arrive.learn_message mail come names naming name_of mail_of answer_of host_of
   message_known v vats (Sent x) a b m e = given_known v (Answer v x) a _ b refl refl e
-  message_known v vats (Root u) a b m e = absurd m
-  message_known v vats (Object u i) a b m e = absurd m
-  message_known v vats (Promise u i) a b m e = absurd m
-  message_known v vats (Answer u i) a b m e = absurd m
-  message_known v vats (Gift u i) a b m e = absurd m
+  message_known v vats other a b m e = absurd m
 
   lone_known : (v : ℕ) (m : Name) (a b : Vat Name) → (arrive.learn_message (names script v) (New m (host_of m)) >> give (tt {0})) a ≡ Gives (tt {0}) b → (z : Name) → IsAmong z (names_in b.known) → IsAmong z (names_in a.known) ⊎ (host_of z ≡ v)
   unfolding ◌>>◌ and_then give arrive.learn_message mail names naming mail_of
@@ -106,11 +102,7 @@ module _ (script : Script) (hs : List ℕ) where
   heard_known : (v : ℕ) (w : World) (n : Note Name) (a b : Vat Name) → NoteOk (Told script w) n → hear script v n a ≡ Gives tt b → (z : Name) → IsAmong z (names_in b.known) → IsAmong z (names_in a.known) ⊎ (host_of z ≡ v)
   unfolding hear give
   heard_known v w (Deliver d x verb ys) a b o e = hears_known v w.vats d.message d.asks a b o.0.0 e
-  heard_known v w (Open i x) a b o e = given_same v a b e
-  heard_known v w (Ask p i x) a b o e = given_same v a b e
-  heard_known v w (SettledTo x y) a b o e = given_same v a b e
-  heard_known v w (Elsewhere x c) a b o e = given_same v a b e
-  heard_known v w (Shorten x c i) a b o e = given_same v a b e
+  heard_known v w other a b o e = given_same v a b e
 
   answer_comes : (v : ℕ) (m : Msg) (a b : Vat Name) → (arrive.learn_message (names script v) (New (Sent m) (host_of (Sent m))) >>= (λ id. come (names script v) (IsAnswer v id) v >> give (tt {0}))) a ≡ Gives (tt {0}) b → IsAmong (Answer v m) (names_in b.known)
   unfolding ◌>>=◌ ◌>>◌ and_then give arrive.learn_message mail come names naming name_of mail_of answer_of begun
@@ -126,11 +118,7 @@ module _ (script : Script) (hs : List ℕ) where
     where
       bearing : hear_message script v d.message d.asks a ≡ Gives tt b → hear_message script v (Sent m) true a ≡ Gives tt b
       bearing e = subst (λ c. hear_message script v (Sent m) c a ≡ Gives tt b) f.1 (subst (λ i. hear_message script v i d.asks a ≡ Gives tt b) f.0 e)
-  bearer_heard v m (Open i x) a b e f = absurd f
-  bearer_heard v m (Ask p i x) a b e f = absurd f
-  bearer_heard v m (SettledTo x y) a b e f = absurd f
-  bearer_heard v m (Elsewhere x c) a b e f = absurd f
-  bearer_heard v m (Shorten x c i) a b e f = absurd f
+  bearer_heard v m other a b e f = absurd f
 
   -- ---- moves
 

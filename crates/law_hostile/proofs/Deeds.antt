@@ -60,9 +60,7 @@ module _ (script : Script) (w : World) (v : ℕ) (s : Vat Name) (there : slice_g
   learned_at : (a : Vat Name) (d : Done Name Name) (b : Vat Name) (ks : List Name) → Learned true (inside script) w.vats v s there here Word (put_at v a w.vats) a.drawn ks IsName a d → and_then {B = Unit {0}} d (λ _. give (tt {0})) ≡ Gives (tt {0}) b → GrewTo a b
   unfolding and_then give
   learned_at a (Gives n t) b ks h e = let same : t ≡ b = cc in let k : GrewTo a t = (h.0, h.1) in rw same at k
-  learned_at a (Throws p t) b ks h e = cc
-  learned_at a (Ejects m y t) b ks h e = cc
-  learned_at a (Stops c t) b ks h e = cc
+  learned_at a other b ks h e = cc
 
   -- ---- deeds
 
@@ -110,33 +108,17 @@ module _ (script : Script) (w : World) (v : ℕ) (s : Vat Name) (there : slice_g
   pub hear_goes : (n : Note Name) (a b : Vat Name) → NoteOk (λ b. IsMade w.vats w.drawn b × Inside script (bare b)) n → Sound T a → Knows true (inside script) w.vats v s there here Word w.vats w.drawn (names_in a.known) a → hear script v n a ≡ Gives tt b → GrewTo a b
   unfolding hear names give
   hear_goes (Deliver d x verb ys) a b o h k e = hears_go d.message d.asks a b o.0.0 o.0.1 h k e
-  hear_goes (Open i x) a b o h k e = nothing_goes a b h e
-  hear_goes (Ask p i x) a b o h k e = nothing_goes a b h e
-  hear_goes (SettledTo x y) a b o h k e = nothing_goes a b h e
-  hear_goes (Elsewhere x c) a b o h k e = nothing_goes a b h e
-  hear_goes (Shorten x c i) a b o h k e = nothing_goes a b h e
+  hear_goes other a b o h k e = nothing_goes a b h e
 
   -- ---- what is said
 
   below_inside : (b : Bit Name) → IsBelow (length script.vats) b → IsInside (length script.vats) (bare b)
   below_inside (Named n) h = h
-  below_inside (Mail n) h = h
-  below_inside (Drew i) h = h
-  below_inside (At u) h = h
-  below_inside (Off u) h = h
-  below_inside (Entered n) h = h
-  below_inside (Owns n i) h = h
-  below_inside (Gave i) h = h
+  below_inside other h = h
 
   other_far : (b : Bit Name) → IsOther v b → IsFar v b
   other_far (Named n) h = h
-  other_far (Mail n) h = h
-  other_far (Drew i) h = h
-  other_far (At u) h = h
-  other_far (Off u) h = h
-  other_far (Entered n) h = h
-  other_far (Owns n i) h = h
-  other_far (Gave i) h = h
+  other_far other h = h
 
   abbrev Lawfully : Vat Name → Bit Name → Type 0
   Lawfully t b = IsMade (put_at v t w.vats) t.drawn b × IsHad (names_in t.known) t.mails b × IsOther v b × IsBelow (length script.vats) b
@@ -146,11 +128,7 @@ module _ (script : Script) (w : World) (v : ℕ) (s : Vat Name) (there : slice_g
 
   goes_up : (P Q : Bit Name → Type 0) → ((b : Bit Name) → P b → Q b) → (u : ℕ) (n : Note Name) → GoesOk P u n → GoesOk Q u n
   goes_up P Q f u (Deliver m n verb ys) h = f (Off u) h
-  goes_up P Q f u (Open i n) h = tt
-  goes_up P Q f u (Ask p i n) h = tt
-  goes_up P Q f u (SettledTo n y) h = tt
-  goes_up P Q f u (Elsewhere n c) h = tt
-  goes_up P Q f u (Shorten n c i) h = tt
+  goes_up P Q f u other h = tt
 
   pub said_goes : (u : ℕ) (n : Note Name) (t r : Vat Name) → Sound T t → Lawful script w v u t n → send_out u n t ≡ Gives tt r → GrewTo t r
   said_goes u n t r h l e = ends_at t _ r ((fine_out Names T (tracked_under true (inside script) w.vats v s there here Word) {C = Also (NoteDoes n) (NoteGoes u n)} u n (record { at = λ r c. c.0 }) (record { at = λ r c. c.1 })).after t h

@@ -96,11 +96,7 @@ module _ (script : Script) where
   message_heard : (v : ℕ) (vats : List (Vat Name)) (m : Name) (a b : Vat Name) → IsMessageMade vats m → Clean v a → (arrive.learn_message (Names v) (New m (host_of m)) >>= (λ id. come (Names v) (IsAnswer v id) v >> give (tt {0}))) a ≡ Gives (tt {0}) b → Clean v b
   unfolding ◌>>=◌ ◌>>◌ and_then give arrive.learn_message mail come naming name_of mail_of answer_of host_of
   message_heard v vats (Sent x) a b m h e = let o = h.0 in given v _ b ((o.0, o.1, came v a (Answer v x) v refl h, o.3, o.4, o.5), h.1) e
-  message_heard v vats (Root u) a b m h e = absurd m
-  message_heard v vats (Object u i) a b m h e = absurd m
-  message_heard v vats (Promise u i) a b m h e = absurd m
-  message_heard v vats (Answer u i) a b m h e = absurd m
-  message_heard v vats (Gift u i) a b m h e = absurd m
+  message_heard v vats other a b m h e = absurd m
 
   lone_heard : (v : ℕ) (m : Name) (a b : Vat Name) → Clean v a → (arrive.learn_message (Names v) (New m (host_of m)) >> give (tt {0})) a ≡ Gives (tt {0}) b → Clean v b
   unfolding ◌>>◌ and_then give arrive.learn_message mail naming name_of mail_of
@@ -114,11 +110,7 @@ module _ (script : Script) where
   pub heard_own : (v : ℕ) (w : World) (n : Note Name) (a b : Vat Name) → NoteOk (Told script w) n → Clean v a → hear script v n a ≡ Gives tt b → Clean v b
   unfolding hear names give
   heard_own v w (Deliver d x verb ys) a b o h e = heard_by v w.vats d.message d.asks a b o.0.0 h e
-  heard_own v w (Open i x) a b o h e = given v a b h e
-  heard_own v w (Ask p i x) a b o h e = given v a b h e
-  heard_own v w (SettledTo x y) a b o h e = given v a b h e
-  heard_own v w (Elsewhere x c) a b o h e = given v a b h e
-  heard_own v w (Shorten x c i) a b o h e = given v a b h e
+  heard_own v w other a b o h e = given v a b h e
 
   silent : (v : ℕ) (t : Vat Name) → Clean v t → Its script v t × AllOf (λ (p : Put Name). OfNotes script v p.to p.note) t.outbox
   silent v t h = let e : t.outbox ≡ [] = h.1 in ((h.0, rw e tt), rw e tt)

@@ -108,11 +108,7 @@ module _ (script : Script) (hs : List ℕ) where
     pub hear_keeps : (n : Note Name) (a b : Vat Name) → hear script v n a ≡ Gives tt b → R a b
     unfolding hear give
     hear_keeps (Deliver d x verb ys) a b e = hears_keep d.message d.asks a b e
-    hear_keeps (Open i x) a b e = given a a b (law.same a) e
-    hear_keeps (Ask p i x) a b e = given a a b (law.same a) e
-    hear_keeps (SettledTo x y) a b e = given a a b (law.same a) e
-    hear_keeps (Elsewhere x c) a b e = given a a b (law.same a) e
-    hear_keeps (Shorten x c i) a b e = given a a b (law.same a) e
+    hear_keeps other a b e = given a a b (law.same a) e
 
     pub says_keeps : (w : World) (u : ℕ) (n : Note Name) (ds : List Deed) (a t r : Vat Name) → Performs script (IsHostile hs) AnyNotice (λ w v s d. May script w v s d) (λ w v u s n. Lawful script w v u s n) w v ds a t → send_out u n t ≡ Gives tt r → R a r
     unfolding send_out

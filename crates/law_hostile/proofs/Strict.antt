@@ -55,12 +55,11 @@ module _ (script : Script) (w : World) (v u : ℕ) (s : Vat Name) (n : Note Name
 
   deed : (d : Deed) (a b : Vat Name) → Ordered a → IsStrict w v u n a d → perform script v d a ≡ Gives tt b → Ordered b
   unfolding perform names names_of ◌>>◌ world.read_name and_then new_thing new_promise new_message new_lone_message give draw naming name_of mail_of answer_of begun
-  deed NewObject a b h f e = same _ b h e
   deed NewPromise a b h f e = one_more a _ b (begun (Promise v a.promises) a.number) refl h (λ g m far i. absurd (no_promise g a.promises m i)) e
   deed (NewMessage q) a b h f e = let k : Msg = record { sender = v; number = a.messages } in one_more a _ b (begun (Answer q k) q) refl h (λ g m far i. the_message q g m k i f) e
-  deed NewLone a b h f e = same _ b h e
   deed NewDraw a b h f e = drawn _ a b _ h e
   deed (Learns x) a b h f e = learnt x a b _ h f e
+  deed other a b h f e = same _ b h e
 
   deeds : (ds : List Deed) (a t : Vat Name) → Ordered a → PerformsStrictly script w v u n ds a t → Ordered t
   deeds [] a t h e = rw e at h

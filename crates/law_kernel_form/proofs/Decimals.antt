@@ -169,7 +169,6 @@ digits_plain (suc k) n acc p =
 
 -- each first digit
 by_digit : (P : ℕ → Type 0) → P 1 → P 2 → P 3 → P 4 → P 5 → P 6 → P 7 → P 8 → P 9 → (d : ℕ) → 0 < d → d < 10 → P d
-by_digit P a b c d e f g h i zero some low = absurd (omega arith)
 by_digit P a b c d e f g h i (suc zero) some low = a
 by_digit P a b c d e f g h i (suc (suc zero)) some low = b
 by_digit P a b c d e f g h i (suc (suc (suc zero))) some low = c
@@ -179,7 +178,7 @@ by_digit P a b c d e f g h i (suc (suc (suc (suc (suc (suc zero)))))) some low =
 by_digit P a b c d e f g h i (suc (suc (suc (suc (suc (suc (suc zero))))))) some low = g
 by_digit P a b c d e f g h i (suc (suc (suc (suc (suc (suc (suc (suc zero)))))))) some low = h
 by_digit P a b c d e f g h i (suc (suc (suc (suc (suc (suc (suc (suc (suc zero))))))))) some low = i
-by_digit P a b c d e f g h i (suc (suc (suc (suc (suc (suc (suc (suc (suc (suc n)))))))))) some low = absurd (omega arith)
+by_digit P a b c d e f g h i other some low = absurd (omega arith)
 
 -- a first digit without a sign, and behind `-`
 begins_positive : (d : ℕ) → 0 < d → d < 10 → literal_begins (48 + d) ≡ Some (digits false (pos d))

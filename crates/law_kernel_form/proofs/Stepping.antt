@@ -239,8 +239,7 @@ begun last frames m c mode want.Verb scalar next e =
     (λ _ more. by_choice (begins_identifier c) (Some (bare (encode_utf8 c))) None mode more
     (λ _ is. begun_so last frames m c mode (bare (encode_utf8 c)) is (λ opened. (opened, (inr next, IsUtf8-encode c scalar))) refl) (λ _ none. nothing_here mode none))
 begun last frames m c mode want.Literal scalar next e = begun_literal last frames m c mode next e
-begun last frames m c mode (want.Tree kind) scalar next e = nothing_here mode e
-begun last frames m c mode (want.Group kind) scalar next e = nothing_here mode e
+begun last frames m c mode other scalar next e = nothing_here mode e
 
 begin_good : (last : List Node) (c : ℕ) (frames : List Frame) (nodes : List Node) (t : State) (o : Option Want) → IsScalar c → next_wanted frames ≡ o
     → begin_wanted o c (state frames nodes whole) ≡ Some t → Good last (encode_utf8 c) (state frames nodes before) t

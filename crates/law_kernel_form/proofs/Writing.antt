@@ -33,8 +33,6 @@ abbrev pub word : Head → List ℕ
 word head.Lit = codes "lit"
 word head.Noun = codes "noun"
 word head.Set = codes "set"
-word head.Def = codes "def"
-word head.DefExit = codes "def"
 word head.Call = codes "call"
 word head.Seq = codes "seq"
 word head.If = codes "if"
@@ -54,6 +52,7 @@ word head.Via = codes "via"
 word head.FinalName = codes "final"
 word head.NoName = codes "any"
 word (head.Group kind) = []
+word other = codes "def"
 
 -- `exit` stands behind the first item
 abbrev pub behind_first : List (List ℕ) → List (List ℕ)

@@ -165,11 +165,7 @@ module _ (draws : List ℕ) where
   object_is : (me : Name) (v i : ℕ) → show.shown_name draws me ≡ name.Object v i → me ≡ Object v i
   unfolding show.shown_name show.shown_gift
   object_is (Object u j) v i q = let a : u ≡ v = cc in let b : j ≡ i = cc in ap (λ z. Object z j) a ∙ ap (Object v) b
-  object_is (Root u) v i q = cc
-  object_is (Promise u j) v i q = cc
-  object_is (Answer u m) v i q = cc
-  object_is (Gift u j) v i q = cc
-  object_is (Sent m) v i q = cc
+  object_is other v i q = cc
 
 -- ---- that it is made once
 

@@ -16,9 +16,7 @@ use Rattle.law_known_uses.proofs.Stood.{in_run, is_run, Stood}
 
 after_gives : (P : Vat Name → Vat Name → Type 0) (r t : Vat Name) (d : Done Name (Unit {0})) → After P r d → d ≡ Gives tt t → P r t
 after_gives P r t (Gives u x) h q = let same : x ≡ t = cc in subst (P r) same h
-after_gives P r t (Throws u x) h q = cc
-after_gives P r t (Ejects n y x) h q = cc
-after_gives P r t (Stops c x) h q = cc
+after_gives P r t other h q = cc
 
 still_at : (script : Script) (w : World) → IsPassed script w → NothingLive w
 still_at script w r = in_run (λ s x. NothingLive x) (λ s. (λ ps rest x e i. opened_still s ps x i, λ y x es k e i. run_still s y x es k e i)) script w r

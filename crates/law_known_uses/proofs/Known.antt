@@ -64,26 +64,18 @@ module _ (draws : List ℕ) (script : Script) (v : ℕ) (es : List Event) (h : H
 
   abbrev pub ItemKnown : ℕ → Item Name → Type 0
   ItemKnown a (AValue x) = Knew a x
-  ItemKnown a (AGuard x) = Unit {0}
-  ItemKnown a (ASlot k) = Unit {0}
+  ItemKnown a other = Unit {0}
 
   -- what it has
   had : (a : ℕ) (i : Item Name) → ((x : Value Name) → i ≡ AValue x → (t : Thing) → uses.IsAmong t (things_at draws v x) → Has (lines draws es) (activation v a) t) → ItemKnown a i
   had a (AValue x) f = λ t i. start (f x refl t i)
-  had a (AGuard x) f = tt
-  had a (ASlot k) f = tt
+  had a other f = tt
 
   plain_known : (a : ℕ) (x : Value Name) → IsPlain x → Knew a x
   unfolding show.shown_value things_of
   plain_known a (Ref n) p t i = absurd p
   plain_known a (Items k) p t i = absurd p
-  plain_known a Null p t i = absurd i
-  plain_known a (Flag b) p t i = absurd i
-  plain_known a (Number z) p t i = absurd i
-  plain_known a (Letter c) p t i = absurd i
-  plain_known a (Text s) p t i = absurd i
-  plain_known a (Prim n) p t i = absurd i
-  plain_known a (Broken s) p t i = absurd i
+  plain_known a other p t i = absurd i
 
   name_thing : (n : Name) → uses.IsAmong (AName (show.shown_name draws n)) (things_at draws v (Ref n))
   unfolding show.shown_value things_of
@@ -126,5 +118,4 @@ module _ (draws : List ℕ) (script : Script) (v : ℕ) (es : List Event) (h : H
     item_known a i (known.member {v = x} k vs g e m) = λ t j. onward (record { way = Listed; from = AList v k; to = t })
         (list_leads draws es v k vs t (r.listed k vs e) (in_all draws es v (λ t. ⊥) (λ k vs. ⊥) (λ k vs i. absurd i) (λ k vs ws i j. absurd i) t x vs (turned x vs m) j)) tt (item_known a _ g (AList v k) (list_thing k))
     item_known a i (known.followed {y = y} x g l) = leads_known a x y l (item_known a _ g)
-    item_known a i (known.serves g) = tt
-    item_known a i (known.guard k c g e) = tt
+    item_known a i other = tt

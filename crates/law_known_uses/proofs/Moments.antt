@@ -229,9 +229,7 @@ module _ (script : Script) (v : ℕ) (e : Happened Name) (h : List Event) (s : S
             told_then draws So s.line.from.history (events_of s.line.links v s.line.so) (Opens v) (Opened (activation v a)) place
                 (subst (λ n. IsTold (lines draws (s.line.from.history ++ Opens v ∷ [])) (Opened (activation v n))) act ((openings_told script draws s.line.from.history (events_of s.line.links v s.line.so ++ Here v e ∷ k) v).0 (earlier s.line.from.history (events_of s.line.links v s.line.so) (Opens v) place))),
           )
-      opened_by (Takes tree depth m) q a x j t i = absurd j
-      opened_by (Receives from n) q a x j t i = absurd j
-      opened_by (Notices u) q a x j t i = absurd j
+      opened_by other q a x j t i = absurd j
 
       pub facts : FactsTold draws script v So (held r) s.line.so
       unfolding held_from

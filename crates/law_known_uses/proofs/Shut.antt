@@ -25,9 +25,7 @@ step_nested script v step r t e q = gives (does (names script v) step r) (steps_
   where
     gives : (d : Done Name (Unit {0})) → Nested d → d ≡ Gives tt t → nested_from (Some []) t.happened ≡ Some []
     gives (Gives u x) h i = let same : x ≡ t = cc in subst (λ (z : Vat Name). nested_from (Some []) z.happened ≡ Some []) same h
-    gives (Throws p x) h i = cc
-    gives (Ejects n y x) h i = cc
-    gives (Stops c x) h i = cc
+    gives other h i = cc
 
 module _ (draws : List ℕ) (script : Script) where
   -- the line that tells of a step has the place of its vat

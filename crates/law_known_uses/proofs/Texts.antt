@@ -44,8 +44,7 @@ module _ (script : Script) (v : ℕ) (e : Happened Name) (h : List Event) (s : S
   -- an item that the activation knows, by the place of the lines
   item_at : (r : Vat Name) → Moment (names script v) (first_of s.line) s.line.so r → (a : ℕ) (i : Item Name) → known.Knows (names script v) (held script v e h s r) s.line.so a i → ItemKnown draws v past a i
   item_at r m a (AValue x) g = λ t j. subst (λ n. text.Knows past (record { at = n; number = a }) t) (sym at) (item_known draws script v (lines_so s.line) (held script v e h s r) s.line.so (facts script v e h s draws apart k is r m) a (AValue x) g t j)
-  item_at r m a (AGuard x) g = tt
-  item_at r m a (ASlot n) g = tt
+  item_at r m a other g = tt
 
   then_known : WellThen (names script v) (first_of s.line) s.line.so e → AllKnown draws v past e
   then_known w = all_map (λ (u : ℕ × Item Name). known.Knows (names script v) (held script v e h s w.0) s.line.so u.0 u.1 ⊎ IsAmong u.1 (itself e)) (λ (u : ℕ × Item Name). ItemKnown draws v past u.0 u.1 ⊎ IsAmong u.1 (itself e)) one (uses e) w.2

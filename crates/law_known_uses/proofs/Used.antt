@@ -34,8 +34,7 @@ module _ (draws : List ℕ) (v : ℕ) (past : List Line) where
 
   abbrev pub ItemKnown : ℕ → Item Name → Type 0
   ItemKnown a (AValue x) = Knew a x
-  ItemKnown a (AGuard x) = Unit {0}
-  ItemKnown a (ASlot k) = Unit {0}
+  ItemKnown a other = Unit {0}
 
   -- what a value is shown as
   abbrev Shows : Value Name → Shown
@@ -45,14 +44,7 @@ module _ (draws : List ℕ) (v : ℕ) (past : List Line) where
   unfolding show.shown_value names_of things_of
   name_thing (Ref m) n (inl e) = inl (ap AName e)
   name_thing (Ref m) n (inr i) = absurd i
-  name_thing (Items k) n i = absurd i
-  name_thing Null n i = absurd i
-  name_thing (Flag b) n i = absurd i
-  name_thing (Number z) n i = absurd i
-  name_thing (Letter c) n i = absurd i
-  name_thing (Text t) n i = absurd i
-  name_thing (Prim k) n i = absurd i
-  name_thing (Broken p) n i = absurd i
+  name_thing other n i = absurd i
 
   -- Of a line of activation a that makes one name at most: each item is known, or is what the line makes.
   module _ (a : ℕ) (me : List (Item Name)) (made : Option ShownName) (mine : (x : Value Name) → IsAmong (AValue x) me → (n : ShownName) → uses.IsAmong n (names_of (Shows x)) → made ≡ Some n) where
@@ -114,14 +106,12 @@ module _ (draws : List ℕ) (v : ℕ) (past : List Line) where
   -- what is called as a guard, the text does not count
   called_value : (x : Value Name) (verb : Words) (args : List (Value Name)) → IsCoercing verb args ≡ false → callee x verb args ≡ AValue x
   unfolding callee show.shown_values
-  called_value x verb [] e = refl
-  called_value x verb (y ∷ []) e = refl
   called_value x verb (y ∷ z ∷ []) e = either (same_words (codes "coerce") verb) refl
     where
       either : (b : Bool) → same_words (codes "coerce") verb ≡ b → elim b as (λ _. Item Name) [ true ↦ AGuard x | false ↦ AValue x ] ≡ AValue x
       either true f = let g : IsCoercing (codes "coerce") (y ∷ z ∷ []) ≡ false = subst (λ w. IsCoercing w (y ∷ z ∷ []) ≡ false) (sym (same_is (codes "coerce") verb f)) e in cc
       either false f = refl
-  called_value x verb (y ∷ z ∷ u ∷ us) e = refl
+  called_value x verb other e = refl
 
   abbrev call_of : ℕ → Value Name → Words → List (Value Name) → Option ℕ → ShownCall
   call_of a x verb args b = record { activation = a; target = Shows x; verb = verb; args = show.shown_values draws v args; begun = b }

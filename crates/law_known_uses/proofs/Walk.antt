@@ -49,9 +49,7 @@ module _ (script : Script) (w : World) where
       → (d : Done Name (Unit {0})) → does (names script v) step (world.readied w (record s { queue = ms })) ≡ d → Comes (world.put_back v (With ls) head n d)
   unfolding world.put_back
   back_comes v ls head n s ms step new at taken none (Gives u t) e = steps v s t ms head step ls at taken none e new (put_there v t w.vats s at) refl
-  back_comes v ls head n s ms step new at taken none (Throws p t) e = refl
-  back_comes v ls head n s ms step new at taken none (Ejects i y t) e = refl
-  back_comes v ls head n s ms step new at taken none (Stops c t) e = refl
+  back_comes v ls head n s ms step new at taken none other e = refl
 
   within_comes : (v : ℕ) (ls : List Link) (head : List Event) (n : ℕ) (s : Vat Name) (ms : List (Message Name)) (step : Step Name Name) → FirstIs step s → slice_get w.vats v ≡ Some s → IsTaken script w v s ms head step → IsNobodys head
       → Comes (world.within v (With ls) head n (does (names script v) step) (Some (record s { queue = ms })))
@@ -137,9 +135,7 @@ module _ (script : Script) (w : World) where
       either : ((u ≡ v) × (q ≡ t)) ⊎ ((u ≡ v → ⊥) × (slice_get w.vats u ≡ Some q)) → slice_get w.vats u ≡ Some q
       either (inl i) = absurd (not i.0)
       either (inr i) = i.1
-  others_put v head n (Throws p t) x e u q not f = cc
-  others_put v head n (Ejects i y t) x e u q not f = cc
-  others_put v head n (Stops c t) x e u q not f = cc
+  others_put v head n other x e u q not f = cc
 
   others_within : (v : ℕ) (head : List Event) (n : ℕ) (m : Act Name (Unit {0})) (o : Option (Vat Name)) (x : World) → world.within v w head n m o ≡ Goes x → (u : ℕ) (q : Vat Name) → (u ≡ v → ⊥) → slice_get x.vats u ≡ Some q → slice_get w.vats u ≡ Some q
   unfolding world.within

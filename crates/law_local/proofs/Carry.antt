@@ -107,20 +107,12 @@ module _ (v : ℕ) (t z : Table) (more : Extends t z) where
 carried_same : (n : Note Name) → numbers.carried_in n ≡ carried_by (Some n)
 unfolding numbers.carried_in carried_by lines.carried_in
 carried_same (Deliver d x verb ys) = refl
-carried_same (Open i x) = refl
-carried_same (Ask p i x) = refl
-carried_same (SettledTo x y) = refl
-carried_same (Elsewhere x c) = refl
-carried_same (Shorten x c i) = refl
+carried_same other = refl
 
 -- the answer that it asks for
 due_begins : (word : ℕ → ℕ) (u v : ℕ) (ks : List Name) (n : Note Name) (s : Vat Name) → names_in s.known ≡ ks → s.number ≡ u → (y : Name) → DueIn u n y → Begins word u (names_heard ks n ++ y ∷ []) (arrive (naming word u) v (read_note ks n) s)
 due_begins word u v ks (Deliver d x verb ys) s e i y h = subst (λ z. Begins word u (names_heard ks (Deliver d x verb ys) ++ z ∷ []) (arrive (naming word u) v (read_note ks (Deliver d x verb ys)) s)) h.1 (note_answers word u v ks d x verb ys s e i h.0)
-due_begins word u v ks (Open j x) s e i y h = absurd h
-due_begins word u v ks (Ask p j x) s e i y h = absurd h
-due_begins word u v ks (SettledTo x z) s e i y h = absurd h
-due_begins word u v ks (Elsewhere x c) s e i y h = absurd h
-due_begins word u v ks (Shorten x c j) s e i y h = absurd h
+due_begins word u v ks other s e i y h = absurd h
 
 get_end : (xs : List Name) (y : Name) → slice_get (xs ++ y ∷ []) (length xs) ≡ Some y
 get_end [] y = refl
@@ -130,11 +122,7 @@ get_end (x ∷ xs) y = get_end xs y
 gift_stands : (word : ℕ → ℕ) (u v : ℕ) (ks : List Name) (n : Note Name) (s r : Vat Name) → AsksOwn u n → arrive (naming word u) v (read_note ks n) s ≡ Gives tt r → GiftStands u r n
 unfolding arrive read_note
 gift_stands word u v ks (Ask p i x) s r own e = (own, subst (λ d. Given p i d) e (ask_given p i (naming word u) v s))
-gift_stands word u v ks (Deliver d x verb ys) s r own e = tt
-gift_stands word u v ks (Open i x) s r own e = tt
-gift_stands word u v ks (SettledTo x y) s r own e = tt
-gift_stands word u v ks (Elsewhere x c) s r own e = tt
-gift_stands word u v ks (Shorten x c i) s r own e = tt
+gift_stands word u v ks other s r own e = tt
 
 middle : {A : Type 0} (P : A → Type 0) (xs ys : List A) (y : A) → AllOf P (xs ++ y ∷ ys) → P y
 middle P [] ys y h = h.0
@@ -460,6 +448,5 @@ module _ (script : Script) (once : KnowsOnce script) (w x : World) (es : List En
     where
       by : (d : Done Name (Unit {0})) → Theirs ≡ d → IsQuiet d → RunMirrors (machine.step script (Carry v u) j x) (numbers.step script (Carry v u) j X)
       by (Gives tt r) e q = carry_goes r e j
-      by (Throws p r) e q = absurd q
-      by (Ejects i a r) e q = absurd q
       by (Stops c r) e q = carry_stops c r e j
+      by other e q = absurd q

@@ -33,14 +33,7 @@ plain (Ref n) = None
 plain_changed : {X Y Z : Type 0} (f : X → Y) (y : Value X) → plain {Y = Z} (maps.value f y) ≡ plain y
 unfolding plain
 plain_changed f Null = refl
-plain_changed f (Flag b) = refl
-plain_changed f (Number i) = refl
-plain_changed f (Letter c) = refl
-plain_changed f (Text t) = refl
-plain_changed f (Prim i) = refl
-plain_changed f (Broken t) = refl
-plain_changed f (Items k) = refl
-plain_changed f (Ref n) = refl
+plain_changed f other = refl
 
 plain_is : {X Y Z : Type 0} (f : X → Z) (g : Y → Z) (y : Value X) (w : Value Y) → plain y ≡ Some w → maps.value g w ≡ maps.value f y
 unfolding plain
@@ -56,15 +49,8 @@ plain_is f g (Ref n) w e = cc
 
 reference_is : {X Y : Type 0} (y : Value X) → plain {Y = Y} y ≡ None → (n : X) × (y ≡ Ref n)
 unfolding plain
-reference_is Null e = cc
-reference_is (Flag b) e = cc
-reference_is (Number i) e = cc
-reference_is (Letter c) e = cc
-reference_is (Text t) e = cc
-reference_is (Prim i) e = cc
-reference_is (Broken t) e = cc
-reference_is (Items k) e = cc
 reference_is (Ref n) e = (n, refl)
+reference_is other e = cc
 
 module _ {A B C D E H : Type 0} (F : A → D) (G : B → D) (P : C → E) (Q : B → E) (R : C → H) (S : A → H) (one : (a : A) (b : B) → F a ≡ G b → (c : C) × (P c ≡ Q b) × (R c ≡ S a)) where
   value_with : (y : Value A) (z : Value B) → maps.value F y ≡ maps.value G z → (w : Value C) × (maps.value P w ≡ maps.value Q z) × (maps.value R w ≡ maps.value S y)
@@ -96,12 +82,8 @@ module _ {A B C D E H : Type 0} (F : A → D) (G : B → D) (P : C → E) (Q : B
     passed_with (Plain y) (Plain z) e = let i : maps.value F y ≡ maps.value G z = cc in let w = value_with y z i in (Plain w.0, ap Plain w.1, ap Plain w.2)
     passed_with (AGift h i) (AGift g j) e = let k : h ≡ g = cc in let l : i ≡ j = cc in (AGift h i, ap (λ a. AGift a i) k ∙ ap (λ a. AGift g a) l, refl)
     passed_with (Many ys) (Many zs) e = let i : maps.passeds F ys ≡ maps.passeds G zs = cc in let w = all_with ys zs i in (Many w.0, ap Many w.1, ap Many w.2)
-    passed_with (Plain y) (AGift g j) e = cc
-    passed_with (Plain y) (Many zs) e = cc
-    passed_with (AGift h i) (Plain z) e = cc
-    passed_with (AGift h i) (Many zs) e = cc
-    passed_with (Many ys) (Plain z) e = cc
-    passed_with (Many ys) (AGift g j) e = cc
+    passed_with other (AGift g j) e = cc
+    passed_with other another e = cc
 
     all_with : (ys : Passeds A) (zs : Passeds B) → maps.passeds F ys ≡ maps.passeds G zs → (w : Passeds C) × (maps.passeds P w ≡ maps.passeds Q zs) × (maps.passeds R w ≡ maps.passeds S ys)
     all_with NoMore NoMore e = (NoMore, refl, refl)
@@ -141,44 +123,14 @@ module _ {A B C D E H : Type 0} (F : A → D) (G : B → D) (P : C → E) (Q : B
   note_with (SettledTo t y) (SettledTo z w) e = let k : F t ≡ G z = cc in let l : maps.passed F y ≡ maps.passed G w = cc in let c = one t z k in let v = passed_with y w l in (SettledTo c.0 v.0, ap (λ a. SettledTo a (maps.passed P v.0)) c.1 ∙ ap (SettledTo (Q z)) v.1, ap (λ a. SettledTo a (maps.passed R v.0)) c.2 ∙ ap (SettledTo (S t)) v.2)
   note_with (Elsewhere t c) (Elsewhere z b) e = let k : F t ≡ G z = cc in let l : c ≡ b = cc in let n = one t z k in (Elsewhere n.0 c, ap (λ a. Elsewhere (P n.0) a) l ∙ ap (λ a. Elsewhere a b) n.1, ap (λ a. Elsewhere a c) n.2)
   note_with (Shorten t c i) (Shorten z b j) e = let k : F t ≡ G z = cc in let l : c ≡ b = cc in let m : i ≡ j = cc in let n = one t z k in (Shorten n.0 c i, ap (λ a. Shorten (P n.0) a i) l ∙ ap (λ a. Shorten (P n.0) b a) m ∙ ap (λ a. Shorten a b j) n.1, ap (λ a. Shorten a c i) n.2)
-  note_with (Deliver d t verb ys) (Open j z) same = cc
-  note_with (Deliver d t verb ys) (Ask q j z) same = cc
-  note_with (Deliver d t verb ys) (SettledTo z w) same = cc
-  note_with (Deliver d t verb ys) (Elsewhere z b) same = cc
-  note_with (Deliver d t verb ys) (Shorten z b j) same = cc
-  note_with (Open i t) (Deliver e z word zs) same = cc
-  note_with (Open i t) (Ask q j z) same = cc
-  note_with (Open i t) (SettledTo z w) same = cc
-  note_with (Open i t) (Elsewhere z b) same = cc
-  note_with (Open i t) (Shorten z b j) same = cc
-  note_with (Ask p i t) (Deliver e z word zs) same = cc
-  note_with (Ask p i t) (Open j z) same = cc
-  note_with (Ask p i t) (SettledTo z w) same = cc
-  note_with (Ask p i t) (Elsewhere z b) same = cc
-  note_with (Ask p i t) (Shorten z b j) same = cc
-  note_with (SettledTo t y) (Deliver e z word zs) same = cc
-  note_with (SettledTo t y) (Open j z) same = cc
-  note_with (SettledTo t y) (Ask q j z) same = cc
-  note_with (SettledTo t y) (Elsewhere z b) same = cc
-  note_with (SettledTo t y) (Shorten z b j) same = cc
-  note_with (Elsewhere t c) (Deliver e z word zs) same = cc
-  note_with (Elsewhere t c) (Open j z) same = cc
-  note_with (Elsewhere t c) (Ask q j z) same = cc
-  note_with (Elsewhere t c) (SettledTo z w) same = cc
-  note_with (Elsewhere t c) (Shorten z b j) same = cc
-  note_with (Shorten t c i) (Deliver e z word zs) same = cc
-  note_with (Shorten t c i) (Open j z) same = cc
-  note_with (Shorten t c i) (Ask q j z) same = cc
-  note_with (Shorten t c i) (SettledTo z w) same = cc
-  note_with (Shorten t c i) (Elsewhere z b) same = cc
+  note_with other (Open j z) same = cc
+  note_with other another same = cc
 
 -- ---- in numbers nothing looks at what is new
 
 any_books : {M B : Type 0} (d : Done M B) → FitsAfter (λ (b : Books M). Unit {0}) d
 any_books (Gives a t) = tt
-any_books (Throws p t) = tt
-any_books (Ejects n v t) = tt
-any_books (Stops c t) = tt
+any_books other = tt
 
 done_same : (d : Done Local (Unit {0})) → maps.done id id d ≡ d
 done_same (Gives a t) = ap (Gives a) (vat_same t)

@@ -108,22 +108,16 @@ module _ (p i : ℕ) where
   -- where something is given the gift stands
   abbrev pub Given : {A : Type 0} → Done Name A → Type 0
   Given (Gives a t) = Stands p i t.gifts
-  Given (Throws w t) = Unit {0}
-  Given (Ejects n v t) = Unit {0}
-  Given (Stops c t) = Unit {0}
+  Given other = Unit {0}
 
   still_given : {A : Type 0} (s : Vat Name) (d : Done Name A) → Stands p i s.gifts → After Lasts s d → Given d
   still_given s (Gives a t) h f = f h
-  still_given s (Throws w t) h f = tt
-  still_given s (Ejects n v t) h f = tt
-  still_given s (Stops c t) h f = tt
+  still_given s other h f = tt
 
   then_given : {A B : Type 0} (d : Done Name A) (f : A → Act Name B) → Given d → ((a : A) → Keeps Lasts (f a)) → Given (and_then d f)
   unfolding and_then
   then_given (Gives a t) f h k = still_given t (f a t) h ((k a).after t)
-  then_given (Throws w t) f h k = tt
-  then_given (Ejects n v t) f h k = tt
-  then_given (Stops c t) f h k = tt
+  then_given other f h k = tt
 
   module _ (K : Naming Name Name) where
     or_new : (v : ℕ) (o : Option (GiftEntry Name)) (s : Vat Name) → gift_at p i s.gifts ≡ o → Given (arrive.gift_or_new K v p i o s)

@@ -34,20 +34,12 @@ use Rattle.law_local.proofs.CarryGifts.{Stands}
 
 unfoldable asks : {A : Type 0} → Note A → Bool
 asks (Deliver d x verb ys) = d.asks
-asks (Open i x) = false
-asks (Ask p i x) = false
-asks (SettledTo x y) = false
-asks (Elsewhere x c) = false
-asks (Shorten x c i) = false
+asks other = false
 
 -- the provider and the key of a gift
 unfoldable gift_asked : {A : Type 0} → Note A → List ℕ
-gift_asked (Deliver d x verb ys) = []
-gift_asked (Open i x) = []
 gift_asked (Ask p i x) = p ∷ i ∷ []
-gift_asked (SettledTo x y) = []
-gift_asked (Elsewhere x c) = []
-gift_asked (Shorten x c i) = []
+gift_asked other = []
 
 unfoldable by_asked : ℕ → Vat Local → Bool → List ℕ → List Local
 by_asked k s b [] = elim b [ true ↦ Prom k ∷ [] | false ↦ [] ]
@@ -57,29 +49,17 @@ by_asked k s b (p ∷ i ∷ is) = gift_name (gift_at p i s.gifts)
 asked_is : (k : ℕ) (s : Vat Local) (n : Note (Incoming Local Local)) → asked_by k s n ≡ by_asked k s (asks n) (gift_asked n)
 unfolding asked_by by_asked asks gift_asked
 asked_is k s (Deliver d x verb ys) = refl
-asked_is k s (Open i x) = refl
-asked_is k s (Ask p i x) = refl
-asked_is k s (SettledTo x y) = refl
-asked_is k s (Elsewhere x c) = refl
-asked_is k s (Shorten x c i) = refl
+asked_is k s other = refl
 
 asks_changed : {A B : Type 0} (f : A → B) (n : Note A) → (asks (maps.note f n) ≡ asks n) × (gift_asked (maps.note f n) ≡ gift_asked n)
 unfolding asks gift_asked
 asks_changed f (Deliver d x verb ys) = (refl, refl)
-asks_changed f (Open i x) = (refl, refl)
-asks_changed f (Ask p i x) = (refl, refl)
-asks_changed f (SettledTo x y) = (refl, refl)
-asks_changed f (Elsewhere x c) = (refl, refl)
-asks_changed f (Shorten x c i) = (refl, refl)
+asks_changed f other = (refl, refl)
 
 asks_heard : (v u : ℕ) (ks : List Name) (n : Note Name) → (asks (as_heard v u (read_note ks n)) ≡ asks n) × (gift_asked (as_heard v u (read_note ks n)) ≡ gift_asked n)
 unfolding asks gift_asked as_heard as_told read_note
 asks_heard v u ks (Deliver d x verb ys) = (refl, refl)
-asks_heard v u ks (Open i x) = (refl, refl)
-asks_heard v u ks (Ask p i x) = (refl, refl)
-asks_heard v u ks (SettledTo x y) = (refl, refl)
-asks_heard v u ks (Elsewhere x c) = (refl, refl)
-asks_heard v u ks (Shorten x c i) = (refl, refl)
+asks_heard v u ks other = (refl, refl)
 
 -- a note that was heard asks for what the note asks for
 asks_same : {D : Type 0} (F : Incoming Local Local → D) (G : Incoming Name Name → D) (v u : ℕ) (ks : List Name) (n : Note Name) (h : Note (Incoming Local Local)) → maps.note F h ≡ maps.note G (as_heard v u (read_note ks n)) → (k : ℕ) (s : Vat Local) → asked_by k s h ≡ by_asked k s (asks n) (gift_asked n)
@@ -149,21 +129,14 @@ answer_or F v u k m false f = refl
 -- a gift that a note asks for, at vat u
 abbrev pub GiftStands : ℕ → Vat Name → Note Name → Type 0
 GiftStands u r (Ask p i x) = (x ≡ Gift u i) × Stands p i r.gifts
-GiftStands u r (Deliver d x verb ys) = Unit {0}
-GiftStands u r (Open i x) = Unit {0}
-GiftStands u r (SettledTo x y) = Unit {0}
-GiftStands u r (Elsewhere x c) = Unit {0}
-GiftStands u r (Shorten x c i) = Unit {0}
+GiftStands u r other = Unit {0}
 
 asked_so : (F : Local → Found) (v u k : ℕ) (q : Vat Local) (r : Vat Name) → maps.vat F q ≡ maps.vat Is r → AllOf (λ (z : GiftEntry Name). (z.name ≡ Gift u z.number) × IsAmong z.name (names_in r.known)) r.gifts → (n : Note Name) → GiftStands u r n → ((y : Name) → DueIn u n y → F (Prom k) ≡ Is y)
     → map F (by_asked k q (asks n) (gift_asked n)) ≡ map Is (asked_in (sight v u) n)
 unfolding by_asked asks gift_asked asked_in
 asked_so F v u k q r e named (Deliver d x verb ys) g f = answer_or F v u k d.message d.asks (λ i. f (answer_of u d.message) (i, refl))
-asked_so F v u k q r e named (Open i x) g f = refl
 asked_so F v u k q r e named (Ask p i x) g f = gift_found F u p i q r e named g.1 ∙ ap (λ z. Is z ∷ []) (sym g.0)
-asked_so F v u k q r e named (SettledTo x y) g f = refl
-asked_so F v u k q r e named (Elsewhere x c) g f = refl
-asked_so F v u k q r e named (Shorten x c i) g f = refl
+asked_so F v u k q r e named other g f = refl
 
 -- What a note that was heard asks for has, in numbers, what it asks for in names.
 pub asked_found : (f : Local → Found) (v u : ℕ) (ks : List Name) (n : Note Name) (h : Note (Incoming Local Local)) → maps.note (incoming f unnamed) h ≡ maps.note (incoming Is unnamed) (as_heard v u (read_note ks n)) → (k : ℕ) (q : Vat Local) (r : Vat Name) → maps.vat f q ≡ maps.vat Is r

@@ -71,11 +71,7 @@ front_at xs ys f k n e = ap (λ zs. slice_get zs k) f.1 ∙ front xs f.0 k n e
 -- its name
 unfoldable pub due_names : ℕ → Note Name → List Name
 due_names u (Deliver d n verb ys) = elim d.asks [ true ↦ answer_of u d.message ∷ [] | false ↦ [] ]
-due_names u (Open i n) = []
-due_names u (Ask p i n) = []
-due_names u (SettledTo n y) = []
-due_names u (Elsewhere n c) = []
-due_names u (Shorten n c i) = []
+due_names u other = []
 
 due_or : (y a : Name) (b : Bool) → IsAmong y (elim b [ true ↦ a ∷ [] | false ↦ [] ]) → (b ≡ true) × (a ≡ y)
 due_or y a true (inl e) = (refl, sym e)
@@ -85,11 +81,7 @@ due_or y a false h = absurd h
 among_due : (u : ℕ) (n : Note Name) (y : Name) → IsAmong y (due_names u n) → DueIn u n y
 unfolding due_names
 among_due u (Deliver d n verb ys) y h = due_or y (answer_of u d.message) d.asks h
-among_due u (Open i n) y h = h
-among_due u (Ask p i n) y h = h
-among_due u (SettledTo n z) y h = h
-among_due u (Elsewhere n c) y h = h
-among_due u (Shorten n c i) y h = h
+among_due u other y h = h
 
 or_due : (y a : Name) (b : Bool) → b ≡ true → a ≡ y → IsAmong y (elim b [ true ↦ a ∷ [] | false ↦ [] ])
 or_due y a true e i = inl (sym i)
@@ -98,11 +90,7 @@ or_due y a false e i = cc
 due_among : (u : ℕ) (n : Note Name) (y : Name) → DueIn u n y → IsAmong y (due_names u n)
 unfolding due_names
 due_among u (Deliver d n verb ys) y h = or_due y (answer_of u d.message) d.asks h.0 h.1
-due_among u (Open i n) y h = h
-due_among u (Ask p i n) y h = h
-due_among u (SettledTo n z) y h = h
-due_among u (Elsewhere n c) y h = h
-due_among u (Shorten n c i) y h = h
+due_among u other y h = h
 
 -- its number
 abbrev one_told : ℕ → Name → Bool → List Told
@@ -115,11 +103,7 @@ answer_or u k ns a false f = tt
 answer_sound : (u k : ℕ) (ns : List Name) (n : Note Name) → ((y : Name) → DueIn u n y → ToldSo u ns (record { number = k; name = y })) → AllOf (ToldSo u ns) (told_answer u k n)
 unfolding told_answer
 answer_sound u k ns (Deliver d n verb ys) f = answer_or u k ns (answer_of u d.message) d.asks (λ e. f (answer_of u d.message) (e, refl))
-answer_sound u k ns (Open i n) f = tt
-answer_sound u k ns (Ask p i n) f = tt
-answer_sound u k ns (SettledTo n y) f = tt
-answer_sound u k ns (Elsewhere n c) f = tt
-answer_sound u k ns (Shorten n c i) f = tt
+answer_sound u k ns other f = tt
 
 or_answer : (k : ℕ) (a : Name) (b : Bool) → b ≡ true → SomeOf (At k) (one_told k a b)
 or_answer k a true e = inl refl
@@ -128,20 +112,14 @@ or_answer k a false e = cc
 answer_told : (u k : ℕ) (n : Note Name) (y : Name) → DueIn u n y → SomeOf (At k) (told_answer u k n)
 unfolding told_answer
 answer_told u k (Deliver d n verb ys) y h = or_answer k (answer_of u d.message) d.asks h.0
-answer_told u k (Open i n) y h = absurd h
-answer_told u k (Ask p i n) y h = absurd h
-answer_told u k (SettledTo n z) y h = absurd h
-answer_told u k (Elsewhere n c) y h = absurd h
-answer_told u k (Shorten n c i) y h = absurd h
+answer_told u k other y h = absurd h
 
 -- ---- new numbers are told
 
 number_told : (k : ℕ) (a : Local) (y : Name) → Number k a → SomeOf (At k) (of_promise a y)
 unfolding of_promise
 number_told k (Prom j) y e = let i : j ≡ k = cc in inl i
-number_told k (Obj i) y e = cc
-number_told k (Far h p) y e = cc
-number_told k (Mess j) y e = cc
+number_told k other y e = cc
 
 imports_told : (k : ℕ) (f : ℕ → Name) (p : ℕ) (ls : List Local) → SomeOf (Number k) ls → SomeOf (At k) (told_imports f p ls)
 unfolding told_imports
@@ -164,9 +142,7 @@ module _ (u : ℕ) (t : Table) (ns : List Name) (later : Starts t.names ns) wher
   one_sound (Prom k) y z e h o =
       let at : slice_get ns k ≡ Some y = front_at t.names ns later k y (some_name (slice_get t.names k) k y h) in
       ((at ∙ ap Some (sym e), λ i. o (i.0, sym e ∙ i.1)), tt)
-  one_sound (Obj i) y z e h o = tt
-  one_sound (Far g p) y z e h o = tt
-  one_sound (Mess j) y z e h o = tt
+  one_sound other y z e h o = tt
 
   imports_sound : (f : ℕ → Name) (p : ℕ) (ls : List Local) (es : List Name) → map (found u t) ls ≡ map Is es → ((i : ℕ) (y : Name) → slice_get es i ≡ Some y → (f (p + i) ≡ y) × (IsOwnPromise u y → ⊥)) → AllOf (ToldSo u ns) (told_imports f p ls)
   unfolding told_imports

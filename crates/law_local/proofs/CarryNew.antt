@@ -121,10 +121,7 @@ module _ (object : Local → Bool) (me peer : ℕ) (c : Connection Local) where
   late_name (op.YourExport p) s = late_told_if Old (slice_get c.exports p) s
   late_name (op.MyAnswer q) s = late_told_if Old (slice_get c.questions q) s
   late_name (op.YourAnswer q) s = late_told_if Old (slice_get c.answers q) s
-  late_name (op.Datum x) s = tt
-  late_name (op.ListOf ds) s = tt
-  late_name (op.Broken p) s = tt
-  late_name (op.Third h i) s = tt
+  late_name other s = tt
 
   late_gift : (h i : ℕ) (o : Option Local) (s : Stage Local) → Late s (tables.gift_heard object me peer (newcomers peer) c h i o s)
   unfolding tables.gift_heard told newcomers
@@ -139,8 +136,6 @@ module _ (object : Local → Bool) (me peer : ℕ) (c : Connection Local) where
     unfolding tables.passed_heard tables.all_heard
 
     late_passed : (d : Described) (s : Stage Local) → Late s (tables.passed_heard object me peer (newcomers peer) c d s)
-    late_passed (op.Datum x) s = late_told _ s
-    late_passed (op.Broken p) s = late_told _ s
     late_passed (op.ListOf ds) s = late_next _ s (tables.all_heard object me peer (newcomers peer) c ds s) (late_all ds s) (λ x t. late_told _ t)
     late_passed (op.Third h w) s = late_gift h (key peer w) (learnt_at h (key peer w) s.learnt) s
     late_passed (op.MyExport p) s = late_reference (op.MyExport p) s
@@ -148,6 +143,7 @@ module _ (object : Local → Bool) (me peer : ℕ) (c : Connection Local) where
     late_passed (op.YourExport p) s = late_reference (op.YourExport p) s
     late_passed (op.MyAnswer q) s = late_reference (op.MyAnswer q) s
     late_passed (op.YourAnswer q) s = late_reference (op.YourAnswer q) s
+    late_passed other s = late_told _ s
 
     late_all : (ds : Members) (s : Stage Local) → Late s (tables.all_heard object me peer (newcomers peer) c ds s)
     late_all op.none s = late_told _ s

@@ -96,11 +96,7 @@ ends_before a b v u xs n h x e = by (way_came severed (λ y. refl) (λ y. refl) 
 note_lost : (script : Script) (n : Note Name) (ns : List (Note Name)) → map LostCut (carried_in n) ++ lost_by script ns ≡ lost_by script (n ∷ ns)
 unfolding lost_by carried_in
 note_lost script (Deliver d n verb ys) ns = refl
-note_lost script (Open i n) ns = refl
-note_lost script (Ask p i n) ns = refl
-note_lost script (SettledTo n y) ns = refl
-note_lost script (Elsewhere n c) ns = refl
-note_lost script (Shorten n c i) ns = refl
+note_lost script other ns = refl
 
 lost_same : (script : Script) (xs : List Frame) → lost_frames xs ≡ lost_by script (map (λ (f : Frame). f.note) xs)
 unfolding lost_frames lost_by

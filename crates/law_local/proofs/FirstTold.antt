@@ -46,11 +46,7 @@ Behind ks ns ls = (ls ≡ ks ++ ns) × AllOf IsNoObject ns
 not_object : (ks : List Name) (n : Name) → is_old ks n ≡ false → is_object n ≡ false
 unfolding is_old is_object
 not_object ks (Object v i) e = cc
-not_object ks (Root v) e = refl
-not_object ks (Promise v i) e = refl
-not_object ks (Answer h m) e = refl
-not_object ks (Gift h i) e = refl
-not_object ks (Sent m) e = refl
+not_object ks other e = refl
 
 name_behind : (ks : List Name) (n : Name) → Behind ks (In (read_name ks n)) (known_after ks n)
 unfolding read_name known_after
@@ -66,14 +62,7 @@ none_behind ks = (sym (append-nil ks), tt)
 value_behind : (ks : List Name) (y : Value Name) → Behind ks (InValue (world.read_value ks y).read) (world.read_value ks y).known
 unfolding world.read_value
 value_behind ks (Ref n) = name_behind ks n
-value_behind ks Null = none_behind ks
-value_behind ks (Flag b) = none_behind ks
-value_behind ks (Number z) = none_behind ks
-value_behind ks (Letter c) = none_behind ks
-value_behind ks (Text t) = none_behind ks
-value_behind ks (Prim i) = none_behind ks
-value_behind ks (Broken t) = none_behind ks
-value_behind ks (Items k) = none_behind ks
+value_behind ks other = none_behind ks
 
 both_behind : (ks ns ls ms js : List Name) → Behind ks ns ls → Behind ls ms js → Behind ks (ns ++ ms) js
 both_behind ks ns ls ms js a b = (b.0 ∙ ap (λ (xs : List Name). xs ++ ms) a.0 ∙ append_assoc ks ns ms, all_append IsNoObject ns ms a.1 b.1)
@@ -98,11 +87,7 @@ mutual
 -- what a message is sent to is known by then
 abbrev pub TargetIsOld : List Name → Note Name → Type 0
 TargetIsOld ks (Deliver d n verb ys) = is_old (world.read_all ys ks).known n ≡ true
-TargetIsOld ks (Open i n) = Unit {0}
-TargetIsOld ks (Ask p i n) = Unit {0}
-TargetIsOld ks (SettledTo n y) = Unit {0}
-TargetIsOld ks (Elsewhere n c) = Unit {0}
-TargetIsOld ks (Shorten n c i) = Unit {0}
+TargetIsOld ks other = Unit {0}
 
 read_old : (ks : List Name) (n : Name) → is_old ks n ≡ true → read_name ks n ≡ Old n
 unfolding read_name
@@ -124,11 +109,7 @@ note_behind ks (Shorten n c i) e = name_behind ks n
 pub heard_first : (v u : ℕ) (n : Note (Incoming Name Name)) → first_told (as_heard v u n) ≡ first_told n
 unfolding as_heard as_told
 heard_first v u (Deliver d x verb ys) = refl
-heard_first v u (Open i x) = refl
-heard_first v u (Ask p i x) = refl
-heard_first v u (SettledTo x y) = refl
-heard_first v u (Elsewhere x c) = refl
-heard_first v u (Shorten x c i) = refl
+heard_first v u other = refl
 
 -- ---- and with names changed
 
@@ -145,14 +126,7 @@ module _ {M : Type 0} (f : Name → M) where
 
   value_changed : (y : Value (Incoming Name Name)) → news_value f Given (maps.value On y) ≡ map f (InValue y)
   value_changed (Ref x) = in_changed x
-  value_changed Null = refl
-  value_changed (Flag b) = refl
-  value_changed (Number z) = refl
-  value_changed (Letter c) = refl
-  value_changed (Text t) = refl
-  value_changed (Prim i) = refl
-  value_changed (Broken t) = refl
-  value_changed (Items k) = refl
+  value_changed other = refl
 
   joined : (xs ys : List M) (ns ms : List Name) → xs ≡ map f ns → ys ≡ map f ms → xs ++ ys ≡ map f (ns ++ ms)
   joined xs ys ns ms e i = ap (λ zs. zs ++ ys) e ∙ ap (λ zs. map f ns ++ zs) i ∙ sym (map-append f ns ms)

@@ -54,11 +54,7 @@ use Rattle.law_local.proofs.Steps.{learnt_still, tables_still}
 target_old : (u v : ℕ) (ks : List Name) (n : Note Name) → ((y : Name) → IsAmong y (told_in n) → host_of y ≡ u → IsKnownIn ks y) → IsBetween v u n → TargetIsOld ks n
 unfolding told_in
 target_old u v ks (Deliver d n verb ys) f e = let K = (world.read_all ys ks).known in known_old K n (known_up ks K (λ y a. starts_among ks K (all_known ys ks) y a) n (f n (inl refl) e))
-target_old u v ks (Open i n) f e = tt
-target_old u v ks (Ask p i n) f e = tt
-target_old u v ks (SettledTo n y) f e = tt
-target_old u v ks (Elsewhere n c) f e = tt
-target_old u v ks (Shorten n c i) f e = tt
+target_old u v ks other f e = tt
 
 -- ---- gifts that were learnt
 

@@ -192,9 +192,8 @@ module _ (script : Script) (lawful : IsLawful script) (u : ℕ) (w x : World) (X
         where
           by : (o : Done Name (Unit {0})) → d ≡ o → IsQuiet o → BothTake
           by (Gives a r) i z = turn_goes r i
-          by (Throws p r) i z = absurd z
-          by (Ejects k v r) i z = absurd z
           by (Stops c r) i z = turn_ends c r i
+          by other i z = absurd z
 
     some_turns : TurnMirrors
     some_turns = by_queues (by s.queue refl)

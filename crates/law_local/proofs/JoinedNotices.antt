@@ -90,9 +90,8 @@ module _ (script : Script) (lawful : IsLawful script) (v u : ℕ) (w x : World) 
       where
         by : (o : Done Name (Unit {0})) → d ≡ o → IsQuiet o → BothNotice
         by (Gives a r) i z = notice_goes r i
-        by (Throws p r) i z = absurd z
-        by (Ejects k y r) i z = absurd z
         by (Stops c r) i z = notice_ends c r i
+        by other i z = absurd z
 
   notice_is : NoticeMirrors
   notice_is = by (slice_get x.vats v) refl

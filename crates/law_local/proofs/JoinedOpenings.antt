@@ -146,9 +146,8 @@ module _ (script : Script) (once : KnowsOnce script) (ps rest : List Program) (p
       where
         by : (o : Done Name (Unit {0})) → d ≡ o → IsQuiet o → OpeningMirrors
         by (Gives a r) i z = opening_goes r i
-        by (Throws q r) i z = absurd z
-        by (Ejects k v r) i z = absurd z
         by (Stops c r) i z = opening_ends c r i
+        by other i z = absurd z
 
 pub openings_so : OpeningsMirror
 openings_so script once ps rest p x X split opened h =

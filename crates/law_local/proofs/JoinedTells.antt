@@ -78,11 +78,7 @@ answers_so e n h = absurd h
 
 asks_so : (x : Note Name) (n : Name) → told.AsksAs x n → AsksAs n x
 asks_so (Deliver d t verb ys) n h = h
-asks_so (Ask p i t) n h = h
-asks_so (Open i t) n h = h
-asks_so (SettledTo t y) n h = h
-asks_so (Elsewhere t c) n h = h
-asks_so (Shorten t c i) n h = h
+asks_so other n h = h
 
 line_tells : (ns ms : List Name) (e : Happened Name) → LineFits ns ms e → MessageTells (message_of e)
 unfolding message_of
@@ -93,10 +89,7 @@ line_tells ns ms e h = tt
 note_tells : (r : Vat Name) → AllOf IsMessageName r.mails → (w : ℕ) (x : Note Name) → AsksKnown r w x → NoteTells w x
 note_tells r h w (Deliver d n verb ys) k = (all_among IsMessageName r.mails d.message h k.0, λ x e. (k.1 x e).0)
 note_tells r h w (Ask p i n) k = k.0
-note_tells r h w (Open i n) k = tt
-note_tells r h w (SettledTo n y) k = tt
-note_tells r h w (Elsewhere n c) k = tt
-note_tells r h w (Shorten n c i) k = tt
+note_tells r h w other k = tt
 
 -- where what the note that arrived brought came, if one did
 told_so : (u : ℕ) (s r : Vat Name) (o : Option (Note Name)) (came : List Name) (n : Name) → (IsBroughtBy u (names_in s.known) o n → IsAmong n came) → IsTold u s o r n

@@ -11,14 +11,7 @@ use Rattle.law_frame.specs.Together.{ValueMay, PassedMay, AllMay, NoteMay, Table
 module _ {N M : Type 0} (f : N → M) (P : N → Bool) (Q : M → Bool) (back : (n : N) → Q (f n) ≡ true → P n ≡ true) where
   value_back : (y : Value N) → ValueMay Q (maps.value f y) → ValueMay P y
   value_back (Ref n) h = back n h
-  value_back Null h = tt
-  value_back (Flag b) h = tt
-  value_back (Number z) h = tt
-  value_back (Letter c) h = tt
-  value_back (Text t) h = tt
-  value_back (Prim i) h = tt
-  value_back (Broken t) h = tt
-  value_back (Items k) h = tt
+  value_back other h = tt
 
   mutual
     passed_back : (y : Passed N) → PassedMay Q (maps.passed f y) → PassedMay P y
@@ -49,14 +42,7 @@ module _ {N M : Type 0} (f : N → M) (P : N → Bool) (Q : M → Bool) (back : 
 module _ {N M : Type 0} (f : N → M) (P : N → Bool) (Q : M → Bool) (on : (n : N) → P n ≡ true → Q (f n) ≡ true) where
   value_on : (y : Value N) → ValueMay P y → ValueMay Q (maps.value f y)
   value_on (Ref n) h = on n h
-  value_on Null h = tt
-  value_on (Flag b) h = tt
-  value_on (Number z) h = tt
-  value_on (Letter c) h = tt
-  value_on (Text t) h = tt
-  value_on (Prim i) h = tt
-  value_on (Broken t) h = tt
-  value_on (Items k) h = tt
+  value_on other h = tt
 
   mutual
     passed_on : (y : Passed N) → PassedMay P y → PassedMay Q (maps.passed f y)

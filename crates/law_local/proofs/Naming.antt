@@ -124,29 +124,7 @@ module _ (u : ℕ) (ns : List Name) (ts : List Told) (sound : AllOf (ToldSo u ns
 message_mapped : {N M : Type 0} (f : N → M) (e : Happened N) → message_of (maps.line f e) ≡ option_map (maps.message f) (message_of e)
 unfolding message_of
 message_mapped f (Sends act m) = refl
-message_mapped f (Reacts act x o m) = refl
-message_mapped f (Took a m) = refl
-message_mapped f (Called a x verb args b) = refl
-message_mapped f (Back a v) = refl
-message_mapped f (Thrown a p) = refl
-message_mapped f (Left a) = refl
-message_mapped f (Got a v) = refl
-message_mapped f (SlotMade a k v) = refl
-message_mapped f (SlotRead a k v) = refl
-message_mapped f (SlotWrote a k v) = refl
-message_mapped f (ListMade a k vs) = refl
-message_mapped f (ListCame k vs) = refl
-message_mapped f (EjectorMade a j) = refl
-message_mapped f (AuditionMade a j) = refl
-message_mapped f (PromiseMade a p r) = refl
-message_mapped f (ObjectMade a n x bs vs) = refl
-message_mapped f (Finished a v) = refl
-message_mapped f (Threw a p) = refl
-message_mapped f (Settles p y) = refl
-message_mapped f (Waits p q) = refl
-message_mapped f (Views p q) = refl
-message_mapped f (Lost m) = refl
-message_mapped f (Posted w m) = refl
+message_mapped f other = refl
 
 module _ (u : ℕ) (s r : Vat Name) (p : Vat Local) (t : Table) (carried came : List Name) (names : t.names ≡ names_in r.known) (mails : t.mails ≡ r.mails) (good : IsTable u t) (stands : StandsFor u t p r) (tells : Tells u s r carried came) where
   abbrev ns : List Name
@@ -221,26 +199,18 @@ module _ (u : ℕ) (s r : Vat Name) (p : Vat Local) (t : Table) (carried came : 
     where
       clash : {j : ℕ} → Answer h m ≡ Promise u j → ⊥
       clash e = cc
-  answer_not h (Root v) i o = i
-  answer_not h (Object v x) i o = i
-  answer_not h (Promise v x) i o = i
-  answer_not h (Answer g x) i o = i
-  answer_not h (Gift g x) i o = i
+  answer_not h other i o = i
 
   -- a promise that is told to be that
   promise_all : (a : Local) (n y : Name) → f a ≡ Is n → ((k : ℕ) → a ≡ Prom k → y ≡ n) → (IsOwnPromise u n → ⊥) → AllOf So (of_promise a y)
   unfolding of_promise
   promise_all (Prom k) n y e h o = let i = h k refl in ((prom_at k n e ∙ ap Some (sym i), λ x. o (x.0, sym i ∙ x.1)), tt)
-  promise_all (Obj j) n y e h o = tt
-  promise_all (Far g q) n y e h o = tt
-  promise_all (Mess j) n y e h o = tt
+  promise_all other n y e h o = tt
 
   promise_some : (k : ℕ) (a : Local) (y : Name) → a ≡ Prom k → SomeOf (At k) (of_promise a y)
   unfolding of_promise
   promise_some k (Prom j) y e = let i : j ≡ k = cc in inl i
-  promise_some k (Obj j) y e = cc
-  promise_some k (Far g q) y e = cc
-  promise_some k (Mess j) y e = cc
+  promise_some k other y e = cc
 
   -- ---- of one line
 
@@ -251,29 +221,7 @@ module _ (u : ℕ) (s r : Vat Name) (p : Vat Local) (t : Table) (carried came : 
   line_told : (e : Happened Local) → told_by_line u p.known r.mails e ≡ told_by_message (message_of e)
   unfolding told_by_line message_of
   line_told (Sends act m) = refl
-  line_told (Reacts act x o m) = refl
-  line_told (Took a m) = refl
-  line_told (Called a x verb args b) = refl
-  line_told (Back a v) = refl
-  line_told (Thrown a z) = refl
-  line_told (Left a) = refl
-  line_told (Got a v) = refl
-  line_told (SlotMade a k v) = refl
-  line_told (SlotRead a k v) = refl
-  line_told (SlotWrote a k v) = refl
-  line_told (ListMade a k vs) = refl
-  line_told (ListCame k vs) = refl
-  line_told (EjectorMade a j) = refl
-  line_told (AuditionMade a j) = refl
-  line_told (PromiseMade a z q) = refl
-  line_told (ObjectMade a n x bs vs) = refl
-  line_told (Finished a v) = refl
-  line_told (Threw a z) = refl
-  line_told (Settles z y) = refl
-  line_told (Waits z q) = refl
-  line_told (Views z q) = refl
-  line_told (Lost m) = refl
-  line_told (Posted w m) = refl
+  line_told other = refl
 
   answer_told : (id : Local) (a : Option Local) (m : Name) (o : Option Name) → f id ≡ Is m → option_map f a ≡ option_map Is o → IsMessageName m → ((n : Name) → o ≡ Some n → n ≡ answer_of (host_of n) m) → AllOf So (told_by_answer u p.known r.mails id a)
   unfolding told_by_answer
@@ -336,20 +284,9 @@ module _ (u : ℕ) (s r : Vat Name) (p : Vat Local) (t : Table) (carried came : 
       let same : maps.delivery f d ≡ maps.delivery Is e = cc in
       option_told w d.message d.answer e.message e.answer (ap (λ (k : Delivery Found). k.message) same) (ap (λ (k : Delivery Found). k.answer) same) h.0 h.1
   note_so w (Ask g j x) (Ask q k z) i h = let a : f x ≡ Is z = cc in let b : j ≡ k = cc in promise_all x z (Gift w j) a (λ c l. ap (Gift w) b ∙ sym h) (gift_not w k z h)
-  note_so w (Open j x) y i h = tt
-  note_so w (SettledTo x z) y i h = tt
-  note_so w (Elsewhere x c) y i h = tt
-  note_so w (Shorten x c j) y i h = tt
-  note_so w (Deliver d x verb ys) (Open j z) i h = cc
-  note_so w (Deliver d x verb ys) (Ask q k z) i h = cc
-  note_so w (Deliver d x verb ys) (SettledTo z v) i h = cc
-  note_so w (Deliver d x verb ys) (Elsewhere z c) i h = cc
-  note_so w (Deliver d x verb ys) (Shorten z c j) i h = cc
-  note_so w (Ask g j x) (Deliver e z v zs) i h = cc
-  note_so w (Ask g j x) (Open k z) i h = cc
-  note_so w (Ask g j x) (SettledTo z v) i h = cc
-  note_so w (Ask g j x) (Elsewhere z c) i h = cc
-  note_so w (Ask g j x) (Shorten z c k) i h = cc
+  note_so w (Deliver d x verb ys) other i h = cc
+  note_so w (Ask g j x) other i h = cc
+  note_so w other y i h = tt
 
   note_at : (k : ℕ) (n : Name) → slice_get ns k ≡ Some n → (w : ℕ) (x : Note Local) (y : Note Name) → maps.note f x ≡ maps.note Is y → AsksAs n y → SomeOf (At k) (told_by_note u p.known r.mails w x)
   unfolding told_by_note of_answer
@@ -362,20 +299,9 @@ module _ (u : ℕ) (s r : Vat Name) (p : Vat Local) (t : Table) (carried came : 
       by (Some a) j = let b : f a ≡ Is n = cc in promise_some k a (answer_of w (mail_at r.mails d.message)) (number_is a n k b at)
       by None j = cc
   note_at k n at w (Ask g j x) (Ask q c z) i h = let a : f x ≡ Is z = cc in promise_some k x (Gift w j) (number_is x n k (a ∙ ap Is h) at)
-  note_at k n at w x (Open j z) i h = absurd h
-  note_at k n at w x (SettledTo z v) i h = absurd h
-  note_at k n at w x (Elsewhere z c) i h = absurd h
-  note_at k n at w x (Shorten z c j) i h = absurd h
-  note_at k n at w (Open j x) (Deliver e z v zs) i h = cc
-  note_at k n at w (Ask g j x) (Deliver e z v zs) i h = cc
-  note_at k n at w (SettledTo x b) (Deliver e z v zs) i h = cc
-  note_at k n at w (Elsewhere x c) (Deliver e z v zs) i h = cc
-  note_at k n at w (Shorten x c j) (Deliver e z v zs) i h = cc
-  note_at k n at w (Deliver d x verb ys) (Ask q c z) i h = cc
-  note_at k n at w (Open j x) (Ask q c z) i h = cc
-  note_at k n at w (SettledTo x b) (Ask q c z) i h = cc
-  note_at k n at w (Elsewhere x b) (Ask q c z) i h = cc
-  note_at k n at w (Shorten x b j) (Ask q c z) i h = cc
+  note_at k n at w other (Deliver e z v zs) i h = cc
+  note_at k n at w other (Ask q c z) i h = cc
+  note_at k n at w x other i h = absurd h
 
   put_so : (x : Put Local) (y : Put Name) → maps.put f x ≡ maps.put Is y → NoteTells y.to y.note → AllOf So (told_by_put u p.known r.mails x)
   unfolding told_by_put

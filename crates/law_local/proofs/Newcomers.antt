@@ -23,13 +23,7 @@ module _ (P : ℕ → Type 0) where
     pub Fits : Described → Type 0
     Fits (op.MyExport p) = P p
     Fits (op.ListOf ds) = AllFit ds
-    Fits (op.MyPromise p) = Unit {0}
-    Fits (op.YourExport p) = Unit {0}
-    Fits (op.MyAnswer q) = Unit {0}
-    Fits (op.YourAnswer q) = Unit {0}
-    Fits (op.Datum x) = Unit {0}
-    Fits (op.Broken p) = Unit {0}
-    Fits (op.Third h i) = Unit {0}
+    Fits other = Unit {0}
 
     pub AllFit : Members → Type 0
     AllFit op.none = Unit {0}
@@ -56,14 +50,7 @@ module _ {N V : Type 0} (X : V → N) (Y : ℕ → ℕ → N) where
 
   abbrev pub news_value : Value (Incoming N V) → List N
   news_value (Ref x) = news_in x
-  news_value Null = []
-  news_value (Flag b) = []
-  news_value (Number z) = []
-  news_value (Letter c) = []
-  news_value (Text t) = []
-  news_value (Prim i) = []
-  news_value (Broken t) = []
-  news_value (Items k) = []
+  news_value other = []
 
   abbrev mutual
     pub news_passed : Passed (Incoming N V) → List N
@@ -209,10 +196,7 @@ module _ {N V : Type 0} (object : N → Bool) (me peer : ℕ) (O : ℕ → N) (K
   name_alike (op.YourExport p) s e = if_alike (slice_get c.exports p) s
   name_alike (op.MyAnswer q) s e = if_alike (slice_get c.questions q) s
   name_alike (op.YourAnswer q) s e = if_alike (slice_get c.answers q) s
-  name_alike (op.Datum x) s e = tt
-  name_alike (op.ListOf ds) s e = tt
-  name_alike (op.Broken p) s e = tt
-  name_alike (op.Third h i) s e = tt
+  name_alike other s e = tt
 
   -- ---- what passes
 

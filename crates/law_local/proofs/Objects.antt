@@ -46,14 +46,7 @@ module _ {N : Type 0} (S : Sight N) (c : Connection N) (P : ℕ → Type 0) (at 
   value_fits : (y : Value N) → Fits P (write.described_value S c y)
   unfolding write.described_value
   value_fits (Ref n) = described_fits n
-  value_fits Null = tt
-  value_fits (Flag b) = tt
-  value_fits (Number z) = tt
-  value_fits (Letter x) = tt
-  value_fits (Text t) = tt
-  value_fits (Prim i) = tt
-  value_fits (Broken t) = tt
-  value_fits (Items k) = tt
+  value_fits other = tt
 
   mutual
     unfolding write.described_passed write.described_all
@@ -94,11 +87,7 @@ place_of v u ns n e = ap (slice_get ns) (place_rank v u ns n) ∙ get_rank ns n 
 object_is : (n : Name) (v : ℕ) → is_object n ≡ true → host_of n ≡ v → (j : ℕ) × (n ≡ Object v j)
 unfolding is_object host_of
 object_is (Object w j) v e h = (j, ap (λ x. Object x j) h)
-object_is (Root w) v e h = cc
-object_is (Promise w i) v e h = cc
-object_is (Answer w m) v e h = cc
-object_is (Gift w i) v e h = cc
-object_is (Sent m) v e h = cc
+object_is other v e h = cc
 
 module _ (v u : ℕ) (ns : List Name) (P : ℕ → Type 0) (fit : (p j : ℕ) → slice_get ns p ≡ Some (Object v j) → P p) (n : Note Name) where
   -- So the frame of a note from v to u fits where the exports of v, with those of the note, are the first of those.

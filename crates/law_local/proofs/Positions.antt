@@ -17,12 +17,7 @@ use Rattle.law_local.proofs.Sights.{some_name, some_mail, some_far}
 object_some : (o : Option Name) (j : ℕ) → object_of o ≡ Some j → (w : ℕ) × (o ≡ Some (Object w j))
 unfolding object_of
 object_some (Some (Object w i)) j e = let k : i ≡ j = cc in (w, ap (λ x. Some (Object w x)) k)
-object_some (Some (Root w)) j e = cc
-object_some (Some (Promise w i)) j e = cc
-object_some (Some (Answer w m)) j e = cc
-object_some (Some (Gift w i)) j e = cc
-object_some (Some (Sent m)) j e = cc
-object_some None j e = cc
+object_some other j e = cc
 
 none_same : (v h : ℕ) (b : Bool) (o : Option ℕ) (j : ℕ) → (v == h) ≡ b → ◌≡◌ {A = Option ℕ} (elim b [ true ↦ None | false ↦ o ]) (Some j) → (v ≡ h → ⊥) × (o ≡ Some j)
 none_same v h true o j e i = cc

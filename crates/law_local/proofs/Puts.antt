@@ -19,23 +19,12 @@ module _ (ns ms : List Name) (known : AllOf IsEventual ns) (mails : AllOf IsMess
 
   name_refers : (n : Name) → IsKnownIn ns n → refers n ≡ true
   unfolding refers
-  name_refers (Root v) h = refl
-  name_refers (Object v i) h = refl
-  name_refers (Promise v i) h = refl
-  name_refers (Answer g m) h = refl
-  name_refers (Gift g i) h = refl
   name_refers (Sent m) h = absurd (all_among IsEventual ns (Sent m) known h)
+  name_refers other h = refl
 
   value_refers : (y : Value Name) → ValueOk P y → ValueMay refers y
   value_refers (Ref n) h = name_refers n h
-  value_refers Null h = tt
-  value_refers (Flag b) h = tt
-  value_refers (Number z) h = tt
-  value_refers (Letter c) h = tt
-  value_refers (Text t) h = tt
-  value_refers (Prim i) h = tt
-  value_refers (Broken t) h = tt
-  value_refers (Items k) h = tt
+  value_refers other h = tt
 
   mutual
     passed_refers : (y : Passed Name) → PassedOk P y → PassedMay refers y
@@ -58,11 +47,7 @@ module _ (ns ms : List Name) (known : AllOf IsEventual ns) (mails : AllOf IsMess
   answer_refers : (v : ℕ) (m : Name) → IsMessageName m → refers (answer_of v m) ≡ true
   unfolding refers answer_of
   answer_refers v (Sent m) h = refl
-  answer_refers v (Root w) h = absurd h
-  answer_refers v (Object w i) h = absurd h
-  answer_refers v (Promise w i) h = absurd h
-  answer_refers v (Answer g m) h = absurd h
-  answer_refers v (Gift g i) h = absurd h
+  answer_refers v other h = absurd h
 
   asked_or : (u v : ℕ) (b : Bool) (m : Name) → IsMessageName m → AllOf (λ n. refers n ≡ true) (answer_if (sight u v) b m)
   unfolding answer_if sight
@@ -72,11 +57,8 @@ module _ (ns ms : List Name) (known : AllOf IsEventual ns) (mails : AllOf IsMess
   asks_refer : (u v : ℕ) (n : Note Name) → NoteOk P n → AllOf (λ n. refers n ≡ true) (asked_in (sight u v) n)
   unfolding asked_in
   asks_refer u v (Deliver d n verb ys) h = asked_or u v d.asks d.message (all_among IsMessageName ms d.message mails h.0)
-  asks_refer u v (Open i n) h = tt
   asks_refer u v (Ask p i n) h = (name_refers n h.1, tt)
-  asks_refer u v (SettledTo n y) h = tt
-  asks_refer u v (Elsewhere n c) h = tt
-  asks_refer u v (Shorten n c i) h = tt
+  asks_refer u v other h = tt
 
   puts_refer : (u : ℕ) (ps : List (Put Name)) → AllOf (PutOk P) ps → AllOf (λ (p : Put Name). NoteMay refers p.note) ps × AllOf (λ (p : Put Name). AllOf (λ n. refers n ≡ true) (asked_in (sight u p.to) p.note)) ps
   puts_refer u [] h = (tt, tt)

@@ -77,11 +77,7 @@ no_object u (Object h j) e = by (u == h) e
     by : (a : Bool) → ◌≡◌ {A = Spot} (elim a [ true ↦ Own j | false ↦ Foreign h ]) NoObject → true ≡ false
     by true l = cc
     by false l = cc
-no_object u (Root w) e = refl
-no_object u (Promise w i) e = refl
-no_object u (Answer h m) e = refl
-no_object u (Gift h i) e = refl
-no_object u (Sent m) e = refl
+no_object u other e = refl
 
 module _ (u : ℕ) (t : Table) (good : IsTable u t) (r : Vat Name) (p : Vat Local) (stands : StandsFor u t p r) (names : t.names ≡ names_in r.known) (so : PutsSo u r) where
   numbered : p.number ≡ u
@@ -132,10 +128,8 @@ module _ (u : ℕ) (t : Table) (good : IsTable u t) where
 
   pub found_refers : (a : Local) → refers_found (found u t a) ≡ true → refers_here a ≡ true
   unfolding found refers_here
-  found_refers (Obj i) h = refl
-  found_refers (Prom k) h = refl
-  found_refers (Far g q) h = refl
   found_refers (Mess j) h = mail_or j (slice_get t.mails j) refl h
+  found_refers other h = refl
 
   pub is_refers : (n : Name) → refers n ≡ true → refers_found (Is n) ≡ true
   unfolding refers_found

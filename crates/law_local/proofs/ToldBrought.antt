@@ -39,15 +39,8 @@ module _ (known : List Name) (v : ℕ) (P : Bit Name → Type 0) (own : (i : ℕ
 
   value_old : (ks : List Name) (y : Value Name) → ValueOk P y → OldOwn ks → OldOwn (read_value ks y).known
   unfolding read_value
-  value_old ks Null p h = h
-  value_old ks (Flag b) p h = h
-  value_old ks (Number z) p h = h
-  value_old ks (Letter c) p h = h
-  value_old ks (Text t) p h = h
-  value_old ks (Prim i) p h = h
-  value_old ks (Broken t) p h = h
-  value_old ks (Items k) p h = h
   value_old ks (Ref n) p h = after_old ks n p h
+  value_old ks other p h = h
 
   gift_old : (ks : List Name) (g j : ℕ) → OldOwn ks → OldOwn (ks ++ Gift g j ∷ [])
   gift_old ks g j h i a = go (among_or (Promise v i) ks (Gift g j) a)
@@ -81,19 +74,11 @@ module _ (known : List Name) (v : ℕ) (P : Bit Name → Type 0) (own : (i : ℕ
 no_answer : (v i : ℕ) (m : Name) → IsMessageName m → answer_of v m ≡ Promise v i → ⊥
 unfolding answer_of
 no_answer v i (Sent m) h e = cc
-no_answer v i (Root w) h e = h
-no_answer v i (Object w j) h e = h
-no_answer v i (Promise w j) h e = h
-no_answer v i (Answer w m) h e = h
-no_answer v i (Gift w j) h e = h
+no_answer v i other h e = h
 
 not_due : (v i : ℕ) (n : Note Name) → MailFits n → DueIn v n (Promise v i) → ⊥
 not_due v i (Deliver d n verb ys) h e = no_answer v i d.message h e.1
-not_due v i (Open j n) h e = e
-not_due v i (Ask g j n) h e = e
-not_due v i (SettledTo n y) h e = e
-not_due v i (Elsewhere n c) h e = e
-not_due v i (Shorten n c j) h e = e
+not_due v i other h e = e
 
 none_some : (n : Note Name) → Some n ≡ None → ⊥
 none_some n e = cc
@@ -109,6 +94,4 @@ module _ (script : Script) (w : World) (g : Stands script w) (v : ℕ) (s : Vat 
   pub brings_none : (what : Step Name Name) (o : Option (Note Name)) → Brings w v s what o → (i : ℕ) → IsBroughtBy v (names_in s.known) o (Promise v i) → IsAmong (Promise v i) (names_in s.known)
   brings_none what None b i a = absurd a
   brings_none (Receives from m) (Some n) b i a = brought_by from n (note_made script w g from v b.0 n b.1 b.2) i a
-  brings_none (Starts tree depth root given) (Some n) b i a = absurd (none_some n b)
-  brings_none (Takes tree depth m) (Some n) b i a = absurd (none_some n b)
-  brings_none (Notices u) (Some n) b i a = absurd (none_some n b)
+  brings_none other (Some n) b i a = absurd (none_some n b)

@@ -19,8 +19,7 @@ abbrev pub Brings : World → ℕ → Vat Name → Step Name Name → Option (No
 Brings w v s (Receives from m) (Some n) = (l : Link) × (link_at from v w.links ≡ Some l) × IsAmong n l.notes × (m ≡ read_note (names_of s) n)
 Brings w v s (Receives from m) None = ⊥
 Brings w v s (Starts tree depth root given) o = o ≡ None
-Brings w v s (Takes tree depth m) o = o ≡ None
-Brings w v s (Notices u) o = o ≡ None
+Brings w v s other o = o ≡ None
 
 -- it holds of each vat, of what it was, of what a step of it brings, and of what the step leaves, whatever step may be the next
 abbrev pub EachStep : Script → (ℕ → Vat Name → Option (Note Name) → Vat Name → Type 0) → World → Type 0
@@ -31,9 +30,7 @@ put_gives : (v : ℕ) (x y : World) (head : List Event) (n : ℕ) (s r : Vat Nam
 unfolding world.put_back
 put_gives v x y head n s r (Gives u t) there after e = let vats : put_at v t x.vats ≡ y.vats = ap (λ (w : World). w.vats) (going_is _ y e) in let got : slice_get (put_at v t x.vats) v ≡ Some t = get_put x.vats v s t there in
     let same : Some t ≡ Some r = sym got ∙ ap (λ us. slice_get us v) vats ∙ after in let here : t ≡ r = cc in ap (λ (z : Vat Name). Gives tt z) here
-put_gives v x y head n s r (Throws p t) there after e = cc
-put_gives v x y head n s r (Ejects m z t) there after e = cc
-put_gives v x y head n s r (Stops c t) there after e = cc
+put_gives v x y head n s r other there after e = cc
 
 module _ (script : Script) (P : ℕ → Vat Name → Option (Note Name) → Vat Name → Type 0) (x y : World) (law : EachStep script P x) (v : ℕ) (s r : Vat Name) (there : slice_get x.vats v ≡ Some s) (after : slice_get y.vats v ≡ Some r) where
   takes : (k : ℕ) (m : Message Name) (ms : List (Message Name)) → s.queue ≡ m ∷ ms → world.turn_queue script k v x s (m ∷ ms) ≡ Going y → P v s None r

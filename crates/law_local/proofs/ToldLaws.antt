@@ -52,10 +52,9 @@ unfolding readied
 gifts_of script w v s q t what d e = rw e at (step_adds (names script v) what (readied w q) t d.gives)
 
 same_gifts : (script : Script) (w : World) (v : ℕ) (s q t : Vat Name) (what : Step Name Name) → Does script w v s q t what → q.gifts ≡ s.gifts
-same_gifts script w v s q t (Starts tree depth root given) d = ap (λ (x : Vat Name). x.gifts) (d.begins).2
-same_gifts script w v s q t (Takes tree depth m) d = ap (λ (x : Vat Name). x.gifts) (d.begins).2
 same_gifts script w v s q t (Receives from m) d = ap (λ (x : Vat Name). x.gifts) d.begins
 same_gifts script w v s q t (Notices u) d = ap (λ (x : Vat Name). x.gifts) d.begins
+same_gifts script w v s q t other d = ap (λ (x : Vat Name). x.gifts) (d.begins).2
 
 pub gifts_at_end : GiftsComeAtTheEnd
 gifts_at_end = in_steps _ (λ script w g h a v s q t what o b d. gifts_of script w v s q t what d (same_gifts script w v s q t what d))
@@ -70,10 +69,7 @@ asked_known script x v s w (Deliver d n verb ys) f k e = (k.0.1, answer)
     answer : (y : Name) → d.answer ≡ Some y → (y ≡ answer_of w d.message) × IsAmong y (names_in s.known)
     answer y i = let b = due_back w d.asks d.message y (sym e ∙ i) in (sym b.1, rw b.1 at (f b.0))
 asked_known script x v s w (Ask p i n) f k e = (f.1, f.0)
-asked_known script x v s w (Open i n) f k e = tt
-asked_known script x v s w (SettledTo n y) f k e = tt
-asked_known script x v s w (Elsewhere n c) f k e = tt
-asked_known script x v s w (Shorten n c i) f k e = tt
+asked_known script x v s w other f k e = tt
 
 puts_known : (script : Script) (x : World) (v : ℕ) (s : Vat Name) (ps : List (Put Name)) → AllOf (PutFits v (names_in s.known)) ps → AllOf (PutOk (Had script x v s)) ps → AllOf (λ (p : Put Name). NamesItsAnswer p.to p.note) ps → AllOf (λ (p : Put Name). AsksKnown s p.to p.note) ps
 puts_known script x v s [] f k e = tt
@@ -97,10 +93,7 @@ due_is w false m x e f = cc
 asks_as : (w : ℕ) (n : Note Name) (x : Name) → NamesItsAnswer w n → AsksOf w n x → AsksAs n x
 asks_as w (Deliver d n verb ys) x e h = e ∙ due_is w d.asks d.message x h.0 h.1
 asks_as w (Ask p i n) x e h = h
-asks_as w (Open i n) x e h = absurd h
-asks_as w (SettledTo n y) x e h = absurd h
-asks_as w (Elsewhere n c) x e h = absurd h
-asks_as w (Shorten n c i) x e h = absurd h
+asks_as w other x e h = absurd h
 
 all_at : (ps : List (Put Name)) (p : Put Name) → AllOf (λ (p : Put Name). NamesItsAnswer p.to p.note) ps → IsAmong p ps → NamesItsAnswer p.to p.note
 all_at [] p h a = absurd a
@@ -140,8 +133,7 @@ under_way : (w : World) (v : ℕ) (s : Vat Name) (what : Step Name Name) (o : Op
 under_way w v s (Receives from m) (Some n) b = (b.0, n, b.1, b.2, b.3)
 under_way w v s (Receives from m) None b = absurd b
 under_way w v s (Starts tree depth root given) o b = tt
-under_way w v s (Takes tree depth m) o b = tt
-under_way w v s (Notices u) o b = tt
+under_way w v s other o b = tt
 
 all_told : (script : Script) (v : ℕ) (w : World) (s t : Vat Name) (o : Option (Note Name)) → PutsNameAnswers t → Steady v (telling script v (names_in s.known) o) (Ready w s o) t → (ns : List Name) × (names_in t.known ≡ names_in s.known ++ ns) × AllOf (IsTold v s o t) ns
 unfolding readied

@@ -155,11 +155,7 @@ each_ordered script x g h v t e = let low = (g.vats v t e).low in let r = fresh_
 own_either : (v : ℕ) (n : Name) → is_own_promise v n ≡ true → (i : ℕ) × (n ≡ Promise v i)
 unfolding is_own_promise
 own_either v (Promise w i) e = let same : v ≡ w = eqb-true v w e in (i, ap (λ (u : ℕ). Promise u i) (sym same))
-own_either v (Root w) e = cc
-own_either v (Object w i) e = cc
-own_either v (Answer w m) e = cc
-own_either v (Gift w i) e = cc
-own_either v (Sent m) e = cc
+own_either v other e = cc
 
 is_own : (v i : ℕ) → is_own_promise v (Promise v i) ≡ true
 unfolding is_own_promise

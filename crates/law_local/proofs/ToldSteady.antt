@@ -44,11 +44,7 @@ Ready w s o = record (readied w s) { mails = s.mails ++ carried_by o }
 
 heard_among : (ns : List Name) (x : Name) → IsKnownIn ns x → IsNoObject x → IsAmong x ns
 heard_among ns (Object w i) h o = absurd o
-heard_among ns (Root w) h o = h
-heard_among ns (Promise w i) h o = h
-heard_among ns (Answer w m) h o = h
-heard_among ns (Gift w i) h o = h
-heard_among ns (Sent m) h o = h
+heard_among ns other h o = h
 
 led_gives : (v : ℕ) (P : Telling) (s t : Vat Name) (d : Done Name (Unit {0})) → Ends Any (Asking v P) s d → d ≡ Gives tt t → Asking v P s t
 led_gives v P s t d h e = rw e at h

@@ -29,16 +29,12 @@ use Rattle.law_local.proofs.Closing.{idles_mirror}
 -- what a step in numbers gives where it gives so in names
 pub given : (f : Local → Found) (d : Done Local (Unit {0})) (r : Vat Name) → maps.done f id d ≡ maps.done Is id (Gives tt r) → (p : Vat Local) × (d ≡ Gives tt p) × (maps.vat f p ≡ maps.vat Is r)
 given f (Gives tt p) r e = (p, refl, cc)
-given f (Throws z p) r e = cc
-given f (Ejects n z p) r e = cc
-given f (Stops c p) r e = cc
+given f other r e = cc
 
 -- and why it stops where it stops so in names
 pub stopped : (f : Local → Found) (d : Done Local (Unit {0})) (c : Stop) (r : Vat Name) → maps.done f id d ≡ maps.done Is id (Stops c r) → (p : Vat Local) × (d ≡ Stops c p)
 stopped f (Stops e p) c r i = let j : e ≡ c = cc in (p, ap (λ z. Stops z p) j)
-stopped f (Gives a p) c r i = cc
-stopped f (Throws z p) c r i = cc
-stopped f (Ejects n z p) c r i = cc
+stopped f other c r i = cc
 
 pub books_stopped : (t : Table) (c : Stop) (r : Vat Name) → names_in r.known ≡ t.names → r.mails ≡ t.mails → books_after {A = Unit {0}} (Stops c r) ≡ books_of t
 books_stopped t c r known mails = cc (known, mails)

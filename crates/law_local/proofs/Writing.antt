@@ -105,16 +105,8 @@ module _ (u n : ℕ) (t : Table) (good : IsTable u t) (r : Vat Name) (p : Vat Lo
       let asks : d.asks ≡ e.asks = ap (λ (z : Delivery Found). z.asks) same in
       let answer : option_map (found u t) d.answer ≡ option_map Is e.answer = ap (λ (z : Delivery Found). z.answer) same in
       some_of d.answer (Is (answer_of v e.message)) (answer ∙ ap (option_map Is) (due_some v e.asks e.message e.answer (sym asks ∙ b) a))
-  asks_so v (Deliver d x verb ys) (Open j y) i a = cc
-  asks_so v (Deliver d x verb ys) (Ask g j y) i a = cc
-  asks_so v (Deliver d x verb ys) (SettledTo y z) i a = cc
-  asks_so v (Deliver d x verb ys) (Elsewhere y c) i a = cc
-  asks_so v (Deliver d x verb ys) (Shorten y c j) i a = cc
-  asks_so v (Open j x) m i a = tt
-  asks_so v (Ask g j x) m i a = tt
-  asks_so v (SettledTo x z) m i a = tt
-  asks_so v (Elsewhere x c) m i a = tt
-  asks_so v (Shorten x c j) m i a = tt
+  asks_so v (Deliver d x verb ys) other i a = cc
+  asks_so v other m i a = tt
 
   abbrev Q : Found → Bool
   Q = refers_found u t good

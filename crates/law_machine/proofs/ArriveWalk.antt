@@ -48,15 +48,8 @@ module _ {N W : Type 0} (P : Property N) (K : Naming N W) (base : IsClosed P) (r
 
   pub walk_learn_value : (x1 : Value (Incoming N W)) → Holds P (arrive.learn_value K x1)
   unfolding arrive.learn_value
-  walk_learn_value Null = search (arrive_walk) depth 14
-  walk_learn_value (Flag b) = search (arrive_walk) depth 14
-  walk_learn_value (Number z) = search (arrive_walk) depth 14
-  walk_learn_value (Letter c) = search (arrive_walk) depth 14
-  walk_learn_value (Text t) = search (arrive_walk) depth 14
-  walk_learn_value (Prim n) = search (arrive_walk) depth 14
-  walk_learn_value (Broken p) = search (arrive_walk) depth 14
-  walk_learn_value (Items k) = search (arrive_walk) depth 14
   walk_learn_value (Ref x) = search (arrive_walk, walk_learn_name) depth 14
+  walk_learn_value other = search (arrive_walk) depth 14
 
   pub walk_ask_for : (x1 : ℕ) → (x2 : ℕ) → (x3 : ℕ) → (x4 : N) → Holds P (arrive.ask_for K x1 x2 x3 x4)
   unfolding arrive.ask_for
@@ -171,11 +164,7 @@ module _ {N W : Type 0} (P : Property N) (K : Naming N W) (base : IsClosed P) (r
   pub walk_break_back : (x1 : Note (Incoming N W)) → Holds P (receive.break_back K x1)
   unfolding receive.break_back
   walk_break_back (Elsewhere x c) = search (arrive_walk, walk_learn_name, walk_settle) depth 14
-  walk_break_back (Deliver d x verb ys) = search (arrive_walk) depth 14
-  walk_break_back (Open i x) = search (arrive_walk) depth 14
-  walk_break_back (Ask p i x) = search (arrive_walk) depth 14
-  walk_break_back (SettledTo x y) = search (arrive_walk) depth 14
-  walk_break_back (Shorten x c i) = search (arrive_walk) depth 14
+  walk_break_back other = search (arrive_walk) depth 14
 
   pub walk_receive_by : (x1 x2 : Bool) → (x3 : ℕ) → (x4 : Note (Incoming N W)) → Holds P (receive.receive_by K x1 x2 x3 x4)
   unfolding receive.receive_by
@@ -187,10 +176,9 @@ module _ {N W : Type 0} (P : Property N) (K : Naming N W) (base : IsClosed P) (r
 
   pub walk_break_hosted : (x1 : ℕ) → (x2 : N) → (x3 : Words) → (x4 : Standing N) → Holds P (arrive.break_hosted K x1 x2 x3 x4)
   unfolding arrive.break_hosted
-  walk_break_hosted w n p Unsettled = search (arrive_walk, walk_settle) depth 14
-  walk_break_hosted w n p (WaitsOn q) = search (arrive_walk, walk_settle) depth 14
   walk_break_hosted w n p (Viewed q) = search (arrive_walk) depth 14
   walk_break_hosted w n p (Settled y) = search (arrive_walk) depth 14
+  walk_break_hosted w n p other = search (arrive_walk, walk_settle) depth 14
 
   pub walk_notice_name : (x1 : ℕ) → (x2 : Known N) → Holds P (arrive.notice_name K x1 x2)
   unfolding arrive.notice_name

@@ -73,9 +73,7 @@ Firm K s t = SettledStays K s t × NoticedStays s t × KnowsMore s t
 
 after_firm : {N W A : Type 0} (K : Naming N W) (s : Vat N) (d : Done N A) → After (SettledStays K) s d → After NoticedStays s d → After KnowsMore s d → After (Firm K) s d
 after_firm K s (Gives a t) h i j = (h, i, j)
-after_firm K s (Throws p t) h i j = (h, i, j)
-after_firm K s (Ejects n v t) h i j = (h, i, j)
-after_firm K s (Stops c t) h i j = (h, i, j)
+after_firm K s other h i j = (h, i, j)
 
 pub firm_stays : {N W : Type 0} (K : Naming N W) (step : Step N W) (s : Vat N) → After (Firm K) s (does K step s)
 firm_stays K step s = after_firm K s (does K step s) (settled_stays K step s) (noticed_stays K step s) (more_stays K step s)
@@ -104,16 +102,12 @@ module _ {N W : Type 0} (K : Naming N W) where
   on_settled : (f g : Value N → Value N) (n : N) (t u : Standing N) (z : Value N) → settled_on f n t ≡ z → (Ref n ≡ z → settled_on g n u ≡ z) → ((y : Value N) → t ≡ Settled y → u ≡ Settled y) → ((y : Value N) → f y ≡ z → g y ≡ z) → settled_on g n u ≡ z
   unfolding settled_on
   on_settled f g n (Settled y) u z h stop stays up = rw (stays y refl) (up y h)
-  on_settled f g n (Viewed q) u z h stop stays up = stop h
-  on_settled f g n (WaitsOn q) u z h stop stays up = stop h
-  on_settled f g n Unsettled u z h stop stays up = stop h
+  on_settled f g n other u z h stop stays up = stop h
 
   on_led : (f g : Value N → Value N) (n : N) (t u : Standing N) (z : Value N) → settled_on f n t ≡ z → (Ref n ≡ z → led K g n u ≡ z) → ((y : Value N) → t ≡ Settled y → u ≡ Settled y) → ((y : Value N) → f y ≡ z → g y ≡ z) → led K g n u ≡ z
   unfolding settled_on led
   on_led f g n (Settled y) u z h stop stays up = rw (stays y refl) (up y h)
-  on_led f g n (Viewed q) u z h stop stays up = stop h
-  on_led f g n (WaitsOn q) u z h stop stays up = stop h
-  on_led f g n Unsettled u z h stop stays up = stop h
+  on_led f g n other u z h stop stays up = stop h
 
   settled_up : (ks ls : List (Known N)) → SameSettled ks ls → (d e : ℕ) → d ≤ e → (x : Value N) (p : Words) → settled_at K d ks x ≡ Broken p → settled_at K e ls x ≡ Broken p
   unfolding settled_at
@@ -200,8 +194,7 @@ module _ {N W : Type 0} (K : Naming N W) where
   unfolding led
   pending_led f ks g (Settled y) k never on = absurd (never y refl)
   pending_led f ks g (Viewed q) k never on = on q refl
-  pending_led f ks g (WaitsOn q) k never on = (g, refl, k)
-  pending_led f ks g Unsettled k never on = (g, refl, k)
+  pending_led f ks g other k never on = (g, refl, k)
 
   pending_along : (ks : List (Known N)) → ViewsPend ks → (d : ℕ) (g : N) → IsPending K ks g → ToKnown ks (follow_at K d ks (Ref g))
   unfolding follow_at
@@ -212,8 +205,7 @@ module _ {N W : Type 0} (K : Naming N W) where
   unfolding settled_on led
   either_led f h ks n (Settled y) both on = both y
   either_led f h ks n (Viewed q) both on = inr (on q refl)
-  either_led f h ks n (WaitsOn q) both on = inl refl
-  either_led f h ks n Unsettled both on = inl refl
+  either_led f h ks n other both on = inl refl
 
   -- settlings alone lead as far as following does, or it ends at a name that is known
   either_along : (ks : List (Known N)) → ViewsPend ks → (d : ℕ) (x : Value N) → (settled_at K d ks x ≡ follow_at K d ks x) ⊎ ToKnown ks (follow_at K d ks x)
@@ -389,10 +381,8 @@ module _ {N W : Type 0} (K : Naming N W) where
 
 far_prom : (k : ℕ) (m : Local) (h : ℕ) → local_spot m ≡ Foreign h → same_local (Prom k) m ≡ false
 unfolding local_spot same_local
-far_prom k (Obj i) h e = cc
-far_prom k (Prom i) h e = cc
 far_prom k (Far g i) h e = refl
-far_prom k (Mess i) h e = cc
+far_prom k other h e = cc
 
 -- apart before, apart after
 abbrev KeepsApart : {N W : Type 0} → Naming N W → Vat N → Vat N → Type 0

@@ -114,9 +114,8 @@ module _ {N : Type 0} (P : Property N) (base : IsClosed P) (law : InEval P) wher
 
   pub walk_read_bound : (x1 : ℕ) → (x2 : Option (Bound N)) → (x3 : Words) → Holds P (scopes.read_bound x1 x2 x3)
   unfolding scopes.read_bound
-  walk_read_bound act (Some (Fixed v g)) x = search (eval_walk) depth 14
   walk_read_bound act (Some (Slot k)) x = search (eval_walk, walk_read_cell) depth 14
-  walk_read_bound act None x = search (eval_walk) depth 14
+  walk_read_bound act other x = search (eval_walk) depth 14
 
   pub walk_with_lines : (x1 : ℕ) → (x2 : Value N) → (x3 : Words) → (x4 : List (Value N)) → (x5 : Act N (Value N)) → Holds P x5 → Holds P (scopes.with_lines x1 x2 x3 x4 x5)
   unfolding scopes.with_lines
@@ -179,11 +178,10 @@ module _ {N W : Type 0} (P : Property N) (K : Naming N W) (tree : List Node) (ba
 
   pub walk_reply : (x1 : Caller N) → GoodCaller P x1 → (x2 : ℕ) → (x3 : Reply N) → Holds P (perform.reply K tree x1 x2 x3)
   unfolding perform.reply
-  walk_reply again h1 act (Says v) = search (eval_walk) depth 14
   walk_reply again h1 act (Writes t) = search (eval_walk, walk_write_text) depth 14
   walk_reply again h1 act (Lists vs) = search (eval_walk, walk_make_list) depth 14
   walk_reply again h1 act (Iterates o vs) = search (eval_walk, walk_iterate) depth 14
-  walk_reply again h1 act (Fails p) = search (eval_walk) depth 14
+  walk_reply again h1 act other = search (eval_walk) depth 14
 
   pub walk_data_answer : (x1 : Caller N) → GoodCaller P x1 → (x2 : ℕ) → (x3 : Value N) → (x4 : Words) → (x5 : List (Value N)) → Holds P (perform.data_answer K tree x1 x2 x3 x4 x5)
   unfolding perform.data_answer
@@ -242,21 +240,15 @@ module _ {N W : Type 0} (P : Property N) (K : Naming N W) (tree : List Node) (ba
   pub walk_perform : (x1 : Caller N) → GoodCaller P x1 → (x2 : ℕ) → (x3 : Asked N) → Holds P (perform.perform K tree x1 x2 x3)
   unfolding perform.perform
   walk_perform again h1 act (MakesList vs) = search (eval_walk, walk_make_list) depth 14
-  walk_perform again h1 act (Ranges last a b) = search (eval_walk, walk_reply) depth 14
-  walk_perform again h1 act (Same a b) = search (eval_walk, walk_reply) depth 14
-  walk_perform again h1 act (Compares test a b) = search (eval_walk, walk_reply) depth 14
   walk_perform again h1 act (Loops o) = search (eval_walk, walk_loop) depth 14
   walk_perform again h1 act (SendsTo only x v l) = search (eval_walk, walk_send_with) depth 14
   walk_perform again h1 act (CallsTo x v l) = search (eval_walk, walk_call_with) depth 14
   walk_perform again h1 act MakesPromise = search (eval_walk, walk_make_promise) depth 14
-  walk_perform again h1 act (Breaks t) = search (eval_walk, walk_reply) depth 14
-  walk_perform again h1 act (Tells test x) = search (eval_walk, walk_reply) depth 14
   walk_perform again h1 act (Whens x o) = search (eval_walk, walk_when_resolved) depth 14
-  walk_perform again h1 act (ThrowsIt t) = search (eval_walk, walk_reply) depth 14
   walk_perform again h1 act (IsStamped a x) = search (eval_walk) depth 14
   walk_perform again h1 act (Coerces g x j) = search (eval_walk, walk_native_coerce) depth 14
-  walk_perform again h1 act (AddsNull g) = search (eval_walk, walk_reply) depth 14
   walk_perform again h1 act NoMethod = search (eval_walk) depth 14
+  walk_perform again h1 act other = search (eval_walk, walk_reply) depth 14
 
   pub walk_audit : (x1 : Caller N) → GoodCaller P x1 → (x2 : ℕ) → (x3 : View N) → (x4 : Value N) → (x5 : Place N) → Holds P (calls.audit K tree x1 x2 x3 x4 x5)
   unfolding calls.audit

@@ -27,16 +27,12 @@ pub record IsKeptBreaking {N W : Type 0} (K : Naming N W) (R : Vat N → Vat N �
 module _ {N W : Type 0} (K : Naming N W) (R : Vat N → Vat N → Type 0) (law : IsKeptBreaking K R) where
   widen_breaking : {A : Type 0} {s t : Vat N} → R s t → (d : Done N A) → After R t d → After R s d
   widen_breaking r (Gives a u) h = law.trans r h
-  widen_breaking r (Throws p u) h = law.trans r h
-  widen_breaking r (Ejects n v u) h = law.trans r h
-  widen_breaking r (Stops c u) h = law.trans r h
+  widen_breaking r other h = law.trans r h
 
   bind_breaking : {A B : Type 0} (s : Vat N) (d : Done N A) (f : A → Act N B) → After R s d → ((a : A) → Keeps R (f a)) → After R s (and_then d f)
   unfolding and_then
   bind_breaking s (Gives a t) f h k = widen_breaking h (f a t) ((k a).after t)
-  bind_breaking s (Throws p t) f h k = h
-  bind_breaking s (Ejects n v t) f h k = h
-  bind_breaking s (Stops c t) f h k = h
+  bind_breaking s other f h k = h
 
   pub breaking_bind : {A B : Type 0} {m : Act N A} {f : A → Act N B} → Keeps R m → ((a : A) → Keeps R (f a)) → Keeps R (m >>= f)
   unfolding ◌>>=◌
@@ -174,10 +170,8 @@ module _ {N W : Type 0} (K : Naming N W) (R : Vat N → Vat N → Type 0) (law :
 
   breaks_send_to : (settle : N → Value N → Act N (Unit {0})) → Breaker R settle → (m : Message N) (y : Value N) (p : Place N) → Keeps R (refs.send_to K settle m y p)
   unfolding refs.send_to
-  breaks_send_to settle h1 m y Near = search (breaking) depth 14
-  breaks_send_to settle h1 m y (Mine n) = search (breaking) depth 14
   breaks_send_to settle h1 m y (Away h n o) = search (breaking, breaks_pass_on) depth 14
-  breaks_send_to settle h1 m y (Gone p) = search (breaking) depth 14
+  breaks_send_to settle h1 m y other = search (breaking) depth 14
 
   breaks_send_on : (settle : N → Value N → Act N (Unit {0})) → Breaker R settle → (m : Message N) → Keeps R (refs.send_on K settle m)
   unfolding refs.send_on
@@ -232,10 +226,9 @@ module _ {N W : Type 0} (K : Naming N W) (R : Vat N → Vat N → Type 0) (law :
 
   breaks_break_hosted : (w : ℕ) (n : N) (p : Words) (t : Standing N) → Keeps R (arrive.break_hosted K w n p t)
   unfolding arrive.break_hosted
-  breaks_break_hosted w n p Unsettled = search (breaking, breaks_settle) depth 14
-  breaks_break_hosted w n p (WaitsOn q) = search (breaking, breaks_settle) depth 14
   breaks_break_hosted w n p (Viewed q) = search (breaking) depth 14
   breaks_break_hosted w n p (Settled y) = search (breaking) depth 14
+  breaks_break_hosted w n p other = search (breaking, breaks_settle) depth 14
 
   pub breaks_notice_name : (w : ℕ) (k : Known N) → Keeps R (arrive.notice_name K w k)
   unfolding arrive.notice_name

@@ -23,9 +23,7 @@ MayBreak {N} t = (still_waits t ≡ true) ⊎ ((p : Words) × (t ≡ Settled (Br
 unless_may : {N : Type 0} (t : Standing N) (k new : Known N) → MayBreak k.standing → MayBreak new.standing → MayBreak (unless_settled t k new).standing
 unfolding unless_settled
 unless_may (Settled y) k new h i = h
-unless_may (Viewed q) k new h i = i
-unless_may (WaitsOn q) k new h i = i
-unless_may Unsettled k new h i = i
+unless_may other k new h i = i
 
 may_hold : {N : Type 0} (m : Message N) (k : Known N) → MayBreak k.standing → MayBreak (changed (Hold m) k).standing
 unfolding changed changed_to
@@ -61,9 +59,7 @@ pick_on false x k l o p e h = h e
 settles_to : {N : Type 0} (t : Standing N) (y : Value N) (k new : Known N) → k.standing ≡ t → new.standing ≡ Settled y → (z : Value N) × ((unless_settled t k new).standing ≡ Settled z)
 unfolding unless_settled
 settles_to (Settled z) y k new e h = (z, e)
-settles_to (Viewed q) y k new e h = (y, h)
-settles_to (WaitsOn q) y k new e h = (y, h)
-settles_to Unsettled y k new e h = (y, h)
+settles_to other y k new e h = (y, h)
 
 change_settles : {N : Type 0} (y : Value N) (k : Known N) → (z : Value N) × ((changed (Settle y) k).standing ≡ Settled z)
 unfolding changed changed_to
@@ -72,35 +68,25 @@ change_settles y k = settles_to k.standing y k (changed_to (Settle y) k) refl re
 -- P holds of the state given
 abbrev AfterGives : {N A : Type 0} → (Vat N → Type 0) → Done N A → Type 0
 AfterGives P (Gives a t) = P t
-AfterGives P (Throws p t) = Unit {0}
-AfterGives P (Ejects n v t) = Unit {0}
-AfterGives P (Stops c t) = Unit {0}
+AfterGives P other = Unit {0}
 
 gives_after : {N A : Type 0} (P : Vat N → Type 0) (s : Vat N) (d : Done N A) → After (λ r t. P t) s d → AfterGives P d
 gives_after P s (Gives a t) h = h
-gives_after P s (Throws p t) h = tt
-gives_after P s (Ejects n v t) h = tt
-gives_after P s (Stops c t) h = tt
+gives_after P s other h = tt
 
 -- what each gives, and what all that comes after keeps
 gives_then : {N A B : Type 0} (P Q : Vat N → Type 0) (d : Done N A) (f : A → Act N B) → AfterGives P d → ((a : A) (t : Vat N) → P t → AfterGives Q (f a t)) → AfterGives Q (and_then d f)
 unfolding and_then
 gives_then P Q (Gives a t) f h k = k a t h
-gives_then P Q (Throws p t) f h k = tt
-gives_then P Q (Ejects n v t) f h k = tt
-gives_then P Q (Stops c t) f h k = tt
+gives_then P Q other f h k = tt
 
 gives_both : {N A : Type 0} (P Q : Vat N → Type 0) (d : Done N A) → AfterGives P d → AfterGives Q d → AfterGives (λ t. P t × Q t) d
 gives_both P Q (Gives a t) h k = (h, k)
-gives_both P Q (Throws p t) h k = tt
-gives_both P Q (Ejects n v t) h k = tt
-gives_both P Q (Stops c t) h k = tt
+gives_both P Q other h k = tt
 
 gives_so : {N A : Type 0} (P Q : Vat N → Type 0) (d : Done N A) → AfterGives P d → ((t : Vat N) → P t → Q t) → AfterGives Q d
 gives_so P Q (Gives a t) h k = k t h
-gives_so P Q (Throws p t) h k = tt
-gives_so P Q (Ejects n v t) h k = tt
-gives_so P Q (Stops c t) h k = tt
+gives_so P Q other h k = tt
 
 true_false : true ≡ false → ⊥
 true_false e = cc
@@ -109,9 +95,7 @@ viewed_may : {N : Type 0} (q : N) (t : Standing N) → t ≡ Viewed q → MayBre
 unfolding still_waits
 viewed_may q (Viewed r) e (inl h) = cc
 viewed_may q (Viewed r) e (inr h) = let i = h.1 in cc
-viewed_may q (Settled y) e h = cc
-viewed_may q (WaitsOn r) e h = cc
-viewed_may q Unsettled e h = cc
+viewed_may q other e h = cc
 
 found_head : {N : Type 0} (b : Bool) (k0 k : Known N) (ks : List (Known N)) (o : Option (Known N)) → ◌≡◌ {A = Option (Known N)} (elim b [ true ↦ Some k0 | false ↦ o ]) (Some k)
     → (o ≡ Some k → (i : ℕ) × (slice_get ks i ≡ Some k)) → (i : ℕ) × (slice_get (k0 ∷ ks) i ≡ Some k)
@@ -121,9 +105,7 @@ found_head false k0 k ks o e h = let rest = h e in (suc rest.0, rest.1)
 waits_settled : {N : Type 0} (t : Standing N) (y : Value N) → t ≡ Settled y → still_waits t ≡ true → ⊥
 unfolding still_waits
 waits_settled (Settled z) y e i = cc
-waits_settled (Viewed q) y e i = cc
-waits_settled (WaitsOn q) y e i = cc
-waits_settled Unsettled y e i = cc
+waits_settled other y e i = cc
 
 module _ {N W : Type 0} (K : Naming N W) where
   -- known, and it waits or settled to a broken reference
@@ -228,9 +210,7 @@ module _ {N W : Type 0} (K : Naming N W) where
       → After (λ r u. IsSettled p u) s (refs.settle_standing K settle p y k t s)
   unfolding refs.settle_standing give
   standing_settles settle good p y k (Settled z) s e i = (z, standing_found K s.known p k z e i)
-  standing_settles settle good p y k (Viewed q) s e i = known_settles settle good p y k k s e
-  standing_settles settle good p y k (WaitsOn q) s e i = known_settles settle good p y k k s e
-  standing_settles settle good p y k Unsettled s e i = known_settles settle good p y k k s e
+  standing_settles settle good p y k other s e i = known_settles settle good p y k k s e
 
   entry_settles : (settle : N → Value N → Act N (Unit {0})) → GoodSettler (SettledStays K) settle → (p : N) (y : Value N) (k : Known N) (o : Option (Known N)) (s : Vat N) → entry_of K s.known p ≡ Some k → o ≡ Some k
       → After (λ r u. IsSettled p u) s (refs.settle_entry K settle p y o s)
@@ -250,10 +230,9 @@ module _ {N W : Type 0} (K : Naming N W) where
 
   hosted_settles : (w : ℕ) (n : N) (p : Words) (t : Standing N) (s : Vat N) → standing_of K s.known n ≡ t → WaitsOrBroken n s → After (λ r u. IsSettled n u) s (arrive.break_hosted K w n p t s)
   unfolding arrive.break_hosted give
-  hosted_settles w n p Unsettled s e x = settles n (Broken p) x.0 s x.1
-  hosted_settles w n p (WaitsOn q) s e x = settles n (Broken p) x.0 s x.1
   hosted_settles w n p (Viewed q) s e x = absurd (viewed_may q (standing_of K s.known n) e (standing_may n s x))
   hosted_settles w n p (Settled y) s e x = (y, e)
+  hosted_settles w n p other s e x = settles n (Broken p) x.0 s x.1
 
   name_if : (w : ℕ) (n : N) (b : Bool) (s : Vat N) → b ≡ true → WaitsOrBroken n s → After (λ r u. IsSettled n u) s ((if b then arrive.break_hosted K w n (codes "partition") (standing_of K s.known n) else give tt) s)
   name_if w n true s e x = hosted_settles w n (codes "partition") (standing_of K s.known n) s refl x
@@ -266,9 +245,7 @@ module _ {N W : Type 0} (K : Naming N W) where
   at_settles : (n : N) (p : Words) (t : Standing N) (s : Vat N) → standing_of K s.known n ≡ t → WaitsOrBroken n s → After (λ r u. IsSettled n u) s (arrive.break_at K n p t s)
   unfolding arrive.break_at give
   at_settles n p (Settled y) s e x = (y, e)
-  at_settles n p (Viewed q) s e x = settles n (Broken p) x.0 s x.1
-  at_settles n p (WaitsOn q) s e x = settles n (Broken p) x.0 s x.1
-  at_settles n p Unsettled s e x = settles n (Broken p) x.0 s x.1
+  at_settles n p other s e x = settles n (Broken p) x.0 s x.1
 
   unopened_settles : (n : N) (b : Bool) (s : Vat N) → b ≡ false → WaitsOrBroken n s → After (λ r u. IsSettled n u) s (arrive.break_unopened K n b s)
   unfolding arrive.break_unopened ◌>>=◌ look and_then

@@ -18,9 +18,8 @@ module _ {N : Type 0} where
   bind_ends : {A B : Type 0} (d : Done N A) (f : A → Act N B) → IsQuiet d → ((a : A) → Quiet (f a)) → IsQuiet (and_then d f)
   unfolding and_then
   bind_ends (Gives a t) f h k = (k a).after t
-  bind_ends (Throws p t) f h k = absurd h
-  bind_ends (Ejects n v t) f h k = absurd h
   bind_ends (Stops c t) f h k = tt
+  bind_ends other f h k = absurd h
 
   pub quiet_bind : {A B : Type 0} {m : Act N A} {f : A → Act N B} → Quiet m → ((a : A) → Quiet (f a)) → Quiet (m >>= f)
   unfolding ◌>>=◌

@@ -13,9 +13,7 @@ use Rattle.law_machine.proofs.StepLaws.{fuel_law, fuel_names, objects_law, objec
 
 all : {N W A : Type 0} (K : Naming N W) (s : Vat N) (x : Done N A) → After NoMoreFuel s x → After SameObjects s x → After SameResolvers s x → After DeadEjectors s x → After DeadAuditions s x → After SameLists s x → After SameGuards s x → After SameNames s x → After SameMails s x → After SameDraws s x → After (SettledStays K) s x → After (BrokenStays K) s x → After NoticedStays s x → After AddsAtEnd s x → After (UndoesNothing K) s x
 all K s (Gives y t) f o r e a l g n m d p b c h = (f, o, r, e, a, l, g, n, m, d, p, b, c, h)
-all K s (Throws y t) f o r e a l g n m d p b c h = (f, o, r, e, a, l, g, n, m, d, p, b, c, h)
-all K s (Ejects i y t) f o r e a l g n m d p b c h = (f, o, r, e, a, l, g, n, m, d, p, b, c, h)
-all K s (Stops y t) f o r e a l g n m d p b c h = (f, o, r, e, a, l, g, n, m, d, p, b, c, h)
+all K s other f o r e a l g n m d p b c h = (f, o, r, e, a, l, g, n, m, d, p, b, c, h)
 
 module _ {N W : Type 0} (K : Naming N W) (sight : Sight N) (from : ℕ) (n : Note (Incoming N W)) (s : Vat N) where
   abbrev D : Done N (Unit {0})

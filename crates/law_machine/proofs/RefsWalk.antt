@@ -116,10 +116,8 @@ module _ {N W : Type 0} (P : Property N) (K : Naming N W) (base : IsClosed P) (l
 
   pub walk_send_to : (x1 : N → Value N → Act N (Unit {0})) → GoodSettler P x1 → (x2 : Message N) → (x3 : Value N) → (x4 : Place N) → Holds P (refs.send_to K x1 x2 x3 x4)
   unfolding refs.send_to
-  walk_send_to settle h1 m y Near = search (refs_walk) depth 14
-  walk_send_to settle h1 m y (Mine n) = search (refs_walk) depth 14
   walk_send_to settle h1 m y (Away h n o) = search (refs_walk, walk_pass_on) depth 14
-  walk_send_to settle h1 m y (Gone p) = search (refs_walk) depth 14
+  walk_send_to settle h1 m y other = search (refs_walk) depth 14
 
   pub walk_send_on : (x1 : N → Value N → Act N (Unit {0})) → GoodSettler P x1 → (x2 : Message N) → Holds P (refs.send_on K x1 x2)
   unfolding refs.send_on

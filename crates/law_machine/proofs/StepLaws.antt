@@ -67,12 +67,10 @@ dead_objects : {N : Type 0} (ts : List (Thing N)) (k i : ℕ) (node : ℕ) (caug
 unfolding change dead
 dead_objects [] k i node caught stamps e = e
 dead_objects (Made a b c ∷ ts) zero zero node caught stamps e = cc
-dead_objects (Ejector b ∷ ts) zero zero node caught stamps e = cc
-dead_objects (Audition b v ∷ ts) zero zero node caught stamps e = cc
-dead_objects (Resolver p ∷ ts) zero zero node caught stamps e = cc
 dead_objects (t ∷ ts) zero (suc i) node caught stamps e = e
 dead_objects (t ∷ ts) (suc k) zero node caught stamps e = e
 dead_objects (t ∷ ts) (suc k) (suc i) node caught stamps e = dead_objects ts k i node caught stamps e
+dead_objects other zero zero node caught stamps e = cc
 
 pub objects_law : {N : Type 0} → IsKept {N = N} SameObjects
 objects_law = record {
@@ -113,12 +111,10 @@ dead_resolvers : {N : Type 0} (ts : List (Thing N)) (k i : ℕ) (p : N) → slic
 unfolding change dead
 dead_resolvers [] k i p e = e
 dead_resolvers (Made a b c ∷ ts) zero zero p e = cc
-dead_resolvers (Ejector b ∷ ts) zero zero p e = cc
-dead_resolvers (Audition b v ∷ ts) zero zero p e = cc
-dead_resolvers (Resolver q ∷ ts) zero zero p e = cc
 dead_resolvers (t ∷ ts) zero (suc i) p e = e
 dead_resolvers (t ∷ ts) (suc k) zero p e = e
 dead_resolvers (t ∷ ts) (suc k) (suc i) p e = dead_resolvers ts k i p e
+dead_resolvers other zero zero p e = cc
 
 pub resolvers_law : {N : Type 0} → IsKept {N = N} SameResolvers
 resolvers_law = record {
@@ -159,12 +155,10 @@ dead_ejectors : {N : Type 0} (ts : List (Thing N)) (k i : ℕ) → slice_get ts 
 unfolding change dead
 dead_ejectors [] k i e = e
 dead_ejectors (Made a b c ∷ ts) zero zero e = cc
-dead_ejectors (Ejector b ∷ ts) zero zero e = cc
-dead_ejectors (Audition b v ∷ ts) zero zero e = cc
-dead_ejectors (Resolver p ∷ ts) zero zero e = cc
 dead_ejectors (t ∷ ts) zero (suc i) e = e
 dead_ejectors (t ∷ ts) (suc k) zero e = e
 dead_ejectors (t ∷ ts) (suc k) (suc i) e = dead_ejectors ts k i e
+dead_ejectors other zero zero e = cc
 
 pub ejectors_law : {N : Type 0} → IsKept {N = N} DeadEjectors
 ejectors_law = record {
@@ -205,12 +199,10 @@ dead_auditions : {N : Type 0} (ts : List (Thing N)) (k i : ℕ) (view : View N) 
 unfolding change dead
 dead_auditions [] k i view e = e
 dead_auditions (Made a b c ∷ ts) zero zero view e = cc
-dead_auditions (Ejector b ∷ ts) zero zero view e = cc
-dead_auditions (Audition b v ∷ ts) zero zero view e = cc
-dead_auditions (Resolver p ∷ ts) zero zero view e = cc
 dead_auditions (t ∷ ts) zero (suc i) view e = e
 dead_auditions (t ∷ ts) (suc k) zero view e = e
 dead_auditions (t ∷ ts) (suc k) (suc i) view e = dead_auditions ts k i view e
+dead_auditions other zero zero view e = cc
 
 pub auditions_law : {N : Type 0} → IsKept {N = N} DeadAuditions
 auditions_law = record {
@@ -398,29 +390,17 @@ guards_stays K = kept_by_steps K SameGuards guards_law (guards_names K)
 same_head : {N : Type 0} (t : Standing N) (k new : Known N) → new.name ≡ k.name → new.host ≡ k.host → ((unless_settled t k new).name ≡ k.name) × ((unless_settled t k new).host ≡ k.host)
 unfolding unless_settled
 same_head (Settled y) k new a b = (refl, refl)
-same_head Unsettled k new a b = (a, b)
-same_head (WaitsOn q) k new a b = (a, b)
-same_head (Viewed q) k new a b = (a, b)
+same_head other k new a b = (a, b)
 
 to_name : {N : Type 0} (c : Change N) (k : Known N) → (changed_to c k).name ≡ k.name
 unfolding changed_to
 to_name (Hold m) k = refl
-to_name (Wait q) k = refl
-to_name (WaitOn q) k = refl
-to_name (See q) k = refl
-to_name (React m) k = refl
-to_name (ToTell w) k = refl
-to_name (Settle y) k = refl
+to_name other k = refl
 
 to_host : {N : Type 0} (c : Change N) (k : Known N) → (changed_to c k).host ≡ k.host
 unfolding changed_to
 to_host (Hold m) k = refl
-to_host (Wait q) k = refl
-to_host (WaitOn q) k = refl
-to_host (See q) k = refl
-to_host (React m) k = refl
-to_host (ToTell w) k = refl
-to_host (Settle y) k = refl
+to_host other k = refl
 
 pub changed_head : {N : Type 0} (c : Change N) (k : Known N) → ((changed c k).name ≡ k.name) × ((changed c k).host ≡ k.host)
 unfolding changed
@@ -480,9 +460,7 @@ names_stays K = kept_by_steps K SameNames names_law (names_names K)
 unless_at : {N : Type 0} (t : Standing N) (k new : Known N) (y : Value N) → t ≡ Settled y → unless_settled t k new ≡ k
 unfolding unless_settled
 unless_at (Settled z) k new y e = refl
-unless_at Unsettled k new y e = cc
-unless_at (WaitsOn q) k new y e = cc
-unless_at (Viewed q) k new y e = cc
+unless_at other k new y e = cc
 
 settled_same : {N : Type 0} (c : Change N) (k : Known N) (y : Value N) → k.standing ≡ Settled y → changed c k ≡ k
 unfolding changed

@@ -64,49 +64,22 @@ where_some F h None = tt
 
 -- a line of settling and of sending on, but for those of standings
 abbrev pub IsOfRefs : {N : Type 0} → Happened N → Type 0
-IsOfRefs (Took _ _) = ⊥
-IsOfRefs (Called _ _ _ _ _) = ⊥
-IsOfRefs (Back _ _) = ⊥
-IsOfRefs (Thrown _ _) = ⊥
-IsOfRefs (Left _) = ⊥
-IsOfRefs (Got _ _) = ⊥
-IsOfRefs (SlotMade _ _ _) = ⊥
-IsOfRefs (SlotRead _ _ _) = ⊥
-IsOfRefs (SlotWrote _ _ _) = ⊥
-IsOfRefs (ListMade _ _ _) = ⊥
-IsOfRefs (ListCame _ _) = ⊥
-IsOfRefs (EjectorMade _ _) = ⊥
-IsOfRefs (AuditionMade _ _) = ⊥
-IsOfRefs (PromiseMade _ _ _) = ⊥
-IsOfRefs (ObjectMade _ _ _ _ _) = ⊥
-IsOfRefs (Sends _ _) = ⊥
-IsOfRefs (Reacts _ _ _ _) = ⊥
-IsOfRefs (Finished _ _) = ⊥
-IsOfRefs (Threw _ _) = ⊥
-IsOfRefs (Settles _ _) = ⊥
 IsOfRefs (Waits _ _) = Unit {0}
-IsOfRefs (Views _ _) = ⊥
 IsOfRefs (Lost _) = Unit {0}
 IsOfRefs (Posted _ _) = Unit {0}
+IsOfRefs other = ⊥
 
 -- a note that passes a message, or tells of a name
 abbrev pub IsOfName : {N : Type 0} → Note N → Type 0
-IsOfName (Deliver m n verb ys) = Unit {0}
-IsOfName (Open i n) = Unit {0}
 IsOfName (Ask p i n) = ⊥
-IsOfName (SettledTo n y) = Unit {0}
-IsOfName (Elsewhere n c) = Unit {0}
 IsOfName (Shorten n c i) = ⊥
+IsOfName other = Unit {0}
 
 -- a change of a name that leaves its standing, or has it wait
 abbrev pub IsMild : {N : Type 0} → Change N → Type 0
-IsMild (Hold m) = Unit {0}
-IsMild (Wait q) = Unit {0}
-IsMild (WaitOn q) = Unit {0}
 IsMild (See q) = ⊥
-IsMild (React m) = Unit {0}
-IsMild (ToTell w) = Unit {0}
 IsMild (Settle y) = ⊥
+IsMild other = Unit {0}
 
 pub record InRefs {N : Type 0} (P : Property N) : Type 1 where
   pub tells : (e : Happened N) → IsOfRefs e → Holds P (tell e)
@@ -148,37 +121,24 @@ pub record InArriveUnder {N W : Type 0} (P : Property N) (K : Naming N W) : Type
 
 -- a line that evaluation tells, but for those of calls and of the message that is taken
 abbrev pub IsOfEval : {N : Type 0} → Happened N → Type 0
-IsOfEval (Took _ _) = ⊥
-IsOfEval (Called _ _ _ _ _) = ⊥
-IsOfEval (Back _ _) = ⊥
-IsOfEval (Thrown _ _) = ⊥
-IsOfEval (Left _) = ⊥
 IsOfEval (Got _ _) = Unit {0}
 IsOfEval (SlotMade _ _ _) = Unit {0}
 IsOfEval (SlotRead _ _ _) = Unit {0}
 IsOfEval (SlotWrote _ _ _) = Unit {0}
 IsOfEval (ListMade _ _ _) = Unit {0}
-IsOfEval (ListCame _ _) = ⊥
 IsOfEval (EjectorMade _ _) = Unit {0}
 IsOfEval (AuditionMade _ _) = Unit {0}
 IsOfEval (PromiseMade _ _ _) = Unit {0}
 IsOfEval (ObjectMade _ _ _ _ _) = Unit {0}
-IsOfEval (Sends _ _) = ⊥
-IsOfEval (Reacts _ _ _ _) = ⊥
 IsOfEval (Finished _ _) = Unit {0}
 IsOfEval (Threw _ _) = Unit {0}
-IsOfEval (Settles _ _) = ⊥
-IsOfEval (Waits _ _) = ⊥
-IsOfEval (Views _ _) = ⊥
-IsOfEval (Lost _) = ⊥
-IsOfEval (Posted _ _) = ⊥
+IsOfEval other = ⊥
 
 -- nothing that is live
 abbrev pub IsDull : {N : Type 0} → Thing N → Type 0
-IsDull (Made node caught stamps) = Unit {0}
 IsDull (Ejector live) = ⊥
 IsDull (Audition live view) = ⊥
-IsDull (Resolver p) = Unit {0}
+IsDull other = Unit {0}
 
 -- throwing, leaving by an ejector, and what follows by how something ended
 pub record IsEnding {N : Type 0} (P : Property N) : Type 1 where

@@ -109,27 +109,21 @@ less i a b h k = omega arith
 -- what was made stays made
 module _ (us vs : List (Vat Name)) (d e : List ℕ) (promises : (w : ℕ) → promises_of us w ≤ promises_of vs w) (messages : (w : ℕ) → messages_of us w ≤ messages_of vs w) (draws : (x : ℕ) → IsAmong x d → IsAmong x e) where
   pub made_up : (n : Name) → WasMade us d n → WasMade vs e n
-  made_up (Root w) h = tt
-  made_up (Object w i) h = tt
   made_up (Promise w i) h = less i (promises_of us w) (promises_of vs w) h (promises w)
   made_up (Answer w m) h = less m.number (messages_of us m.sender) (messages_of vs m.sender) h (messages m.sender)
   made_up (Gift w i) h = draws (word_of i) h
   made_up (Sent m) h = absurd h
+  made_up other h = tt
 
   mail_up : (n : Name) → IsMessageMade us n → IsMessageMade vs n
   mail_up (Sent m) h = less m.number (messages_of us m.sender) (messages_of vs m.sender) h (messages m.sender)
-  mail_up (Root w) h = absurd h
-  mail_up (Object w i) h = absurd h
-  mail_up (Promise w i) h = absurd h
-  mail_up (Answer w m) h = absurd h
-  mail_up (Gift w i) h = absurd h
+  mail_up other h = absurd h
 
   pub is_made_up : (b : Bit Name) → IsMade us d b → IsMade vs e b
   is_made_up (Named n) h = made_up n h
   is_made_up (Mail n) h = mail_up n h
   is_made_up (Drew i) h = draws (word_of i) h
-  is_made_up (At w) h = tt
-  is_made_up (Off w) h = tt
   is_made_up (Entered n) h = made_up n h
   is_made_up (Owns n i) h = made_up n h
   is_made_up (Gave i) h = draws (word_of i) h
+  is_made_up other h = tt

@@ -234,21 +234,20 @@ module _ {N : Type 0} (S : Care N) where
       → ((a : A) → Fine (Also C (P a)) (f a) H) → Ends H s (and_then d f)
   unfolding and_then
   bind_ends C P H s (Gives a t) f c h k = widen H s t (f a t) h.0 ((k a).after t h.1 (rise s t h.0 C c, h.2))
-  bind_ends C P H s (Throws p t) f c h k = h
-  bind_ends C P H s (Ejects n v t) f c h k = h
   bind_ends C P H s (Stops r t) f c h k = tt
+  bind_ends C P H s other f c h k = h
 
   pub fine_bind : {A B : Type 0} {C : Fact N} {m : Act N A} {f : A → Act N B} {H : B → Fact N} (P : A → Fact N) → Fine C m P → ((a : A) → Fine (Also C (P a)) (f a) H) → Fine C (m >>= f) H
   unfolding ◌>>=◌
   fine_bind {C = C} {m = m} {f = f} {H = H} P h k = record { after = λ s g c. bind_ends C P H s (m s) f c (h.after s g c) k }
 
-  less_ends : {A B : Type 0} (C : Fact N) (P : A → Fact N) (H : B → Fact N) (s : Vat N) (d : Done N A) (f : A → Act N B) → Holds (S.ok s) C → Ends P s d
+  -- one thing after another, from one state: what follows asks nothing of what is given
+  pub less_ends : {A B : Type 0} (C : Fact N) (P : A → Fact N) (H : B → Fact N) (s : Vat N) (d : Done N A) (f : A → Act N B) → Holds (S.ok s) C → Ends P s d
       → ((a : A) → Fine C (f a) H) → Ends H s (and_then d f)
   unfolding and_then
   less_ends C P H s (Gives a t) f c h k = widen H s t (f a t) h.0 ((k a).after t h.1 (rise s t h.0 C c))
-  less_ends C P H s (Throws p t) f c h k = h
-  less_ends C P H s (Ejects n v t) f c h k = h
   less_ends C P H s (Stops r t) f c h k = tt
+  less_ends C P H s other f c h k = h
 
   pub fine_less : {A B : Type 0} {C : Fact N} {m : Act N A} {f : A → Act N B} {H : B → Fact N} (P : A → Fact N) → Fine C m P → ((a : A) → Fine C (f a) H) → Fine C (m >>= f) H
   unfolding ◌>>=◌
@@ -303,18 +302,16 @@ module _ {N : Type 0} (S : Care N) where
 
   more_ends : {A : Type 0} (P H : A → Fact N) (s : Vat N) (d : Done N A) → ((a : A) → Gets (P a) (H a)) → Ends P s d → Ends H s d
   more_ends P H s (Gives a t) g h = (h.0, h.1, (g a).at t h.2)
-  more_ends P H s (Throws p t) g h = h
-  more_ends P H s (Ejects n v t) g h = h
   more_ends P H s (Stops r t) g h = tt
+  more_ends P H s other g h = h
 
   pub fine_more : {A : Type 0} {C : Fact N} {m : Act N A} (P H : A → Fact N) → Fine C m P → ((a : A) → Gets (P a) (H a)) → Fine C m H
   fine_more {m = m} P H h g = record { after = λ s i c. more_ends P H s (m s) g (h.after s i c) }
 
   with_ends : {A : Type 0} (C F : Fact N) (P : A → Fact N) (s : Vat N) (d : Done N A) → Gets C F → Holds (S.ok s) C → Ends P s d → Ends (λ a. Also (P a) F) s d
   with_ends C F P s (Gives a t) g c h = (h.0, h.1, (h.2, g.at t (rise s t h.0 C c)))
-  with_ends C F P s (Throws p t) g c h = h
-  with_ends C F P s (Ejects n v t) g c h = h
   with_ends C F P s (Stops r t) g c h = tt
+  with_ends C F P s other g c h = h
 
   -- with a fact that held before
   pub fine_with : {A : Type 0} {C : Fact N} {m : Act N A} {P : A → Fact N} (F : Fact N) → Gets C F → Fine C m P → Fine C m (λ a. Also (P a) F)
@@ -408,10 +405,8 @@ module _ {N : Type 0} (S : Care N) where
 
   dead_ok : (P : Bit N → Type 0) (x : Thing N) → ThingOk P x → ThingOk P (dead x)
   unfolding dead
-  dead_ok P (Made node caught stamps) h = h
   dead_ok P (Ejector live) h = tt
-  dead_ok P (Audition live view) h = h
-  dead_ok P (Resolver p) h = h
+  dead_ok P other h = h
 
   change_ok : {A : Type 0} (P : A → Type 0) (f : A → A) → ((x : A) → P x → P (f x)) → (n : ℕ) (xs : List A) → AllOf P xs → AllOf P (change f n xs)
   unfolding change
@@ -614,18 +609,15 @@ module _ {N W : Type 0} (K : Naming N W) (S : Care N) (law : Under K S) where
   unfolding changed_to
   to_ok P (Hold m) k g on h = (h.0, h.1, all_end (MessageOk P) k.held m h.2 g, h.3, h.4, h.5)
   to_ok P (Wait q) k g on h = (h.0, h.1, h.2, all_end (EntryOk P) k.waiting q h.3 g, h.4, h.5)
-  to_ok P (WaitOn q) k g on h = (h.0, g, h.2, h.3, h.4, h.5)
-  to_ok P (See q) k g on h = (h.0, g, h.2, h.3, h.4, h.5)
   to_ok P (React m) k g on h = (h.0, h.1, h.2, h.3, all_end (MessageOk P) k.reactions m h.4 g, h.5)
   to_ok P (ToTell w) k g on h = (h.0, h.1, h.2, h.3, h.4, told_with (P (Named k.name)) w k.told on h.5)
   to_ok P (Settle y) k g on h = (h.0, g, tt, tt, tt, tt)
+  to_ok P other k g on h = (h.0, g, h.2, h.3, h.4, h.5)
 
   unless_ok : (P : Bit N → Type 0) (x : Standing N) (k new : Known N) → KnownOk P k → KnownOk P new → KnownOk P (unless_settled x k new)
   unfolding unless_settled
   unless_ok P (Settled y) k new h i = h
-  unless_ok P Unsettled k new h i = i
-  unless_ok P (WaitsOn q) k new h i = i
-  unless_ok P (Viewed q) k new h i = i
+  unless_ok P other k new h i = i
 
   changed_or : (P : Bit N → Type 0) (c : Change N) (n : N) (k : Known N) (ks js : List (Known N)) (b : Bool) → K.same k.name n ≡ b → ChangeOk P c → ((a : N) → K.same a n ≡ true → OnOk P c a) → KnownOk P k → AllOf (KnownOk P) ks → AllOf (KnownOk P) js
       → AllOf (KnownOk P) (elim b [ true ↦ changed c k ∷ ks | false ↦ k ∷ js ])

@@ -53,10 +53,9 @@ module _ {N W : Type 0} (K : Naming N W) (S : Care N) (law : Under K S) where
 
   pub fine_break_hosted : {C : Fact N} → (w : ℕ) → (n : N) → Gets S C (IsEntry n) → (p : Words) → (t : Standing N) → Fine S C (arrive.break_hosted K w n p t) nothing
   unfolding arrive.break_hosted
-  fine_break_hosted {C = C} w n g1 p Unsettled = search (fine, looks, place_here, place_of_here, fine_settle) depth 30
-  fine_break_hosted {C = C} w n g1 p (WaitsOn q) = search (fine, looks, place_here, place_of_here, fine_settle) depth 30
   fine_break_hosted {C = C} w n g1 p (Viewed q) = search (fine, looks, place_here, place_of_here) depth 30
   fine_break_hosted {C = C} w n g1 p (Settled y) = search (fine, looks, place_here, place_of_here) depth 30
+  fine_break_hosted {C = C} w n g1 p other = search (fine, looks, place_here, place_of_here, fine_settle) depth 30
 
   pub fine_notice_name : {C : Fact N} → (w : ℕ) → (k : Known N) → Gets S C (IsKnown k) → Fine S C (arrive.notice_name K w k) nothing
   unfolding arrive.notice_name

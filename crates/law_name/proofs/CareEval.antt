@@ -1,8 +1,8 @@
 -- All of evaluation, from a sound state, ends in a sound state.
-use Rattle.std.proofs.Common.{ℕ, zero, suc, Bool, true, false, List, [], ◌∷◌, ◌++◌, Option, Some, None, length, map}
+use Rattle.std.proofs.Common.{◌≡◌, ℕ, zero, suc, Bool, true, false, List, [], ◌∷◌, ◌++◌, Option, Some, None, refl, length, map}
 use Rattle.std.specs.Prelude.{slice_get}
-use Rattle.def_machine.specs.Values.{Words, Value, Flag, Text, Prim, Broken, Items, Ref, Naming, Spot, Own}
-use Rattle.def_machine.specs.State.{Bound, Fixed, Slot, Scope, Binding, Cell, View, Thing, Made, Ejector, Audition, Resolver, Message, Took, Standing, Unsettled, Vat, Act, ◌>>=◌, ◌>>◌, and_then, new_thing, give, look, throw, eject}
+use Rattle.def_machine.specs.Values.{Words, Value, Null, Flag, Text, Prim, Broken, Items, Ref, Naming, Spot, Own}
+use Rattle.def_machine.specs.State.{Bound, Fixed, Slot, Scope, Binding, Cell, View, Thing, Made, Ejector, Audition, Resolver, Message, Took, Standing, Unsettled, WaitsOn, Viewed, Settled, Vat, Act, ◌>>=◌, ◌>>◌, and_then, new_thing, give, look, throw, eject, for_some, WhereSome}
 use Rattle.def_machine.specs.Refs as refs
 use Rattle.def_machine.specs.Refs.{Place, Near}
 use Rattle.def_machine.specs.Form.{Item, Begin, End, Word, Fact as Fixing, literal_value}
@@ -17,9 +17,9 @@ use Rattle.def_kernel.specs.declared.node.Node.{Node}
 use Rattle.def_kernel.specs.declared.node.Node.TheVariants.{Lit, Noun, Set, Def, Call, Sequence, If, Escape, Try, Finally, Hide, MatchBind, Object, Final, Var, Any, ListPattern, Via}
 use Rattle.law_name.specs.Names.{AllOf, ValuesOk, NounOk}
 use Rattle.law_name.proofs.Facts.{Holds, Fact, Also, IsName, IsValue, AreValues, AreLists, IsBound, AreNouns, IsMessage, IsThing, IsView, IsPlace, MayValue, MayBound, MayCell, MayThing, IsReply, IsAsked, IsAuditionAsk, IsResolverAsk, scope, answer, answers, nothing, MayName}
-use Rattle.law_name.proofs.Care.{Care, Under, Makes, Sound, Gets, Ends, Fine, got, got_left, got_text, got_ejector, got_audition, got_resolver, widen, rise, thing_comes, told_ejector_made, told_object_made, fine_bind, fine_ending, fine_left, fine_give, fine_throw, fine_eject, fine_stop, fine_spend, fine_activation, fine_tell, bind_number, bind_name, bind_values, bind_answer, then_unit}
+use Rattle.law_name.proofs.Care.{Care, Under, Makes, Sound, Gets, Ends, Fine, got, got_left, got_null, got_text, got_ejector, got_audition, got_resolver, widen, rise, thing_comes, told_ejector_made, told_object_made, less_ends, fine_bind, fine_ending, fine_left, fine_give, fine_throw, fine_eject, fine_stop, fine_spend, fine_activation, fine_tell, bind_number, bind_name, bind_values, bind_answer, then_unit}
 use Rattle.law_name.proofs.Looks.{looks, look_place, look_place_of}
-use Rattle.law_name.proofs.Serves.{Serves, served, served_by, below_end, serve_promise, serve_thing, bind_object}
+use Rattle.law_name.proofs.Serves.{Serves, Closing, served, served_by, closing_by, closing_some, below_end, serve_promise, serve_break, serve_close, serve_thing, bind_object}
 use Rattle.law_name.proofs.EvalFacts.{knows, got_noun, got_named, got_captures, got_view, got_item, got_lists, got_literal}
 
 -- a call, whatever is called
@@ -180,9 +180,6 @@ module _ {N W : Type 0} (K : Naming N W) (S : Care N) (serves : Serves K S) (tre
   pub fine_perform : {C : Fact N} → (x1 : Caller N) → GoodCaller S x1 → (x2 : ℕ) → (x3 : Asked N) → Gets S C (IsAsked x3) → Fine S C (perform.perform K tree x1 x2 x3) IsValue
   unfolding perform.perform
   fine_perform {C = C} again h1 act (MakesList vs) g1 = let d_g1 : Gets S C (AreValues vs) = record { at = λ s h. (g1.at s h) } in search (served, looks, place_here, place_of_here, knows, fine_make_list) depth 30
-  fine_perform {C = C} again h1 act (Ranges last a b) g1 = search (served, looks, place_here, place_of_here, knows, fine_reply) depth 30
-  fine_perform {C = C} again h1 act (Same a b) g1 = search (served, looks, place_here, place_of_here, knows, fine_reply) depth 30
-  fine_perform {C = C} again h1 act (Compares test a b) g1 = search (served, looks, place_here, place_of_here, knows, fine_reply) depth 30
   fine_perform {C = C} again h1 act (Loops o) g1 = let d_g1 : Gets S C (IsValue o) = record { at = λ s h. (g1.at s h) } in search (served, looks, place_here, place_of_here, knows, fine_loop) depth 30
   fine_perform {C = C} again h1 act (SendsTo only x v l) g1 = let d0_g1 : Gets S C (IsValue x) = record { at = λ s h. (g1.at s h).0 } in let d1_g1 : Gets S C (IsValue v) = record { at = λ s h. (g1.at s h).1 } in let d2_g1 : Gets S C (IsValue l) = record { at = λ s h. (g1.at s h).2 } in search (served, looks, place_here, place_of_here, knows, fine_send_with) depth 30
   fine_perform {C = C} again h1 act (CallsTo x v l) g1 = let d0_g1 : Gets S C (IsValue x) = record { at = λ s h. (g1.at s h).0 } in let d1_g1 : Gets S C (IsValue v) = record { at = λ s h. (g1.at s h).1 } in let d2_g1 : Gets S C (IsValue l) = record { at = λ s h. (g1.at s h).2 } in search (served, looks, place_here, place_of_here, knows, fine_call_with) depth 30
@@ -190,11 +187,11 @@ module _ {N W : Type 0} (K : Naming N W) (S : Care N) (serves : Serves K S) (tre
   fine_perform {C = C} again h1 act (Breaks t) g1 = let d_g1 : Gets S C (IsValue t) = record { at = λ s h. (g1.at s h) } in search (served, looks, place_here, place_of_here, knows, fine_reply) depth 30
   fine_perform {C = C} again h1 act (Tells test x) g1 = let d_g1 : Gets S C (IsValue x) = record { at = λ s h. (g1.at s h) } in search (served, looks, place_here, place_of_here, knows, fine_reply) depth 30
   fine_perform {C = C} again h1 act (Whens x o) g1 = let d0_g1 : Gets S C (IsValue x) = record { at = λ s h. (g1.at s h).0 } in let d1_g1 : Gets S C (IsValue o) = record { at = λ s h. (g1.at s h).1 } in search (served, looks, place_here, place_of_here, knows, fine_when_resolved) depth 30
-  fine_perform {C = C} again h1 act (ThrowsIt t) g1 = search (served, looks, place_here, place_of_here, knows, fine_reply) depth 30
   fine_perform {C = C} again h1 act (IsStamped a x) g1 = search (served, looks, place_here, place_of_here, knows) depth 30
   fine_perform {C = C} again h1 act (Coerces g x j) g1 = let d0_g1 : Gets S C (IsValue x) = record { at = λ s h. (g1.at s h).0 } in let d1_g1 : Gets S C (IsValue j) = record { at = λ s h. (g1.at s h).1 } in search (served, looks, place_here, place_of_here, knows, fine_native_coerce) depth 30
   fine_perform {C = C} again h1 act (AddsNull g) g1 = let d_g1 : Gets S C (IsValue g) = record { at = λ s h. (g1.at s h) } in search (served, looks, place_here, place_of_here, knows, fine_reply) depth 30
   fine_perform {C = C} again h1 act NoMethod g1 = search (served, looks, place_here, place_of_here, knows) depth 30
+  fine_perform {C = C} again h1 act other g1 = search (served, looks, place_here, place_of_here, knows, fine_reply) depth 30
 
   pub fine_leave : {C : Fact N} → {A : Type 0} → {G : A → Fact N} → (x1 : ℕ) → (x2 : Act N A) → Fine S C x2 G → Fine S C (calls.leave K tree {A = A} x1 x2) G
   unfolding calls.leave
@@ -249,19 +246,28 @@ module _ {N W : Type 0} (K : Naming N W) (S : Care N) (serves : Serves K S) (tre
   fine_ejector_answer {C = C} i true (Some v) g1 = let d_g1 : Gets S C (IsValue v) = record { at = λ s h. (g1.at s h) } in search (served, looks, place_here, place_of_here, knows) depth 30
   fine_ejector_answer {C = C} i false (Some v) g1 = let d_g1 : Gets S C (IsValue v) = record { at = λ s h. (g1.at s h) } in search (served, looks, place_here, place_of_here, knows) depth 30
 
-  pub fine_where_unresolved : {C : Fact N} → (x1 : Standing N) → (x2 : Act N (Unit {0})) → Fine S C x2 nothing → Fine S C (calls.where_unresolved K tree x1 x2) IsValue
-  unfolding calls.where_unresolved
-  fine_where_unresolved {C = C} Unsettled m h2 = search (served, looks, place_here, place_of_here, knows) depth 30
-  fine_where_unresolved {C = C} _ m h2 = search (served, looks, place_here, place_of_here, knows) depth 30
+  -- how an act ends from each state in which a name did neither settle nor wait
+  abbrev OpenEnds : Fact N → N → Act N (Unit {0}) → Type 0
+  OpenEnds C p m = (s : Vat N) → Sound S s → Holds (S.ok s) C → refs.standing_of K s.known p ≡ Unsettled → Ends S nothing s (m s)
+
+  open_ends : (C : Fact N) (p : N) (m : Act N (Unit {0})) → OpenEnds C p m → (s : Vat N) → Sound S s → Holds (S.ok s) C → (w : Standing N) → refs.standing_of K s.known p ≡ w → Ends S IsValue s (calls.where_unresolved K tree w m s)
+  unfolding calls.where_unresolved ◌>>◌ throw
+  open_ends C p m ends s h c Unsettled e = less_ends S C nothing IsValue s (m s) (λ _. give Null) c (ends s h c e) (λ _. fine_give S Null (got_null S C))
+  open_ends C p m ends s h c other e = (S.same s, h)
+
+  -- a resolver resolves and breaks none but a name that did neither settle nor wait
+  fine_open : {C : Fact N} (p : N) (m : Act N (Unit {0})) → OpenEnds C p m → Fine S C (look (λ s. refs.standing_of K s.known p) >>= (λ w. calls.where_unresolved K tree w m)) IsValue
+  unfolding ◌>>=◌ look and_then
+  fine_open {C = C} p m ends = record { after = λ s h c. open_ends C p m ends s h c (refs.standing_of K s.known p) refl }
 
   pub fine_smash : {C : Fact N} → (x1 : N) → Gets S C (IsName x1) → (x2 : Value N) → Gets S C (IsValue x2) → Fine S C (calls.smash K tree x1 x2) IsValue
   unfolding calls.smash
-  fine_smash {C = C} p n0 (Text t) g1 = search (served, looks, place_here, place_of_here, knows, fine_where_unresolved) depth 30
+  fine_smash {C = C} p n0 (Text t) g1 = fine_open p (refs.settle K p (Broken t)) (serves.smashes C p n0 t)
   fine_smash {C = C} p n0 _ g1 = search (served, looks, place_here, place_of_here, knows) depth 30
 
   pub fine_resolver_answer : {C : Fact N} → (x1 : N) → Gets S C (IsName x1) → (x2 : ResolverAsk N) → Gets S C (IsResolverAsk x2) → Fine S C (calls.resolver_answer K tree x1 x2) IsValue
   unfolding calls.resolver_answer
-  fine_resolver_answer {C = C} p n0 (Resolves x) g1 = let d_g1 : Gets S C (IsValue x) = record { at = λ s h. (g1.at s h) } in search (served, looks, place_here, place_of_here, knows, fine_where_unresolved) depth 30
+  fine_resolver_answer {C = C} p n0 (Resolves x) g1 = fine_open p (refs.resolve K p x) (serves.resolves C p n0 x (record { at = λ s h. g1.at s h }))
   fine_resolver_answer {C = C} p n0 (Smashes x) g1 = let d_g1 : Gets S C (IsValue x) = record { at = λ s h. (g1.at s h) } in search (served, looks, place_here, place_of_here, knows, fine_smash) depth 30
   fine_resolver_answer {C = C} p n0 NoResolverAsk g1 = search (served, looks, place_here, place_of_here, knows) depth 30
 
@@ -514,20 +520,22 @@ module _ {N W : Type 0} (K : Naming N W) (S : Care N) (serves : Serves K S) (tre
   good_evaluator zero = record { expression = λ C id here g. fine_stop S _; pattern = λ C id v g1 j g2 here g3. fine_stop S _ }
   good_evaluator (suc d) = good_deeper (eval.evaluator K tree d) (good_evaluator d)
 
-  pub fine_closes : {C : Fact N} → (x1 : ℕ) → (x2 : Option N) → Gets S C (MayName x2) → (x3 : Act N (Value N)) → Fine S C x3 IsValue → Fine S C (eval.closes K tree x1 x2 x3) nothing
-  unfolding eval.closes
-  fine_closes {C = C} act p n1 m h3 = search (served, looks, place_here, place_of_here, knows) depth 30
+  pub fine_closes : {C : Fact N} → (x1 : ℕ) → (x2 : Option N) → Gets S C (MayName x2) → WhereSome (Closing K S) x2 → (x3 : Act N (Value N)) → Fine S C x3 IsValue → Fine S C (eval.closes K tree x1 x2 x3) nothing
+  unfolding eval.closes for_some
+  fine_closes {C = C} act (Some p) n1 closing m h3 = let name : Gets S C (IsName p) = record { at = λ s h. n1.at s h } in search (served, looks, place_here, place_of_here, knows, serve_close, serve_break) depth 30
+  fine_closes {C = C} act None n1 closing m h3 = search (served, looks, place_here, place_of_here, knows) depth 30
 
-  pub fine_opening : {C : Fact N} → (x1 : ℕ) → (x2 : N) → Gets S C (IsName x2) → (x3 : List (Binding N)) → Gets S C (AreNouns x3) → Fine S C (eval.opening K tree x1 x2 x3) nothing
+  pub fine_opening : {C : Fact N} → (x1 : ℕ) → (x2 : N) → Gets S C (IsName x2) → Closing K S x2 → (x3 : List (Binding N)) → Gets S C (AreNouns x3) → Fine S C (eval.opening K tree x1 x2 x3) nothing
   unfolding eval.opening
-  fine_opening {C = C} depth p n1 given g1 = let good : GoodEvaluator S (eval.evaluator K tree depth) = good_evaluator depth in search (served, looks, place_here, place_of_here, knows, fine_closes, good.expression) depth 30
+  fine_opening {C = C} depth p n1 closing given g1 = let good : GoodEvaluator S (eval.evaluator K tree depth) = good_evaluator depth in
+      search (served, looks, place_here, place_of_here, knows, fine_closes, good.expression) depth 30
 
   -- a turn, once its message is taken
-  pub fine_turn : {C : Fact N} → (depth act : ℕ) → (m : Message N) → Gets S C (IsMessage m) → Fine S C (eval.closes K tree act m.answer (calls.turn_value K tree (eval.evaluator K tree depth) act m.target m.verb m.args)) nothing
-  fine_turn {C = C} depth act m g1 = let mt_m : Gets S C (IsValue m.target) = record { at = λ s h. (g1.at s h).1 } in let ma_m : Gets S C (AreValues m.args) = record { at = λ s h. (g1.at s h).2 } in let mr_m : Gets S C (MayName m.answer) = record { at = λ s h. (g1.at s h).3 } in
-      fine_closes act m.answer mr_m _ (fine_turn_value (eval.evaluator K tree depth) (good_evaluator depth) act m.target mt_m m.verb m.args ma_m)
+  pub fine_turn : {C : Fact N} → (depth act : ℕ) → (m : Message N) → Gets S C (IsMessage m) → WhereSome (Closing K S) m.answer → Fine S C (eval.closes K tree act m.answer (calls.turn_value K tree (eval.evaluator K tree depth) act m.target m.verb m.args)) nothing
+  fine_turn {C = C} depth act m g1 closing = let mt_m : Gets S C (IsValue m.target) = record { at = λ s h. (g1.at s h).1 } in let ma_m : Gets S C (AreValues m.args) = record { at = λ s h. (g1.at s h).2 } in let mr_m : Gets S C (MayName m.answer) = record { at = λ s h. (g1.at s h).3 } in
+      fine_closes act m.answer mr_m closing _ (fine_turn_value (eval.evaluator K tree depth) (good_evaluator depth) act m.target mt_m m.verb m.args ma_m)
 
 -- where each single change is cared for, a turn is too
 pub fine_taking : {N W : Type 0} (K : Naming N W) (S : Care N) (law : Under K S) (makes : Makes K S) (tree : List Node) {C : Fact N} (depth : ℕ) (m : Message N) → Gets S C (IsMessage m) → Fine S C (eval.taking K tree depth m) nothing
 unfolding eval.taking
-fine_taking K S law makes tree depth m g = bind_number S (fine_activation S) (λ a. then_unit S (fine_tell K S law (Took a m)) (fine_turn K S (served_by K S law makes) tree depth a m g))
+fine_taking K S law makes tree depth m g = bind_number S (fine_activation S) (λ a. then_unit S (fine_tell K S law (Took a m)) (fine_turn K S (served_by K S law makes) tree depth a m g (closing_some K S (closing_by K S law) m.answer)))

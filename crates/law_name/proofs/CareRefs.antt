@@ -60,10 +60,9 @@ module _ {N W : Type 0} (K : Naming N W) (S : Care N) (law : Under K S) where
 
   pub fine_send_to : {C : Fact N} → (x1 : N → Value N → Act N (Unit {0})) → GoodSettler S x1 → (x2 : Message N) → Gets S C (IsMessage x2) → (x3 : Value N) → Gets S C (IsValue x3) → (x4 : Place N) → Gets S C (IsPlace x4) → Fine S C (refs.send_to K x1 x2 x3 x4) nothing
   unfolding refs.send_to
-  fine_send_to {C = C} settle h1 m g1 y g2 Near p6 = let mi_m : Gets S C (IsMail m.id) = record { at = λ s h. (g1.at s h).0 } in let mt_m : Gets S C (IsValue m.target) = record { at = λ s h. (g1.at s h).1 } in let ma_m : Gets S C (AreValues m.args) = record { at = λ s h. (g1.at s h).2 } in let mr_m : Gets S C (MayName m.answer) = record { at = λ s h. (g1.at s h).3 } in search (fine, looks, place_here, place_of_here) depth 30
   fine_send_to {C = C} settle h1 m g1 y g2 (Mine n) p6 = let mi_m : Gets S C (IsMail m.id) = record { at = λ s h. (g1.at s h).0 } in let mt_m : Gets S C (IsValue m.target) = record { at = λ s h. (g1.at s h).1 } in let ma_m : Gets S C (AreValues m.args) = record { at = λ s h. (g1.at s h).2 } in let mr_m : Gets S C (MayName m.answer) = record { at = λ s h. (g1.at s h).3 } in let pn6 : Gets S C (IsName n) = record { at = λ s h. p6.at s h } in search (fine, looks, place_here, place_of_here) depth 30
   fine_send_to {C = C} settle h1 m g1 y g2 (Away h n o) p6 = let mi_m : Gets S C (IsMail m.id) = record { at = λ s h. (g1.at s h).0 } in let mt_m : Gets S C (IsValue m.target) = record { at = λ s h. (g1.at s h).1 } in let ma_m : Gets S C (AreValues m.args) = record { at = λ s h. (g1.at s h).2 } in let mr_m : Gets S C (MayName m.answer) = record { at = λ s h. (g1.at s h).3 } in let pn6 : Gets S C (IsName n) = record { at = λ s h. (p6.at s h).0 } in let po : Gets S C (IsOff h) = record { at = λ s h. (p6.at s h).1 } in search (fine, looks, place_here, place_of_here, fine_pass_on) depth 30
-  fine_send_to {C = C} settle h1 m g1 y g2 (Gone p) p6 = let mi_m : Gets S C (IsMail m.id) = record { at = λ s h. (g1.at s h).0 } in let mt_m : Gets S C (IsValue m.target) = record { at = λ s h. (g1.at s h).1 } in let ma_m : Gets S C (AreValues m.args) = record { at = λ s h. (g1.at s h).2 } in let mr_m : Gets S C (MayName m.answer) = record { at = λ s h. (g1.at s h).3 } in search (fine, looks, place_here, place_of_here) depth 30
+  fine_send_to {C = C} settle h1 m g1 y g2 other p6 = let mi_m : Gets S C (IsMail m.id) = record { at = λ s h. (g1.at s h).0 } in let mt_m : Gets S C (IsValue m.target) = record { at = λ s h. (g1.at s h).1 } in let ma_m : Gets S C (AreValues m.args) = record { at = λ s h. (g1.at s h).2 } in let mr_m : Gets S C (MayName m.answer) = record { at = λ s h. (g1.at s h).3 } in search (fine, looks, place_here, place_of_here) depth 30
 
   pub fine_send_on : {C : Fact N} → (x1 : N → Value N → Act N (Unit {0})) → GoodSettler S x1 → (x2 : Message N) → Gets S C (IsMessage x2) → Fine S C (refs.send_on K x1 x2) nothing
   unfolding refs.send_on

@@ -25,15 +25,8 @@ use Rattle.law_name.proofs.Care.{Care, Gets, Fine, fine_sees}
 use Rattle.law_name.proofs.Looks.{follow_ok, list_at_ok}
 
 pub plain_ok : {N : Type 0} (P : Bit N → Type 0) (v : Value N) → IsPlain v → ValueOk P v
-plain_ok P Null h = tt
-plain_ok P (Flag b) h = tt
-plain_ok P (Number z) h = tt
-plain_ok P (Letter c) h = tt
-plain_ok P (Text t) h = tt
-plain_ok P (Prim n) h = tt
-plain_ok P (Broken p) h = tt
-plain_ok P (Items k) h = tt
 plain_ok P (Ref n) h = absurd h
+plain_ok P other h = tt
 
 module _ {N : Type 0} (S : Care N) where
   bound_either : (P : Bit N → Type 0) (c : Bool) (b : Binding N) (o : Option (Bound N)) → NounOk P b → MayBe (BoundOk P) o → MayBe (BoundOk P) (elim c [ true ↦ Some b.bound | false ↦ o ])
@@ -69,26 +62,7 @@ module _ {N : Type 0} (S : Care N) where
   named_ok : (P : Bit N → Type 0) (p : Option Node) (v : Value N) (here : Scope N) → ValueOk P v → AllOf (NounOk P) here.nouns → AllOf (NounOk P) (scopes.named p v here).nouns
   unfolding scopes.named scopes.with_noun any_guard
   named_ok P (Some (Final x g)) v here h k = ((h, tt), k)
-  named_ok P (Some (Lit l)) v here h k = k
-  named_ok P (Some (Noun x)) v here h k = k
-  named_ok P (Some (Set x e)) v here h k = k
-  named_ok P (Some (Def p e g)) v here h k = k
-  named_ok P (Some (Call r x e)) v here h k = k
-  named_ok P (Some (Sequence es)) v here h k = k
-  named_ok P (Some (If a b c)) v here h k = k
-  named_ok P (Some (Escape a b c)) v here h k = k
-  named_ok P (Some (Try a b c)) v here h k = k
-  named_ok P (Some (Finally a b)) v here h k = k
-  named_ok P (Some (Hide a)) v here h k = k
-  named_ok P (Some (MatchBind a b)) v here h k = k
-  named_ok P (Some (Object a b c)) v here h k = k
-  named_ok P (Some (Method a b c)) v here h k = k
-  named_ok P (Some (Matcher a b)) v here h k = k
-  named_ok P (Some (Var x g)) v here h k = k
-  named_ok P (Some (Any g)) v here h k = k
-  named_ok P (Some (ListPattern ps)) v here h k = k
-  named_ok P (Some (Via a b)) v here h k = k
-  named_ok P None v here h k = k
+  named_ok P other v here h k = k
 
   pub got_named : (C : Fact N) (p : Option Node) (v : Value N) (here : Scope N) → Gets S C (IsValue v) → Gets S C (AreNouns here.nouns) → Gets S C (AreNouns (scopes.named p v here).nouns)
   got_named C p v here g h = record { at = λ s c. named_ok (S.ok s) p v here (g.at s c) (h.at s c) }
@@ -107,9 +81,8 @@ module _ {N : Type 0} (S : Care N) where
 
   resolver_ok : (P : Bit N → Type 0) (verb : Words) (args : List (Value N)) → ValuesOk P args → ResolverAskOk P (scopes.resolver_ask verb args)
   unfolding scopes.resolver_ask
-  resolver_ok P verb [] h = tt
   resolver_ok P verb (x ∷ []) h = let i : ValueOk P x = h.0 in entry_has (ResolverAskOk P) _ _ verb (i, (i, tt)) tt
-  resolver_ok P verb (x ∷ y ∷ ys) h = tt
+  resolver_ok P verb other h = tt
 
   ejector_ok : (P : Bit N → Type 0) (verb : Words) (args : List (Value N)) → ValuesOk P args → MayBe (ValueOk P) (scopes.ejector_ask verb args)
   unfolding scopes.ejector_ask
@@ -132,8 +105,7 @@ module _ {N : Type 0} (S : Care N) where
   literal_ok : (P : Bit N → Type 0) (l : Literal) → ValueOk P (form.literal_value {N = N} l)
   unfolding form.literal_value
   literal_ok P (literal.Int z) = tt
-  literal_ok P (literal.Char c) = tt
-  literal_ok P (literal.Text t) = tt
+  literal_ok P other = tt
 
   pub got_literal : (C : Fact N) (l : Literal) → Gets S C (IsValue (form.literal_value l))
   got_literal C l = record { at = λ s c. literal_ok (S.ok s) l }
@@ -152,8 +124,7 @@ module _ {N : Type 0} (S : Care N) where
   freedom_bound_ok : (P : Bit N → Type 0) (o : Option (Bound N)) (x : Words) → MayBe (BoundOk P) o → FreedomOk P (scopes.freedom_of_bound o x)
   unfolding scopes.freedom_of_bound
   freedom_bound_ok P (Some (Fixed v g)) x h = h.1
-  freedom_bound_ok P (Some (Slot k)) x h = tt
-  freedom_bound_ok P None x h = tt
+  freedom_bound_ok P other x h = tt
 
   freedom_ok : (P : Bit N → Type 0) (own : Option Words) (ns : List (Binding N)) (x : Words) → AllOf (NounOk P) ns → FreedomOk P (scopes.freedom_of own ns x)
   unfolding scopes.freedom_of
@@ -166,10 +137,8 @@ module _ {N : Type 0} (S : Care N) where
 
   told_ok : (P : Bit N → Type 0) (x : Freedom N) → FreedomOk P x → ValueOk P (scopes.guard_told x)
   unfolding scopes.guard_told any_guard
-  told_ok P IsSafe h = tt
-  told_ok P IsItself h = tt
   told_ok P (IsFinal g) h = h
-  told_ok P IsVar h = tt
+  told_ok P other h = tt
 
   guard_at_ok : (P : Bit N → Type 0) (fs : List (FreeName N)) (x : Words) → AllOf (λ (f : FreeName N). FreedomOk P f.freedom) fs → ReplyOk P (scopes.guard_at fs x)
   unfolding scopes.guard_at
@@ -178,15 +147,8 @@ module _ {N : Type 0} (S : Care N) where
 
   guard_asked_ok : (P : Bit N → Type 0) (fs : List (FreeName N)) (x : Value N) → AllOf (λ (f : FreeName N). FreedomOk P f.freedom) fs → ReplyOk P (scopes.guard_asked fs x)
   unfolding scopes.guard_asked
-  guard_asked_ok P fs Null h = tt
-  guard_asked_ok P fs (Flag b) h = tt
-  guard_asked_ok P fs (Number z) h = tt
-  guard_asked_ok P fs (Letter c) h = tt
   guard_asked_ok P fs (Text t) h = guard_at_ok P fs t h
-  guard_asked_ok P fs (Prim n) h = tt
-  guard_asked_ok P fs (Broken p) h = tt
-  guard_asked_ok P fs (Items k) h = tt
-  guard_asked_ok P fs (Ref n) h = tt
+  guard_asked_ok P fs other h = tt
 
   pub got_lists : (C : Fact N) (fs : List (List (Value N))) → Gets S C (AreLists fs) → Gets S C (AreLists ([] ∷ fs))
   got_lists C fs h = record { at = λ s c. (tt, h.at s c) }
@@ -268,14 +230,7 @@ module _ {N W : Type 0} (K : Naming N W) (S : Care N) (tree : List Node) where
   broken_ok : (P : Bit N → Type 0) (x : Value N) → ReplyOk P (perform.broken_text K tree x)
   unfolding perform.broken_text
   broken_ok P Null = tt
-  broken_ok P (Flag b) = tt
-  broken_ok P (Number z) = tt
-  broken_ok P (Letter c) = tt
-  broken_ok P (Text t) = tt
-  broken_ok P (Prim n) = tt
-  broken_ok P (Broken p) = tt
-  broken_ok P (Items k) = tt
-  broken_ok P (Ref n) = tt
+  broken_ok P other = tt
 
   pub look_broken : {C : Fact N} (x : Value N) → Fine S C (look (λ s. perform.broken_text K tree (refs.follow K s x))) IsReply
   look_broken x = fine_sees S (λ s. perform.broken_text K tree (refs.follow K s x)) IsReply (λ s h c. broken_ok (S.ok s) (refs.follow K s x))
@@ -283,14 +238,7 @@ module _ {N W : Type 0} (K : Naming N W) (S : Care N) (tree : List Node) where
   thrown_ok : (P : Bit N → Type 0) (x : Value N) → ReplyOk P (perform.thrown_text K tree x)
   unfolding perform.thrown_text
   thrown_ok P Null = tt
-  thrown_ok P (Flag b) = tt
-  thrown_ok P (Number z) = tt
-  thrown_ok P (Letter c) = tt
-  thrown_ok P (Text t) = tt
-  thrown_ok P (Prim n) = tt
-  thrown_ok P (Broken p) = tt
-  thrown_ok P (Items k) = tt
-  thrown_ok P (Ref n) = tt
+  thrown_ok P other = tt
 
   pub look_thrown : {C : Fact N} (x : Value N) → Fine S C (look (λ s. perform.thrown_text K tree (refs.follow K s x))) IsReply
   look_thrown x = fine_sees S (λ s. perform.thrown_text K tree (refs.follow K s x)) IsReply (λ s h c. thrown_ok (S.ok s) (refs.follow K s x))
@@ -298,27 +246,19 @@ module _ {N W : Type 0} (K : Naming N W) (S : Care N) (tree : List Node) where
   problem_ok : (P : Bit N → Type 0) (p : Place N) → ValueOk P (perform.problem_of K tree p)
   unfolding perform.problem_of
   problem_ok P Near = tt
-  problem_ok P (Mine n) = tt
-  problem_ok P (Away h n o) = tt
-  problem_ok P (Gone t) = tt
+  problem_ok P other = tt
 
   fulfilled_ok : (P : Bit N → Type 0) (x : Value N) (p : Place N) → ValueOk P x → ReplyOk P (perform.fulfilled K tree x p)
   unfolding perform.fulfilled
   fulfilled_ok P x Near i = i
-  fulfilled_ok P x (Mine n) i = tt
   fulfilled_ok P x (Away h n true) i = i
-  fulfilled_ok P x (Away h n false) i = tt
-  fulfilled_ok P x (Gone t) i = tt
+  fulfilled_ok P x other i = tt
 
   test_ok : (P : Bit N → Type 0) (t : RefTest) (x : Value N) (p : Place N) → ValueOk P x → ReplyOk P (perform.test_reply K tree t x p)
   unfolding perform.test_reply
-  test_ok P IsNear x p i = tt
-  test_ok P IsFar x p i = tt
-  test_ok P IsResolved x p i = tt
-  test_ok P IsBroken x p i = tt
   test_ok P OptProblem x p i = problem_ok P p
   test_ok P Fulfillment x p i = fulfilled_ok P x p i
-  test_ok P NoTest x p i = tt
+  test_ok P other x p i = tt
 
   pub look_test : {C : Fact N} (t : RefTest) (x : Value N) → Gets S C (IsValue x) → Fine S C (look (λ s. perform.test_reply K tree t x (refs.place K s (refs.follow K s x)))) IsReply
   look_test t x g = fine_sees S (λ s. perform.test_reply K tree t x (refs.place K s (refs.follow K s x))) IsReply (λ s h c. test_ok (S.ok s) t x (refs.place K s (refs.follow K s x)) (g.at s c))

@@ -35,10 +35,9 @@ may_map f None h = tt
 
 module _ {N : Type 0} (P : Bit N → Type 0) where
   abbrev pub PlaceOk : Place N → Type 0
-  PlaceOk Near = Unit {0}
   PlaceOk (Mine n) = P (Named n)
   PlaceOk (Away h n o) = P (Named n) × P (Off h)
-  PlaceOk (Gone p) = Unit {0}
+  PlaceOk other = Unit {0}
 
   abbrev pub ChangeOk : Change N → Type 0
   ChangeOk (Hold m) = MessageOk P m
@@ -51,21 +50,14 @@ module _ {N : Type 0} (P : Bit N → Type 0) where
 
   -- what a change asks of the name that it changes
   abbrev pub OnOk : Change N → N → Type 0
-  OnOk (Hold m) n = Unit {0}
-  OnOk (Wait q) n = Unit {0}
-  OnOk (WaitOn q) n = Unit {0}
-  OnOk (See q) n = Unit {0}
-  OnOk (React m) n = Unit {0}
   OnOk (ToTell w) n = P (Named n)
-  OnOk (Settle y) n = Unit {0}
+  OnOk other n = Unit {0}
 
   -- what comes to be known by the vat's own doing; what is learnt from a note is another thing
   abbrev pub ComingOk : {W : Type 0} → Coming N W → Type 0
-  ComingOk (IsRoot w) = ⊥
-  ComingOk (IsOwn i) = ⊥
   ComingOk (IsAnswer h m) = P (Mail m)
   ComingOk (IsGift h i) = P (Drew i)
-  ComingOk (IsLearnt x) = ⊥
+  ComingOk other = ⊥
 
   abbrev pub ReplyOk : Reply N → Type 0
   ReplyOk = ReplyHas (ValueOk P)
@@ -74,10 +66,9 @@ module _ {N : Type 0} (P : Bit N → Type 0) where
   AskedOk = AskedHas (ValueOk P)
 
   abbrev pub AuditionAskOk : AuditionAsk N → Type 0
-  AuditionAskOk GetsForm = Unit {0}
   AuditionAskOk (GetsGuard x) = ValueOk P x
   AuditionAskOk (Asks x) = ValueOk P x
-  AuditionAskOk NoAuditionAsk = Unit {0}
+  AuditionAskOk other = Unit {0}
 
   abbrev pub ResolverAskOk : ResolverAsk N → Type 0
   ResolverAskOk (Resolves x) = ValueOk P x
@@ -206,15 +197,8 @@ module _ {N : Type 0} (P : Bit N → Type 0) where
 -- what holds of names that are so holds where more are
 module _ {N : Type 0} (P Q : Bit N → Type 0) (up : (b : Bit N) → P b → Q b) where
   pub value_up : (v : Value N) → ValueOk P v → ValueOk Q v
-  value_up Null h = tt
-  value_up (Flag b) h = tt
-  value_up (Number z) h = tt
-  value_up (Letter c) h = tt
-  value_up (Text t) h = tt
-  value_up (Prim n) h = tt
-  value_up (Broken p) h = tt
-  value_up (Items k) h = tt
   value_up (Ref n) h = up (Named n) h
+  value_up other h = tt
 
   pub values_up : (vs : List (Value N)) → ValuesOk P vs → ValuesOk Q vs
   values_up vs h = all_map value_up vs h
@@ -239,10 +223,8 @@ module _ {N : Type 0} (P Q : Bit N → Type 0) (up : (b : Bit N) → P b → Q b
   cell_up c h = (value_up c.guard h.0, value_up c.value h.1)
 
   freedom_up : (x : Freedom N) → FreedomOk P x → FreedomOk Q x
-  freedom_up IsSafe h = tt
-  freedom_up IsItself h = tt
   freedom_up (IsFinal g) h = value_up g h
-  freedom_up IsVar h = tt
+  freedom_up other h = tt
 
   pub view_up : (x : View N) → ViewOk P x → ViewOk Q x
   view_up x h = all_map (λ f. freedom_up f.freedom) x.free h
@@ -280,11 +262,7 @@ module _ {N : Type 0} (P Q : Bit N → Type 0) (up : (b : Bit N) → P b → Q b
 
   pub goes_up : (to : ℕ) (n : Note N) → GoesOk P to n → GoesOk Q to n
   goes_up to (Deliver m n verb ys) h = up (Off to) h
-  goes_up to (Open i n) h = tt
-  goes_up to (Ask p i n) h = tt
-  goes_up to (SettledTo n y) h = tt
-  goes_up to (Elsewhere n c) h = tt
-  goes_up to (Shorten n c i) h = tt
+  goes_up to other h = tt
 
   pub put_up : (p : Put N) → PutOk P p → PutOk Q p
   put_up p h = (note_up p.note h.0, goes_up p.to p.note h.1)
@@ -293,10 +271,9 @@ module _ {N : Type 0} (P Q : Bit N → Type 0) (up : (b : Bit N) → P b → Q b
   gift_up g h = (up (Owns g.name g.number) h.0, up (Drew g.number) h.1)
 
   place_up : (p : Place N) → PlaceOk P p → PlaceOk Q p
-  place_up Near h = tt
   place_up (Mine n) h = up (Named n) h
   place_up (Away w n o) h = (up (Named n) h.0, up (Off w) h.1)
-  place_up (Gone t) h = tt
+  place_up other h = tt
 
   change_up : (c : Change N) → ChangeOk P c → ChangeOk Q c
   change_up (Hold m) h = message_up m h
@@ -308,44 +285,31 @@ module _ {N : Type 0} (P Q : Bit N → Type 0) (up : (b : Bit N) → P b → Q b
   change_up (Settle y) h = value_up y h
 
   pub on_up : (c : Change N) (n : N) → OnOk P c n → OnOk Q c n
-  on_up (Hold m) n h = tt
-  on_up (Wait q) n h = tt
-  on_up (WaitOn q) n h = tt
-  on_up (See q) n h = tt
-  on_up (React m) n h = tt
   on_up (ToTell w) n h = up (Named n) h
-  on_up (Settle y) n h = tt
+  on_up other n h = tt
 
   reply_up : (r : Reply N) → ReplyOk P r → ReplyOk Q r
   reply_up (Says v) h = value_up v h
-  reply_up (Writes t) h = tt
   reply_up (Listed vs) h = values_up vs h
   reply_up (Iterates o vs) h = (value_up o h.0, values_up vs h.1)
-  reply_up (Fails p) h = tt
+  reply_up other h = tt
 
   asked_up : (a : Asked N) → AskedOk P a → AskedOk Q a
   asked_up (MakesList vs) h = values_up vs h
-  asked_up (Ranges b x y) h = tt
-  asked_up (Same x y) h = tt
-  asked_up (Compares t x y) h = tt
   asked_up (Loops o) h = value_up o h
   asked_up (SendsTo only x v l) h = (value_up x h.0, value_up v h.1, value_up l h.2)
   asked_up (CallsTo x v l) h = (value_up x h.0, value_up v h.1, value_up l h.2)
-  asked_up MakesPromise h = tt
   asked_up (Breaks x) h = value_up x h
   asked_up (Tells t x) h = value_up x h
   asked_up (Whens x o) h = (value_up x h.0, value_up o h.1)
-  asked_up (ThrowsIt x) h = tt
-  asked_up (IsStamped a x) h = tt
   asked_up (Coerces k x j) h = (value_up x h.0, value_up j h.1)
   asked_up (AddsNull x) h = value_up x h
-  asked_up NoMethod h = tt
+  asked_up other h = tt
 
   audition_up : (a : AuditionAsk N) → AuditionAskOk P a → AuditionAskOk Q a
-  audition_up GetsForm h = tt
   audition_up (GetsGuard x) h = value_up x h
   audition_up (Asks x) h = value_up x h
-  audition_up NoAuditionAsk h = tt
+  audition_up other h = tt
 
   resolver_up : (a : ResolverAsk N) → ResolverAskOk P a → ResolverAskOk Q a
   resolver_up (Resolves x) h = value_up x h

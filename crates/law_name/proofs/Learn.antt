@@ -92,9 +92,8 @@ module _ (news : Bool) (M : Marked) (vats : List (Vat Name)) (v : ℕ) (q : Vat 
       → ((a : A) → Learns ks (Also C (P a)) (f a) ks' H) → Learned ks' H s (and_then d f)
   unfolding and_then
   bind_learned ks ks' C P H s (Gives a t) f c h k = wider ks' H s t (f a t) h.0 ((k a).after t h.1 h.2 (rise s t h.0 C c, h.3))
-  bind_learned ks ks' C P H s (Throws p t) f c h k = h
-  bind_learned ks ks' C P H s (Ejects n x t) f c h k = h
   bind_learned ks ks' C P H s (Stops r t) f c h k = tt
+  bind_learned ks ks' C P H s other f c h k = h
 
   learns_bind : {A B : Type 0} {ks ks' ks'' : List Name} {C : Fact Name} {m : Act Name A} {f : A → Act Name B} {H : B → Fact Name} (P : A → Fact Name) → Learns ks C m ks' P → ((a : A) → Learns ks' (Also C (P a)) (f a) ks'' H) → Learns ks C (m >>= f) ks'' H
   unfolding ◌>>=◌
@@ -117,9 +116,8 @@ module _ (news : Bool) (M : Marked) (vats : List (Vat Name)) (v : ℕ) (q : Vat 
       → ((a : A) → Reads ks (Also C (P a)) (f a)) → Ended s (and_then d f)
   unfolding and_then
   bind_read ks C P s (Gives a t) f c h k = widest s t (f a t) h.0 ((k a).after t h.1 h.2 (rise s t h.0 C c, h.3))
-  bind_read ks C P s (Throws p t) f c h k = h
-  bind_read ks C P s (Ejects n x t) f c h k = h
   bind_read ks C P s (Stops r t) f c h k = tt
+  bind_read ks C P s other f c h k = h
 
   pub reads_bind : {A B : Type 0} {ks ks' : List Name} {C : Fact Name} {m : Act Name A} {f : A → Act Name B} (P : A → Fact Name) → Learns ks C m ks' P → ((a : A) → Reads ks' (Also C (P a)) (f a)) → Reads ks C (m >>= f)
   unfolding ◌>>=◌
@@ -154,10 +152,7 @@ module _ (news : Bool) (M : Marked) (vats : List (Vat Name)) (v : ℕ) (q : Vat 
   new_plain : (ks : List Name) (s : Vat Name) (n : Name) → WasMade us d0 n → Knows ks s → (IsAmong n ks → ⊥) → IsPlain n → IsAmong n (names_in s.known) → ⊥
   new_plain ks s (Root w) m k f p a = f (k.told (Root w) tt a)
   new_plain ks s (Promise w i) m k f p a = mine_or w i ks s (v == w) (eqb-true v w) (no_self v w) k m f a
-  new_plain ks s (Object w i) m k f p a = absurd p
-  new_plain ks s (Answer w x) m k f p a = absurd p
-  new_plain ks s (Gift w i) m k f p a = absurd p
-  new_plain ks s (Sent x) m k f p a = absurd p
+  new_plain ks s other m k f p a = absurd p
 
   new_own : (ks : List Name) (s : Vat Name) (n : Name) → WasMade us d0 n → Knows ks s → (IsAmong n ks → ⊥) → (i : ℕ) → Promise v i ≡ n → i < s.promises
   new_own ks s n m k f i e = let l : i < promises_of us v = rw (sym e) at m in absurd (f (rw e at (k.own i l)))
@@ -227,15 +222,8 @@ module _ (news : Bool) (M : Marked) (vats : List (Vat Name)) (v : ℕ) (q : Vat 
   plainly ks y h = learns_fine (fine_give (tracked news M vats v q there here) y (record { at = λ s c. sure y h (Good s) }))
     where
       sure : (y : Value Name) → ValueOk (λ (b : Bit Name). ⊥) y → (P : Bit Name → Type 0) → ValueOk P y
-      sure Null h P = tt
-      sure (Flag b) h P = tt
-      sure (Number z) h P = tt
-      sure (Letter c) h P = tt
-      sure (Text t) h P = tt
-      sure (Prim n) h P = tt
-      sure (Broken p) h P = tt
-      sure (Items k) h P = tt
       sure (Ref n) h P = absurd h
+      sure other h P = tt
 
   learn_value : {C : Fact Name} (ks : List Name) (y : Value Name) → ValueOk Was y → Learns ks C (arrive.learn_value (naming word v) (world.read_value ks y).read) (world.read_value ks y).known IsValue
   unfolding arrive.learn_value world.read_value
@@ -302,11 +290,7 @@ module _ (news : Bool) (M : Marked) (vats : List (Vat Name)) (v : ℕ) (q : Vat 
 
   message_name : (m : Name) → IsMessageMade us m → IsMessageName m
   message_name (Sent m) h = tt
-  message_name (Root w) h = absurd h
-  message_name (Object w i) h = absurd h
-  message_name (Promise w i) h = absurd h
-  message_name (Answer w m) h = absurd h
-  message_name (Gift w i) h = absurd h
+  message_name other h = absurd h
 
   pub message_learned : {C : Fact Name} (ks : List Name) (m : Name) (h : ℕ) → Was (Mail m) → Learns ks C (arrive.learn_message (naming word v) (New m h)) ks IsMail
   unfolding arrive.learn_message mail naming mail_of

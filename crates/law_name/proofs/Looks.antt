@@ -54,21 +54,13 @@ module _ {N W : Type 0} (K : Naming N W) (P : Bit N → Type 0) where
   unfolding refs.led
   led_ok on n (Settled y) f g h = f y h
   led_ok on n (Viewed q) f g h = f (Ref q) h
-  led_ok on n (WaitsOn q) f g h = g
-  led_ok on n Unsettled f g h = g
+  led_ok on n other f g h = g
 
   follow_at_ok : (d : ℕ) (ks : List (Known N)) (x : Value N) → AllOf (KnownOk P) ks → ValueOk P x → ValueOk P (refs.follow_at K d ks x)
   unfolding refs.follow_at refs.standing_of
   follow_at_ok zero ks x h i = i
   follow_at_ok (suc d) ks (Ref n) h i = led_ok (λ y. refs.follow_at K d ks y) n (refs.standing_of K ks n) (λ y j. follow_at_ok d ks y h j) i (standing_ok (refs.entry_of K ks n) (entry_ok ks n h))
-  follow_at_ok (suc d) ks Null h i = tt
-  follow_at_ok (suc d) ks (Flag b) h i = tt
-  follow_at_ok (suc d) ks (Number z) h i = tt
-  follow_at_ok (suc d) ks (Letter c) h i = tt
-  follow_at_ok (suc d) ks (Text t) h i = tt
-  follow_at_ok (suc d) ks (Prim p) h i = tt
-  follow_at_ok (suc d) ks (Broken p) h i = tt
-  follow_at_ok (suc d) ks (Items k) h i = tt
+  follow_at_ok (suc d) ks other h i = tt
 
   by_ok : (n : N) (b : Bool) (t : Words) → P (Named n) → ValueOk P (elim b [ true ↦ Broken t | false ↦ Ref n ])
   by_ok n true t h = tt
@@ -82,15 +74,8 @@ module _ {N W : Type 0} (K : Naming N W) (P : Bit N → Type 0) where
 
   severed_ok : (s : Vat N) (x : Value N) → ValueOk P x → ValueOk P (refs.severed K s x)
   unfolding refs.severed
-  severed_ok s Null h = tt
-  severed_ok s (Flag b) h = tt
-  severed_ok s (Number z) h = tt
-  severed_ok s (Letter c) h = tt
-  severed_ok s (Text t) h = tt
-  severed_ok s (Prim p) h = tt
-  severed_ok s (Broken p) h = tt
-  severed_ok s (Items k) h = tt
   severed_ok s (Ref n) h = at_ok s n (K.spot n) h
+  severed_ok s other h = tt
 
   pub follow_ok : (s : Vat N) → AllOf (KnownOk P) s.known → (x : Value N) → ValueOk P x → ValueOk P (refs.follow K s x)
   unfolding refs.follow
@@ -99,29 +84,16 @@ module _ {N W : Type 0} (K : Naming N W) (P : Bit N → Type 0) where
   pub place_ok : (s : Vat N) → ((n : N) → P (Named n) → PlaceOk P (refs.spotted K s n (K.spot n))) → (y : Value N) → ValueOk P y → PlaceOk P (refs.place K s y)
   unfolding refs.place
   place_ok s f (Ref n) h = f n h
-  place_ok s f (Broken p) h = tt
-  place_ok s f Null h = tt
-  place_ok s f (Flag b) h = tt
-  place_ok s f (Number z) h = tt
-  place_ok s f (Letter c) h = tt
-  place_ok s f (Text t) h = tt
-  place_ok s f (Prim p) h = tt
-  place_ok s f (Items k) h = tt
+  place_ok s f other h = tt
 
   -- ---- passing
 
   module _ (s : Vat N) (known : AllOf (KnownOk P) s.known) (lists : AllOf (ValuesOk P) s.lists) where
     shape_by_ok : (f : List (Value N) → Passed N) (y : Value N) → ValueOk P y → ((vs : List (Value N)) → ValuesOk P vs → PassedOk P (f vs)) → PassedOk P (refs.shape_by K f s.lists y)
     unfolding refs.shape_by
-    shape_by_ok f Null i h = tt
-    shape_by_ok f (Flag b) i h = tt
-    shape_by_ok f (Number z) i h = tt
-    shape_by_ok f (Letter c) i h = tt
-    shape_by_ok f (Text t) i h = tt
-    shape_by_ok f (Prim p) i h = tt
-    shape_by_ok f (Broken p) i h = tt
     shape_by_ok f (Items k) i h = h (list_at s.lists k) (list_at_ok P s.lists k lists)
     shape_by_ok f (Ref n) i h = i
+    shape_by_ok f other i h = tt
 
     shapes_ok : (f : Value N → Passed N) (vs : List (Value N)) → ValuesOk P vs → ((v : Value N) → ValueOk P v → PassedOk P (f v)) → PassedsOk P (refs.shapes K f vs)
     unfolding refs.shapes
@@ -140,15 +112,9 @@ module _ {N W : Type 0} (K : Naming N W) (P : Bit N → Type 0) where
 
     parcel_at_ok : (y : Value N) → ValueOk P y → PassedOk P (refs.parcel_at K s y).value
     unfolding refs.parcel_at
-    parcel_at_ok Null i = tt
-    parcel_at_ok (Flag b) i = tt
-    parcel_at_ok (Number z) i = tt
-    parcel_at_ok (Letter c) i = tt
-    parcel_at_ok (Text t) i = tt
-    parcel_at_ok (Prim p) i = tt
-    parcel_at_ok (Broken p) i = tt
     parcel_at_ok (Items k) i = of_list_ok (Items k) _ tt
     parcel_at_ok (Ref n) i = i
+    parcel_at_ok other i = tt
 
     pub parcel_ok : (x : Value N) → ValueOk P x → PassedOk P (refs.parcel K s x).value
     unfolding refs.parcel
@@ -163,15 +129,9 @@ module _ {N W : Type 0} (K : Naming N W) (P : Bit N → Type 0) where
 
   pub target_ok : (s : Vat N) (p : N) (x : Value N) → ValueOk P x → ValueOk P (refs.target_of K s p x)
   unfolding refs.target_of
-  target_ok s p Null h = tt
-  target_ok s p (Flag b) h = tt
-  target_ok s p (Number z) h = tt
-  target_ok s p (Letter c) h = tt
-  target_ok s p (Text t) h = tt
-  target_ok s p (Prim n) h = tt
-  target_ok s p (Broken t) h = tt
   target_ok s p (Items k) h = cut_ok (refs.reaches K (suc (length s.lists)) s p (Items k)) (Items k) tt
   target_ok s p (Ref n) h = h
+  target_ok s p other h = tt
 
 module _ {N : Type 0} (S : Care N) where
   pub look_list : {C : Fact N} (k : ℕ) → Fine S C (look (λ s. list_at s.lists k)) AreValues
@@ -287,9 +247,7 @@ module _ {N : Type 0} (S : Care N) where
   pub got_answer_host : {W : Type 0} (K : Naming N W) (C : Fact N) (v : ℕ) (p : Place N) → Gets S C (IsVat v) → Gets S C (IsPlace p) → Gets S C (IsVat (refs.answer_host K v p))
   unfolding refs.answer_host
   got_answer_host K C v (Away h n o) g k = record { at = λ s c. S.near s h (k.at s c).1 }
-  got_answer_host K C v Near g k = g
-  got_answer_host K C v (Mine n) g k = g
-  got_answer_host K C v (Gone p) g k = g
+  got_answer_host K C v other g k = g
 
   pub note_shorten : (C : Fact N) (n : N) (h i : ℕ) → Gets S C (IsName n) → Gets S C (IsDraw i) → Gets S C (NoteDoes (Shorten n h i))
   note_shorten C n h i g k = record { at = λ s c. (g.at s c, k.at s c) }

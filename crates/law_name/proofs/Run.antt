@@ -12,7 +12,7 @@ use Rattle.def_run.specs.World.{Script, Program, Opens, Entry, Turn, Carry, CutL
 use Rattle.law_name.specs.Names.{Bit, Named, Mail, Drew, At, Off, Entered, Owns, Gave, bare, AllOf, IsAmong, promises_of, messages_of, IsMade, NounOk, MessageOk, NoteOk, KnownOk, Parts, names_in, IsHad, HostIsTrue, IsEventual, PlainOnce, Once}
 use Rattle.law_name.proofs.Facts.{MayBe, all_map, all_end, all_append, all_so, message_up, nouns_up, note_up, Fact, Nothing, Also, IsName, AreNouns, IsMessage, Holds}
 use Rattle.law_name.proofs.Care.{Care, Sound, parts_up}
-use Rattle.law_name.proofs.Serves.{served_by}
+use Rattle.law_name.proofs.Serves.{served_by, closing_by}
 use Rattle.law_name.proofs.CareEval.{fine_opening, fine_taking}
 use Rattle.law_name.proofs.CareArrive.{fine_notice}
 use Rattle.law_name.proofs.Among.{promises_at, length_end, is_made_up}
@@ -27,13 +27,11 @@ KnowsVats script = (v : ℕ) (p : Program) → slice_get script.vats v ≡ Some 
 -- the host of a name, or a vat, is one of so many
 abbrev pub IsInside : ℕ → Bit Name → Type 0
 IsInside count (Named n) = host_of n < count
-IsInside count (Mail n) = Unit {0}
-IsInside count (Drew i) = Unit {0}
 IsInside count (At h) = h < count
 IsInside count (Off h) = h < count
 IsInside count (Entered n) = host_of n < count
 IsInside count (Owns n i) = host_of n < count
-IsInside count (Gave i) = Unit {0}
+IsInside count other = Unit {0}
 
 -- what follows where each vat of the script knows only vats of it
 abbrev pub Inside : Script → Bit Name → Type 0
@@ -243,9 +241,7 @@ module _ (script : Script) where
     put_back_stands : (x : World) (head : List Event) (n : ℕ) (d : Done Name (Unit {0})) → names_in q.known ≡ names_in s.known → Ended true (inside script) w.vats v s there (low_at w h v s there) (draw_word script.key) w.vats w.drawn Ready d → world.put_back v w head n d ≡ Going x → Stands script x
     unfolding world.put_back
     put_back_stands x head n (Gives a t) e k i = moved _ x (record { vats = λ u r j. each_next t k.0 (record { fuel = t.fuel; drawn = t.drawn; vats = put_at v t w.vats; links = world.push_all v t.outbox w.links; connections = world.connections_after v t head w.connections; history = w.history ++ head ++ world.events_of w.links v t.happened }) refl refl e k.1 u r (put_at_or v t w.vats u r j); links = links_next t k.0 k.1 }) i
-    put_back_stands x head n (Throws p t) e k i = cc
-    put_back_stands x head n (Ejects m y t) e k i = cc
-    put_back_stands x head n (Stops c t) e k i = cc
+    put_back_stands x head n other e k i = cc
 
     module _ (parts : Parts (λ b. IsMade w.vats w.drawn b × IsHad (names_in q.known) q.mails b × IsFar v b × Inside script (bare b)) q.things q.slots q.lists q.queue q.known q.gifts q.outbox) (kept : Kept v q.number q.known q.mails q.promises) where
       pub had_ready : (b : Bit Name) → IsMade w.vats w.drawn b × IsHad (names_in q.known) q.mails b × IsFar v b × Inside script (bare b) → Ok true (inside script) w.vats v s there (low_at w h v s there) Ready b
@@ -370,7 +366,8 @@ module _ (script : Script) where
       let given : AllOf (NounOk (Had script w v s)) (world.given script.vats p.knows) = given_ok w v s p.knows roots.1 (knows_low p.knows (λ k. k v p t)) in
       let up : (b : Bit Name) → Had script w v s b → Ok true (inside script) w.vats v s q (low_at w h v s q) (world.readied w s) b = had_ready v w s s q refl refl h g.parts g.kept in
       within_stands v w s s q refl refl h g.parts g.kept x (Opens v ∷ []) v (Also (IsName (Root v)) (AreNouns (world.given script.vats p.knows))) (opening (naming (draw_word script.key) v) p.tree script.depth (Root v) (world.given script.vats p.knows)) refl
-      (reads_fine true (inside script) w.vats v s q (low_at w h v s q) (draw_word script.key) w.vats w.drawn (fine_opening (naming (draw_word script.key) v) (tracked true (inside script) w.vats v s q (low_at w h v s q)) (served_by (naming (draw_word script.key) v) (tracked true (inside script) w.vats v s q (low_at w h v s q)) (tracked_under true (inside script) w.vats v s q (low_at w h v s q) (draw_word script.key)) (tracked_makes (inside script) w.vats v s q (low_at w h v s q) (draw_word script.key))) p.tree script.depth (Root v) (record { at = λ r c. c.0 }) (world.given script.vats p.knows) (record { at = λ r c. c.1 })))
+      (reads_fine true (inside script) w.vats v s q (low_at w h v s q) (draw_word script.key) w.vats w.drawn (fine_opening (naming (draw_word script.key) v) (tracked true (inside script) w.vats v s q (low_at w h v s q)) (served_by (naming (draw_word script.key) v) (tracked true (inside script) w.vats v s q (low_at w h v s q)) (tracked_under true (inside script) w.vats v s q (low_at w h v s q) (draw_word script.key)) (tracked_makes (inside script) w.vats v s q (low_at w h v s q) (draw_word script.key))) p.tree script.depth (Root v) (record { at = λ r c. c.0 })
+      (closing_by (naming (draw_word script.key) v) (tracked true (inside script) w.vats v s q (low_at w h v s q)) (tracked_under true (inside script) w.vats v s q (low_at w h v s q) (draw_word script.key)) (Root v)) (world.given script.vats p.knows) (record { at = λ r c. c.1 })))
       (up (Named (Root v)) (tt, roots.0, tt, inside_root script v (low_at w h v s q)), nouns_up (Had script w v s) (Ok true (inside script) w.vats v s q (low_at w h v s q) (world.readied w s)) up (world.given script.vats p.knows) given) e
 
 get_mid : (front : List Program) (p : Program) (ps : List Program) → slice_get (front ++ p ∷ ps) (length front) ≡ Some p

@@ -35,41 +35,13 @@ two_same w i = and_true (w == w) (i == i) (eq-eqb w w refl) (eq-eqb i i refl)
 pub same_is : (a b : Name) → same_name a b ≡ true → a ≡ b
 unfolding same_name
 same_is (Root w) (Root u) e = ap Root (eqb-true w u e)
-same_is (Root w) (Object u j) e = absurd (false_true e)
-same_is (Root w) (Promise u j) e = absurd (false_true e)
-same_is (Root w) (Answer u n) e = absurd (false_true e)
-same_is (Root w) (Gift u j) e = absurd (false_true e)
-same_is (Root w) (Sent n) e = absurd (false_true e)
-same_is (Object w i) (Root u) e = absurd (false_true e)
 same_is (Object w i) (Object u j) e = two_is Object w u i j e
-same_is (Object w i) (Promise u j) e = absurd (false_true e)
-same_is (Object w i) (Answer u n) e = absurd (false_true e)
-same_is (Object w i) (Gift u j) e = absurd (false_true e)
-same_is (Object w i) (Sent n) e = absurd (false_true e)
-same_is (Promise w i) (Root u) e = absurd (false_true e)
-same_is (Promise w i) (Object u j) e = absurd (false_true e)
 same_is (Promise w i) (Promise u j) e = two_is Promise w u i j e
-same_is (Promise w i) (Answer u n) e = absurd (false_true e)
-same_is (Promise w i) (Gift u j) e = absurd (false_true e)
-same_is (Promise w i) (Sent n) e = absurd (false_true e)
-same_is (Answer w m) (Root u) e = absurd (false_true e)
-same_is (Answer w m) (Object u j) e = absurd (false_true e)
-same_is (Answer w m) (Promise u j) e = absurd (false_true e)
 same_is (Answer w m) (Answer u n) e = let h = both (w == u) (same_msg m n) e in ap (λ x. Answer x m) (eqb-true w u h.0) ∙ ap (Answer u) (msg_is m n h.1)
-same_is (Answer w m) (Gift u j) e = absurd (false_true e)
-same_is (Answer w m) (Sent n) e = absurd (false_true e)
-same_is (Gift w i) (Root u) e = absurd (false_true e)
-same_is (Gift w i) (Object u j) e = absurd (false_true e)
-same_is (Gift w i) (Promise u j) e = absurd (false_true e)
-same_is (Gift w i) (Answer u n) e = absurd (false_true e)
 same_is (Gift w i) (Gift u j) e = two_is Gift w u i j e
-same_is (Gift w i) (Sent n) e = absurd (false_true e)
-same_is (Sent m) (Root u) e = absurd (false_true e)
-same_is (Sent m) (Object u j) e = absurd (false_true e)
-same_is (Sent m) (Promise u j) e = absurd (false_true e)
-same_is (Sent m) (Answer u n) e = absurd (false_true e)
-same_is (Sent m) (Gift u j) e = absurd (false_true e)
 same_is (Sent m) (Sent n) e = ap Sent (msg_is m n e)
+same_is other (Object u j) e = absurd (false_true e)
+same_is other another e = absurd (false_true e)
 
 pub reference_is : (a b : Name) → same_reference a b ≡ true → a ≡ b
 unfolding same_reference
@@ -96,8 +68,7 @@ reference_self (Root w) h = same_self (Root w)
 reference_self (Promise w i) h = same_self (Promise w i)
 reference_self (Answer w m) h = same_self (Answer w m)
 reference_self (Gift w i) h = same_self (Gift w i)
-reference_self (Object w i) h = absurd h
-reference_self (Sent m) h = absurd h
+reference_self other h = absurd h
 
 among_either : (b : Bool) (m n : Name) (ms : List Name) → (b ≡ true → m ≡ n) → (has_name ms n ≡ true → IsAmong n ms) → elim b [ true ↦ true | false ↦ has_name ms n ] ≡ true → IsAmong n (m ∷ ms)
 among_either true m n ms f g e = inl (sym (f refl))
@@ -146,22 +117,15 @@ new_unknown ns (Sent m) e a = true_false (has_name ns (Sent m)) (among_has ns (S
 pub new_eventual : (ns : List Name) (vats : List (Vat Name)) (d : List ℕ) (n : Name) → is_old ns n ≡ false → WasMade vats d n → IsEventual n
 unfolding is_old
 new_eventual ns vats d (Object w i) e m = absurd (false_true (sym e))
-new_eventual ns vats d (Root w) e m = tt
-new_eventual ns vats d (Promise w i) e m = tt
-new_eventual ns vats d (Answer w x) e m = tt
-new_eventual ns vats d (Gift w i) e m = tt
 new_eventual ns vats d (Sent x) e m = absurd m
+new_eventual ns vats d other e m = tt
 
 -- ---- no object is found among names of that kind
 
 far_is : (v : ℕ) (m : Name) (h : ℕ) → spot_of v m ≡ Foreign h → IsEventual m → ⊥
 unfolding spot_of
 far_is v (Object w i) h e o = o
-far_is v (Root w) h e o = cc
-far_is v (Promise w i) h e o = cc
-far_is v (Answer w x) h e o = cc
-far_is v (Gift w i) h e o = cc
-far_is v (Sent x) h e o = cc
+far_is v other h e o = cc
 
 no_entry : (b : Bool) (k : Known Name) (o : Option (Known Name)) → (b ≡ true → ⊥) → o ≡ None → ◌≡◌ {A = Option (Known Name)} (elim b [ true ↦ Some k | false ↦ o ]) None
 no_entry true k o f e = absurd (f refl)
@@ -184,28 +148,17 @@ at_all P (y ∷ ys) (suc i) x h e = at_all P ys i x h.1 e
 
 pub eventual_spot : (v : ℕ) (n : Name) → IsEventual n → spot_of v n ≡ NoObject
 unfolding spot_of
-eventual_spot v (Root w) h = refl
-eventual_spot v (Promise w i) h = refl
-eventual_spot v (Answer w m) h = refl
-eventual_spot v (Gift w i) h = refl
 eventual_spot v (Object w i) h = absurd h
 eventual_spot v (Sent m) h = absurd h
+eventual_spot v other h = refl
 
 pub message_is : (n : Name) → IsMessageName n → (m : Msg) × (n ≡ Sent m)
 message_is (Sent m) h = (m, refl)
-message_is (Root w) h = absurd h
-message_is (Promise w i) h = absurd h
-message_is (Answer w m) h = absurd h
-message_is (Gift w i) h = absurd h
-message_is (Object w i) h = absurd h
+message_is other h = absurd h
 
 not_both : (n : Name) → IsEventual n → IsMessageName n → ⊥
-not_both (Root w) h k = k
-not_both (Promise w i) h k = k
-not_both (Answer w m) h k = k
-not_both (Gift w i) h k = k
-not_both (Object w i) h k = k
 not_both (Sent m) h k = h
+not_both other h k = k
 
 is_false : (b : Bool) → (b ≡ true → ⊥) → b ≡ false
 is_false true f = absurd (f refl)

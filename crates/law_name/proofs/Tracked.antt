@@ -19,10 +19,7 @@ use Rattle.law_name.proofs.Among.{among_more, among_last, among_or, among_is, na
 abbrev pub IsTold : ℕ → Name → Type 0
 IsTold v (Root w) = Unit {0}
 IsTold v (Promise w i) = v ≡ w → ⊥
-IsTold v (Object w i) = ⊥
-IsTold v (Answer h m) = ⊥
-IsTold v (Gift h i) = ⊥
-IsTold v (Sent m) = ⊥
+IsTold v other = ⊥
 
 -- a mark of names and vats: names that are made of a vat that bears it bear it, and a name's host does
 pub record Marked : Type 1 where
@@ -40,13 +37,7 @@ pub record Marked : Type 1 where
 -- another vat is not the vat itself
 abbrev pub IsFar : ℕ → Bit Name → Type 0
 IsFar v (Off h) = v ≡ h → ⊥
-IsFar v (Named n) = Unit {0}
-IsFar v (Mail n) = Unit {0}
-IsFar v (Drew i) = Unit {0}
-IsFar v (At h) = Unit {0}
-IsFar v (Entered n) = Unit {0}
-IsFar v (Owns n i) = Unit {0}
-IsFar v (Gave i) = Unit {0}
+IsFar v other = Unit {0}
 
 -- how the count of messages goes on: where new ones may be made, and where none are
 abbrev pub Counts : Bool → ℕ → ℕ → Type 0
@@ -95,46 +86,28 @@ known_up ns ms f (Sent m) h = f (Sent m) h
 
 pub known_among : (ns : List Name) (n : Name) → IsAmong n ns → IsKnownIn ns n
 known_among ns (Object w i) h = tt
-known_among ns (Root w) h = h
-known_among ns (Promise w i) h = h
-known_among ns (Answer w m) h = h
-known_among ns (Gift w i) h = h
-known_among ns (Sent m) h = h
+known_among ns other h = h
 
 -- what is known of names changes, and not the names
 unless_name : (x : Standing Name) (k new : Known Name) → new.name ≡ k.name → (unless_settled x k new).name ≡ k.name
 unfolding unless_settled
 unless_name (Settled y) k new e = refl
-unless_name Unsettled k new e = e
-unless_name (WaitsOn q) k new e = e
-unless_name (Viewed q) k new e = e
+unless_name other k new e = e
 
 to_name : (c : Change Name) (k : Known Name) → (changed_to c k).name ≡ k.name
 unfolding changed_to
 to_name (Hold m) k = refl
-to_name (Wait q) k = refl
-to_name (WaitOn q) k = refl
-to_name (See q) k = refl
-to_name (React m) k = refl
-to_name (ToTell w) k = refl
-to_name (Settle y) k = refl
+to_name other k = refl
 
 unless_host : (x : Standing Name) (k new : Known Name) → HostIsTrue k → HostIsTrue new → HostIsTrue (unless_settled x k new)
 unfolding unless_settled
 unless_host (Settled y) k new h i = h
-unless_host Unsettled k new h i = i
-unless_host (WaitsOn q) k new h i = i
-unless_host (Viewed q) k new h i = i
+unless_host other k new h i = i
 
 to_host : (c : Change Name) (k : Known Name) → HostIsTrue k → HostIsTrue (changed_to c k)
 unfolding changed_to
 to_host (Hold m) k h = h
-to_host (Wait q) k h = h
-to_host (WaitOn q) k h = h
-to_host (See q) k h = h
-to_host (React m) k h = h
-to_host (ToTell w) k h = h
-to_host (Settle y) k h = h
+to_host other k h = h
 
 module _ (K : Naming Name Name) where
   either_name : (b : Bool) (j k : Known Name) (js ks : List (Known Name)) → j.name ≡ k.name → names_in js ≡ names_in ks → names_in (elim b [ true ↦ j ∷ ks | false ↦ k ∷ js ]) ≡ k.name ∷ names_in ks
@@ -279,12 +252,9 @@ module _ (news : Bool) (M : Marked) (vats : List (Vat Name)) (v : ℕ) (q : Vat 
   had_up : (T : Name → Type 0) (s t : Vat Name) → Onward T s t → (b : Bit Name) → IsHad (names_in s.known) s.mails b → IsHad (names_in t.known) t.mails b
   had_up T s t r (Named n) h = known_up (names_in s.known) (names_in t.known) r.names n h
   had_up T s t r (Mail n) h = r.mails n h
-  had_up T s t r (Drew i) h = tt
-  had_up T s t r (At w) h = tt
-  had_up T s t r (Off w) h = tt
   had_up T s t r (Entered n) h = known_up (names_in s.known) (names_in t.known) r.names n h
   had_up T s t r (Owns n i) h = known_up (names_in s.known) (names_in t.known) r.names n h
-  had_up T s t r (Gave i) h = tt
+  had_up T s t r other h = tt
 
   pub ok_on : (T : Name → Type 0) (s t : Vat Name) → Onward T s t → (b : Bit Name) → Ok s b → Ok t b
   ok_on T s t r b h = (made_on T s t r b h.0, had_up T s t r b h.1, h.2, h.3)
@@ -346,11 +316,7 @@ module _ (news : Bool) (M : Marked) (vats : List (Vat Name)) (v : ℕ) (q : Vat 
     answered_ok : (s : Vat Name) (h : ℕ) (n : Name) → Ok s (Mail n) → M.mark (At h) → let t : Vat Name = record s { known = s.known ++ begun (answer_of h n) h ∷ [] } in Goes s t × (Keeps s → Keeps t) × Ok t (Named (answer_of h n))
     unfolding answer_of
     answered_ok s h (Sent m) l at = answer_made s h m l.0 at
-    answered_ok s h (Root w) l at = absurd l.0
-    answered_ok s h (Object w i) l at = absurd l.0
-    answered_ok s h (Promise w i) l at = absurd l.0
-    answered_ok s h (Answer w m) l at = absurd l.0
-    answered_ok s h (Gift w i) l at = absurd l.0
+    answered_ok s h other l at = absurd l.0
 
     -- the host that is told of a name is the host of that name
     host_either : (s : Vat Name) (k : Known Name) (n : Name) (o : Option (Known Name)) (b : Bool) → same_reference k.name n ≡ b → HostIsTrue k → (refs.host_in s.number o ≡ host_of n) ⊎ (refs.host_in s.number o ≡ s.number)

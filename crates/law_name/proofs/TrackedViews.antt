@@ -20,9 +20,7 @@ use Rattle.law_name.proofs.Tracked.{IsTold, Marked, Kept, Ok, Goes, ok_on, follo
 -- a gift that came to be known as the last
 abbrev IsLast : ℕ → Vat Name → Done Name Name → Type 0
 IsLast i s (Gives g t) = (x : ℕ) × (k : Known Name) × (g ≡ Gift x i) × (k.name ≡ g) × (t.known ≡ s.known ++ k ∷ [])
-IsLast i s (Throws p t) = Unit {0}
-IsLast i s (Ejects n y t) = Unit {0}
-IsLast i s (Stops c t) = Unit {0}
+IsLast i s other = Unit {0}
 
 module _ (news : Bool) (M : Marked) (vats : List (Vat Name)) (v : ℕ) (q : Vat Name) (there : slice_get vats v ≡ Some q) (here : M.mark (At v)) (word : ℕ → ℕ) where
   abbrev S : Care Name
@@ -104,9 +102,8 @@ module _ (news : Bool) (M : Marked) (vats : List (Vat Name)) (v : ℕ) (q : Vat 
   gift_then : (s : Vat Name) (n : Name) (i : ℕ) (d : Done Name Name) → Ends S IsName s d → IsLast i s d → S.ok s (Named n) → ((x : ℕ) → IsAmong (Gift x i) (names_in s.known) → ⊥) → ((x : ℕ) → n ≡ Gift x i → ⊥) → Ends S nothing s (and_then d (λ g. arrive.see (naming word v) n g))
   unfolding and_then
   gift_then s n i (Gives g t) h (x, k, e, f, j) a new other = widen S {A = Unit {0}} nothing s t (arrive.see (naming word v) n g t) h.0 (see_ends t s.known k n g h.1 (ok_on news M vats v q there here (IsTold v) s t h.0 (Named n) a) h.2 j f (λ b. new x (rw e at b)) (λ y. other x (y ∙ e)))
-  gift_then s n i (Throws p t) h l a new other = h
-  gift_then s n i (Ejects m y t) h l a new other = h
   gift_then s n i (Stops c t) h l a new other = tt
+  gift_then s n i another h l a new other = h
 
   put_then : (s : Vat Name) (u h i c : ℕ) (n : Name) → Sound S s → S.ok s (Named n) → S.ok s (At c) → S.ok s (Gave i) → arrive.gift_at h i s.gifts ≡ None → ((x : ℕ) → IsAmong (Gift x i) (names_in s.known) → ⊥) → ((x : ℕ) → n ≡ Gift x i → ⊥)
       → Ends S nothing s (and_then (arrive.gift_there (naming word v) u h c i s) (λ g. arrive.see (naming word v) n g))

@@ -9,9 +9,7 @@ use Rattle.law_name.proofs.Among.{among_more, among_last, among_or, names_end}
 -- no view, or one that is among the later names and not among those before
 abbrev pub LooksOn : List Name → List Name → Standing Name → Type 0
 LooksOn before later (Viewed q) = (IsAmong q before → ⊥) × IsAmong q later
-LooksOn before later Unsettled = Unit {0}
-LooksOn before later (WaitsOn q) = Unit {0}
-LooksOn before later (Settled y) = Unit {0}
+LooksOn before later other = Unit {0}
 
 -- of each of these names, which stand behind those
 abbrev pub AllLookOn : List Name → List (Known Name) → Type 0
@@ -20,9 +18,7 @@ AllLookOn before (k ∷ ks) = LooksOn (before ++ k.name ∷ []) (names_in ks) k.
 
 looks_later : (before later more : List Name) (t : Standing Name) → ((n : Name) → IsAmong n later → IsAmong n more) → LooksOn before later t → LooksOn before more t
 looks_later before later more (Viewed q) f h = (h.0, f q h.1)
-looks_later before later more Unsettled f h = tt
-looks_later before later more (WaitsOn q) f h = tt
-looks_later before later more (Settled y) f h = tt
+looks_later before later more other f h = tt
 
 -- a name that comes to be known views nothing
 pub look_on_end : (before : List Name) (ks : List (Known Name)) (k : Known Name) → k.standing ≡ Unsettled → AllLookOn before ks → AllLookOn before (ks ++ k ∷ [])
@@ -31,20 +27,15 @@ look_on_end before (j ∷ ks) k e h = (looks_later (before ++ j.name ∷ []) (na
 
 to_looks : (before later : List Name) (c : Change Name) (k : Known Name) → ViewsNone c → LooksOn before later k.standing → LooksOn before later (changed_to c k).standing
 unfolding changed_to
-to_looks before later (Hold m) k none h = h
-to_looks before later (Wait q) k none h = h
 to_looks before later (WaitOn q) k none h = tt
 to_looks before later (See q) k none h = absurd none
-to_looks before later (React m) k none h = h
-to_looks before later (ToTell w) k none h = h
 to_looks before later (Settle y) k none h = tt
+to_looks before later other k none h = h
 
 unless_looks : (before later : List Name) (t : Standing Name) (k new : Known Name) → LooksOn before later k.standing → LooksOn before later new.standing → LooksOn before later (unless_settled t k new).standing
 unfolding unless_settled
 unless_looks before later (Settled y) k new h i = h
-unless_looks before later Unsettled k new h i = i
-unless_looks before later (WaitsOn q) k new h i = i
-unless_looks before later (Viewed q) k new h i = i
+unless_looks before later other k new h i = i
 
 -- the name that was changed, or the names behind it
 either_look : (b : Bool) (before : List Name) (j k : Known Name) (js ks : List (Known Name)) → j.name ≡ k.name → names_in js ≡ names_in ks → LooksOn (before ++ k.name ∷ []) (names_in ks) j.standing → LooksOn (before ++ k.name ∷ []) (names_in ks) k.standing

@@ -60,23 +60,13 @@ module _ {N : Type 0} (P : Value N → Type 0) (pl : (v : Value N) → IsPlain v
   unfolding native.int_alone native.no_method
   alone_has Negates z = by_int_has _
   alone_has AsChar z = as_char_has z
-  alone_has (Applies op) z = tt
-  alone_has NoIntVerb z = tt
+  alone_has other z = tt
 
   with_int_has : (v : IntVerb) (a : ℤ) (x : Value N) → ReplyHas P (native.int_with v a x)
   unfolding native.int_with native.no_method
   with_int_has (Applies op) a (Number b) = by_int_has _
-  with_int_has (Applies op) a Null = tt
-  with_int_has (Applies op) a (Flag b) = tt
-  with_int_has (Applies op) a (Letter c) = tt
-  with_int_has (Applies op) a (Text t) = tt
-  with_int_has (Applies op) a (Prim n) = tt
-  with_int_has (Applies op) a (Broken p) = tt
-  with_int_has (Applies op) a (Items k) = tt
-  with_int_has (Applies op) a (Ref n) = tt
-  with_int_has Negates a x = tt
-  with_int_has AsChar a x = tt
-  with_int_has NoIntVerb a x = tt
+  with_int_has (Applies op) a other = tt
+  with_int_has other a x = tt
 
   int_has : (a : ℤ) (verb : Words) (xs : List (Value N)) → ReplyHas P (native.int_reply a verb xs)
   unfolding native.int_reply native.no_method
@@ -87,33 +77,10 @@ module _ {N : Type 0} (P : Value N → Type 0) (pl : (v : Value N) → IsPlain v
   joined_has : (v : FlagVerb) (a : Bool) (x : Value N) → ReplyHas P (native.flag_with v a x)
   unfolding native.flag_with native.no_method
   joined_has NoFlagVerb a x = tt
-  joined_has Both a Null = tt
   joined_has Both a (Flag b) = pl (Flag (native.flag_joined Both a b)) tt
-  joined_has Both a (Number z) = tt
-  joined_has Both a (Letter c) = tt
-  joined_has Both a (Text t) = tt
-  joined_has Both a (Prim n) = tt
-  joined_has Both a (Broken p) = tt
-  joined_has Both a (Items k) = tt
-  joined_has Both a (Ref n) = tt
-  joined_has Either a Null = tt
   joined_has Either a (Flag b) = pl (Flag (native.flag_joined Either a b)) tt
-  joined_has Either a (Number z) = tt
-  joined_has Either a (Letter c) = tt
-  joined_has Either a (Text t) = tt
-  joined_has Either a (Prim n) = tt
-  joined_has Either a (Broken p) = tt
-  joined_has Either a (Items k) = tt
-  joined_has Either a (Ref n) = tt
-  joined_has Unlike a Null = tt
   joined_has Unlike a (Flag b) = pl (Flag (native.flag_joined Unlike a b)) tt
-  joined_has Unlike a (Number z) = tt
-  joined_has Unlike a (Letter c) = tt
-  joined_has Unlike a (Text t) = tt
-  joined_has Unlike a (Prim n) = tt
-  joined_has Unlike a (Broken p) = tt
-  joined_has Unlike a (Items k) = tt
-  joined_has Unlike a (Ref n) = tt
+  joined_has another a other = tt
 
   flag_has : (a : Bool) (verb : Words) (xs : List (Value N)) → ReplyHas P (native.flag_reply a verb xs)
   unfolding native.flag_reply native.no_method
@@ -138,15 +105,8 @@ module _ {N : Type 0} (P : Value N → Type 0) (pl : (v : Value N) → IsPlain v
 
     got_has : (xs : List A) (v : Value N) → AllOf R xs → ReplyHas P (native.got f xs v)
     unfolding native.got
-    got_has xs Null h = tt
-    got_has xs (Flag b) h = tt
     got_has xs (Number z) h = got_at_has xs (native.index_in (length xs) z) h
-    got_has xs (Letter c) h = tt
-    got_has xs (Text t) h = tt
-    got_has xs (Prim n) h = tt
-    got_has xs (Broken p) h = tt
-    got_has xs (Items k) h = tt
-    got_has xs (Ref n) h = tt
+    got_has xs other h = tt
 
     map_has : (xs : List A) → AllOf R xs → AllOf P (map f xs)
     map_has [] h = tt
@@ -160,47 +120,25 @@ module _ {N : Type 0} (P : Value N → Type 0) (pl : (v : Value N) → IsPlain v
 
     ran_from : (xs : List A) (z : ℤ) (j : Value N) → AllOf R xs → ReplyHas P (native.ran f xs (Number z) j)
     unfolding native.ran
-    ran_from xs z Null h = tt
-    ran_from xs z (Flag b) h = tt
     ran_from xs z (Number y) h = ran_at_has xs (native.range_in (length xs) z y) h
-    ran_from xs z (Letter c) h = tt
-    ran_from xs z (Text t) h = tt
-    ran_from xs z (Prim n) h = tt
-    ran_from xs z (Broken p) h = tt
-    ran_from xs z (Items k) h = tt
-    ran_from xs z (Ref n) h = tt
+    ran_from xs z other h = tt
 
     ran_has : (xs : List A) (i j : Value N) → AllOf R xs → ReplyHas P (native.ran f xs i j)
     unfolding native.ran
-    ran_has xs Null j h = tt
-    ran_has xs (Flag b) j h = tt
     ran_has xs (Number z) j h = ran_from xs z j h
-    ran_has xs (Letter c) j h = tt
-    ran_has xs (Text t) j h = tt
-    ran_has xs (Prim n) j h = tt
-    ran_has xs (Broken p) j h = tt
-    ran_has xs (Items k) j h = tt
-    ran_has xs (Ref n) j h = tt
+    ran_has xs other j h = tt
 
   text_and_has : (t : Words) (x : Value N) → ReplyHas P (native.text_and t x)
   unfolding native.text_and
   text_and_has t Null = tt
-  text_and_has t (Flag b) = tt
-  text_and_has t (Number z) = tt
-  text_and_has t (Letter c) = tt
-  text_and_has t (Text u) = tt
-  text_and_has t (Prim n) = tt
-  text_and_has t (Broken p) = tt
-  text_and_has t (Items k) = tt
-  text_and_has t (Ref n) = tt
+  text_and_has t other = tt
 
   text_with_has : (v : SeqVerb) (t : Words) (held x : Value N) → P held → ReplyHas P (native.text_with v t held x)
   unfolding native.text_with native.no_method
   text_with_has GetsOne t held x h = got_has Letter (λ (c : ℕ). Unit {0}) (λ c u. pl (Letter c) tt) (chars t) x (all_unit (chars t))
   text_with_has Adds t held x h = text_and_has t x
-  text_with_has AddsOne t held x h = tt
   text_with_has Steps t held x h = (h, map_has Letter (λ (c : ℕ). Unit {0}) (λ c u. pl (Letter c) tt) (chars t) (all_unit (chars t)))
-  text_with_has NoSeqVerb t held x h = tt
+  text_with_has other t held x h = tt
 
   run_text : (t : Words) (i j : Value N) → ReplyHas P (native.ran {A = ℕ} {N = N} (λ cs. Writes (native.encoded cs)) (chars t) i j)
   run_text t i j = ran_has (λ (cs : List ℕ). Writes (native.encoded cs)) (λ (c : ℕ). Unit {0}) (λ cs h. tt) (chars t) i j (all_unit (chars t))
@@ -212,23 +150,14 @@ module _ {N : Type 0} (P : Value N → Type 0) (pl : (v : Value N) → IsPlain v
   text_has t verb (a ∷ []) (x ∷ []) h = text_with_has (native.text_verb verb) t a x h.0
   text_has t verb (a ∷ []) (x ∷ y ∷ []) h = entry_has (ReplyHas P) _ _ verb (run_text t x y, tt) tt
   text_has t verb (a ∷ []) (x ∷ y ∷ z ∷ zs) h = tt
-  text_has t verb (a ∷ b ∷ cs) [] h = tt
-  text_has t verb (a ∷ b ∷ cs) (x ∷ []) h = tt
   text_has t verb (a ∷ b ∷ cs) (x ∷ y ∷ []) h = entry_has (ReplyHas P) _ _ verb (run_text t x y, tt) tt
-  text_has t verb (a ∷ b ∷ cs) (x ∷ y ∷ z ∷ zs) h = tt
+  text_has t verb (a ∷ b ∷ cs) other h = tt
 
   module _ (ms : List (List (Value N))) (all : (k : ℕ) → P (Items k) → AllOf P (list_at ms k)) where
     list_and_has : (vs : List (Value N)) (x : Value N) → AllOf P vs → P x → ReplyHas P (native.list_and ms vs x)
     unfolding native.list_and
-    list_and_has vs Null h i = tt
-    list_and_has vs (Flag b) h i = tt
-    list_and_has vs (Number z) h i = tt
-    list_and_has vs (Letter c) h i = tt
-    list_and_has vs (Text t) h i = tt
-    list_and_has vs (Prim n) h i = tt
-    list_and_has vs (Broken p) h i = tt
     list_and_has vs (Items k) h i = all_append P vs (list_at ms k) h (all k i)
-    list_and_has vs (Ref n) h i = tt
+    list_and_has vs other h i = tt
 
     list_with_has : (v : SeqVerb) (vs : List (Value N)) (held x : Value N) → AllOf P vs → P held → P x → ReplyHas P (native.list_with ms v vs held x)
     unfolding native.list_with native.no_method
@@ -248,22 +177,17 @@ module _ {N : Type 0} (P : Value N → Type 0) (pl : (v : Value N) → IsPlain v
     list_has vs verb (a ∷ []) (x ∷ []) h i g = list_with_has (native.list_verb verb) vs a x h i.0 g.0
     list_has vs verb (a ∷ []) (x ∷ y ∷ []) h i g = entry_has (ReplyHas P) _ _ verb (run_list vs x y h, tt) tt
     list_has vs verb (a ∷ []) (x ∷ y ∷ z ∷ zs) h i g = tt
-    list_has vs verb (a ∷ b ∷ cs) [] h i g = tt
-    list_has vs verb (a ∷ b ∷ cs) (x ∷ []) h i g = tt
     list_has vs verb (a ∷ b ∷ cs) (x ∷ y ∷ []) h i g = entry_has (ReplyHas P) _ _ verb (run_list vs x y h, tt) tt
-    list_has vs verb (a ∷ b ∷ cs) (x ∷ y ∷ z ∷ zs) h i g = tt
+    list_has vs verb (a ∷ b ∷ cs) other h i g = tt
 
     pub data_has : (y : Value N) (verb : Words) (held xs : List (Value N)) → P y → AllOf P held → AllOf P xs → ReplyHas P (native.data_reply ms y verb held xs)
     unfolding native.data_reply native.no_method
-    data_has Null verb held xs i h g = tt
     data_has (Flag b) verb held xs i h g = flag_has b verb xs
     data_has (Number a) verb held xs i h g = int_has a verb xs
     data_has (Letter c) verb held xs i h g = letter_has c verb xs
     data_has (Text t) verb held xs i h g = text_has t verb held xs h
-    data_has (Prim n) verb held xs i h g = tt
-    data_has (Broken p) verb held xs i h g = tt
     data_has (Items k) verb held xs i h g = list_has (list_at ms k) verb held xs (all k i) h g
-    data_has (Ref n) verb held xs i h g = tt
+    data_has other verb held xs i h g = tt
 
   pub compared_has : (test : Order → Bool) (o : Option Order) → ReplyHas P (native.compared {N = N} test o)
   unfolding native.compared
@@ -283,47 +207,17 @@ module _ {N : Type 0} (P : Value N → Type 0) (pl : (v : Value N) → IsPlain v
   unfolding native.range_reply
   range_from true z (Number y) = range_of_has z _
   range_from false z (Number y) = range_of_has z _
-  range_from true z Null = tt
-  range_from true z (Flag b) = tt
-  range_from true z (Letter c) = tt
-  range_from true z (Text t) = tt
-  range_from true z (Prim n) = tt
-  range_from true z (Broken p) = tt
-  range_from true z (Items k) = tt
-  range_from true z (Ref n) = tt
-  range_from false z Null = tt
-  range_from false z (Flag b) = tt
-  range_from false z (Letter c) = tt
-  range_from false z (Text t) = tt
-  range_from false z (Prim n) = tt
-  range_from false z (Broken p) = tt
-  range_from false z (Items k) = tt
-  range_from false z (Ref n) = tt
+  range_from true z other = tt
+  range_from false z other = tt
 
   pub range_has : (last : Bool) (a b : Value N) → ReplyHas P (native.range_reply last a b)
   unfolding native.range_reply
   range_has last (Number z) b = range_from last z b
-  range_has true Null b = tt
-  range_has true (Flag c) b = tt
-  range_has true (Letter c) b = tt
-  range_has true (Text t) b = tt
-  range_has true (Prim n) b = tt
-  range_has true (Broken p) b = tt
-  range_has true (Items k) b = tt
-  range_has true (Ref n) b = tt
-  range_has false Null b = tt
-  range_has false (Flag c) b = tt
-  range_has false (Letter c) b = tt
-  range_has false (Text t) b = tt
-  range_has false (Prim n) b = tt
-  range_has false (Broken p) b = tt
-  range_has false (Items k) b = tt
-  range_has false (Ref n) b = tt
+  range_has true other b = tt
+  range_has false other b = tt
 
   null_or_has : (n : ℕ) (p : Primitive) → ReplyHas P (native.null_or {N = N} n p)
   unfolding native.null_or
-  null_or_has n (Guarding NullGuard) = tt
-  null_or_has n (Guarding (OrNull g)) = tt
   null_or_has n (Guarding AnyGuard) = pl (Prim (32 + n)) tt
   null_or_has n (Guarding VoidGuard) = pl (Prim (32 + n)) tt
   null_or_has n (Guarding IntGuard) = pl (Prim (32 + n)) tt
@@ -333,28 +227,12 @@ module _ {N : Type 0} (P : Value N → Type 0) (pl : (v : Value N) → IsPlain v
   null_or_has n (Guarding ListGuard) = pl (Prim (32 + n)) tt
   null_or_has n (Guarding NearGuard) = pl (Prim (32 + n)) tt
   null_or_has n (Guarding FrozenGuard) = pl (Prim (32 + n)) tt
-  null_or_has n MakeList = tt
-  null_or_has n Equalizer = tt
-  null_or_has n Comparer = tt
-  null_or_has n Looper = tt
-  null_or_has n Sender = tt
-  null_or_has n References = tt
-  null_or_has n Thrower = tt
-  null_or_has n StampReader = tt
-  null_or_has n (Judging r) = tt
-  null_or_has n NoPrimitive = tt
+  null_or_has n other = tt
 
   pub null_reply_has : (x : Value N) → ReplyHas P (native.null_or_reply x)
   unfolding native.null_or_reply
-  null_reply_has Null = tt
-  null_reply_has (Flag b) = tt
-  null_reply_has (Number z) = tt
-  null_reply_has (Letter c) = tt
-  null_reply_has (Text t) = tt
   null_reply_has (Prim n) = null_or_has n (native.primitive n)
-  null_reply_has (Broken p) = tt
-  null_reply_has (Items k) = tt
-  null_reply_has (Ref n) = tt
+  null_reply_has other = tt
 
   -- ---- what is asked of primitives
 
@@ -368,36 +246,17 @@ module _ {N : Type 0} (P : Value N → Type 0) (pl : (v : Value N) → IsPlain v
   guard_has NullGuard verb (x ∷ []) h = entry_has (AskedHas P) _ _ verb (h.0, tt) tt
   guard_has NullGuard verb [] h = tt
   guard_has NullGuard verb (x ∷ y ∷ z ∷ zs) h = tt
-  guard_has AnyGuard verb [] h = tt
-  guard_has AnyGuard verb (x ∷ []) h = tt
-  guard_has AnyGuard verb (x ∷ y ∷ z ∷ zs) h = tt
-  guard_has VoidGuard verb [] h = tt
-  guard_has VoidGuard verb (x ∷ []) h = tt
-  guard_has VoidGuard verb (x ∷ y ∷ z ∷ zs) h = tt
-  guard_has IntGuard verb [] h = tt
-  guard_has IntGuard verb (x ∷ []) h = tt
-  guard_has IntGuard verb (x ∷ y ∷ z ∷ zs) h = tt
-  guard_has BooleanGuard verb [] h = tt
-  guard_has BooleanGuard verb (x ∷ []) h = tt
-  guard_has BooleanGuard verb (x ∷ y ∷ z ∷ zs) h = tt
-  guard_has CharGuard verb [] h = tt
-  guard_has CharGuard verb (x ∷ []) h = tt
-  guard_has CharGuard verb (x ∷ y ∷ z ∷ zs) h = tt
-  guard_has TextGuard verb [] h = tt
-  guard_has TextGuard verb (x ∷ []) h = tt
-  guard_has TextGuard verb (x ∷ y ∷ z ∷ zs) h = tt
-  guard_has ListGuard verb [] h = tt
-  guard_has ListGuard verb (x ∷ []) h = tt
-  guard_has ListGuard verb (x ∷ y ∷ z ∷ zs) h = tt
-  guard_has NearGuard verb [] h = tt
-  guard_has NearGuard verb (x ∷ []) h = tt
-  guard_has NearGuard verb (x ∷ y ∷ z ∷ zs) h = tt
-  guard_has FrozenGuard verb [] h = tt
-  guard_has FrozenGuard verb (x ∷ []) h = tt
-  guard_has FrozenGuard verb (x ∷ y ∷ z ∷ zs) h = tt
-  guard_has (OrNull k) verb [] h = tt
-  guard_has (OrNull k) verb (x ∷ []) h = tt
-  guard_has (OrNull k) verb (x ∷ y ∷ z ∷ zs) h = tt
+  guard_has other verb [] h = tt
+  guard_has AnyGuard verb other h = tt
+  guard_has VoidGuard verb other h = tt
+  guard_has IntGuard verb other h = tt
+  guard_has BooleanGuard verb other h = tt
+  guard_has CharGuard verb other h = tt
+  guard_has TextGuard verb other h = tt
+  guard_has ListGuard verb other h = tt
+  guard_has NearGuard verb other h = tt
+  guard_has FrozenGuard verb other h = tt
+  guard_has (OrNull k) verb other h = tt
 
   pub asked_has : (p : Primitive) (verb : Words) (args : List (Value N)) → AllOf P args → AskedHas P (native.asked p verb args)
   unfolding native.asked native.list_ask native.equalizer_ask native.comparer_ask native.run_ask native.send_ask native.ref_ask native.stamp_ask
@@ -405,33 +264,24 @@ module _ {N : Type 0} (P : Value N → Type 0) (pl : (v : Value N) → IsPlain v
   asked_has MakeList verb (a ∷ []) h = entry_has (AskedHas P) _ _ verb (h, tt) tt
   asked_has MakeList verb (a ∷ b ∷ []) h = entry_has (AskedHas P) _ _ verb (h, (tt, (tt, tt))) tt
   asked_has MakeList verb (a ∷ b ∷ c ∷ cs) h = entry_has (AskedHas P) _ _ verb (h, tt) tt
-  asked_has Equalizer verb [] h = tt
-  asked_has Equalizer verb (a ∷ []) h = tt
   asked_has Equalizer verb (a ∷ b ∷ []) h = entry_has (AskedHas P) _ _ verb (tt, tt) tt
   asked_has Equalizer verb (a ∷ b ∷ c ∷ cs) h = tt
-  asked_has Comparer verb [] h = tt
-  asked_has Comparer verb (a ∷ []) h = tt
   asked_has Comparer verb (a ∷ b ∷ []) h = entry_has (AskedHas P) _ _ verb (tt, (tt, (tt, (tt, (tt, tt))))) tt
   asked_has Comparer verb (a ∷ b ∷ c ∷ cs) h = tt
-  asked_has Looper verb [] h = tt
   asked_has Looper verb (a ∷ []) h = entry_has (AskedHas P) _ _ verb (h.0, tt) tt
   asked_has Looper verb (a ∷ b ∷ cs) h = tt
-  asked_has Sender verb [] h = tt
-  asked_has Sender verb (a ∷ []) h = tt
-  asked_has Sender verb (a ∷ b ∷ []) h = tt
   asked_has Sender verb (a ∷ b ∷ c ∷ []) h = let all : P a × P b × P c = (h.0, h.1.0, h.1.1.0) in entry_has (AskedHas P) _ _ verb (all, (all, (all, tt))) tt
-  asked_has Sender verb (a ∷ b ∷ c ∷ d ∷ ds) h = tt
   asked_has References verb [] h = entry_has (AskedHas P) _ _ verb (tt, tt) tt
   asked_has References verb (a ∷ []) h = let x : P a = h.0 in entry_has (AskedHas P) _ _ verb (x, (x, (x, (x, (x, (x, (x, tt))))))) tt
   asked_has References verb (a ∷ b ∷ []) h = let x : P a × P b = (h.0, h.1.0) in entry_has (AskedHas P) _ _ verb (x, tt) tt
   asked_has References verb (a ∷ b ∷ c ∷ cs) h = tt
-  asked_has Thrower verb [] h = tt
   asked_has Thrower verb (a ∷ []) h = entry_has (AskedHas P) _ _ verb (tt, tt) tt
   asked_has Thrower verb (a ∷ b ∷ cs) h = tt
-  asked_has StampReader verb [] h = tt
-  asked_has StampReader verb (a ∷ []) h = tt
   asked_has StampReader verb (a ∷ b ∷ []) h = entry_has (AskedHas P) _ _ verb (tt, tt) tt
   asked_has StampReader verb (a ∷ b ∷ c ∷ cs) h = tt
   asked_has (Guarding g) verb args h = guard_has g verb args h
   asked_has (Judging r) verb args h = tt
   asked_has NoPrimitive verb args h = tt
+  asked_has other verb [] h = tt
+  asked_has other verb (a ∷ []) h = tt
+  asked_has Sender verb other h = tt

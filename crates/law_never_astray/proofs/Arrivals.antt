@@ -29,9 +29,8 @@ same_stop c d m n x y e = cc
 pub put_back_clear : (v : ℕ) (w y : World) (head : List Event) (step n : ℕ) (c : Stop) (d : Done Name (Unit {0})) → IsQuiet d → NotAstray d → world.put_back v w head step d ≡ Stopped c n y → c ≡ Astray → ⊥
 unfolding world.put_back
 put_back_clear v w y head step n c (Gives u t) q h e = no_stop _ y c n e
-put_back_clear v w y head step n c (Throws p t) q h e = absurd q
-put_back_clear v w y head step n c (Ejects i x t) q h e = absurd q
 put_back_clear v w y head step n c (Stops r t) q h e = λ f. h (same_stop r c step n w y e ∙ f)
+put_back_clear v w y head step n c other q h e = absurd q
 
 module _ (script : Script) where
   arrive_clear : (from to : ℕ) (x : World) → Stands script x → (s : Vat Name) → slice_get x.vats to ≡ Some s → (n : Note Name) → NoteOk (Told script x) n → NotAstray (arrive (names script to) from (read_note (names_of s) n) (readied x s))

@@ -15,20 +15,12 @@ use Rattle.law_never_astray.specs.Settlings.{IsNone, IsAwaited, IsAsked, EntryWa
 -- the names of messages
 unfoldable pub is_mail : Name → Bool
 is_mail (Sent m) = true
-is_mail (Root w) = false
-is_mail (Object w i) = false
-is_mail (Promise w i) = false
-is_mail (Answer h m) = false
-is_mail (Gift h i) = false
+is_mail other = false
 
 mail_name : (n : Name) → IsMessageName n → is_mail n ≡ true
 unfolding is_mail
 mail_name (Sent m) h = refl
-mail_name (Root w) h = absurd h
-mail_name (Object w i) h = absurd h
-mail_name (Promise w i) h = absurd h
-mail_name (Answer w m) h = absurd h
-mail_name (Gift w i) h = absurd h
+mail_name other h = absurd h
 
 some_map : {A : Type 0} (P Q : A → Type 0) → ((a : A) → P a → Q a) → (o : Option A) → WhereSome P o → WhereSome Q o
 some_map P Q f (Some a) h = f a h
@@ -36,21 +28,13 @@ some_map P Q f None h = tt
 
 not_object : (n : Name) (w i : ℕ) → IsEventual n → same_reference n (Object w i) ≡ false
 unfolding same_reference same_name
-not_object (Root v) w i h = refl
 not_object (Object v j) w i h = absurd h
-not_object (Promise v j) w i h = refl
-not_object (Answer v m) w i h = refl
-not_object (Gift v j) w i h = refl
-not_object (Sent m) w i h = refl
+not_object other w i h = refl
 
 answer_object : (h : ℕ) (m : Name) (w i : ℕ) → is_mail m ≡ true → same_reference (answer_of h m) (Object w i) ≡ false
 unfolding same_reference same_name answer_of is_mail
 answer_object h (Sent m) w i e = refl
-answer_object h (Root v) w i e = absurd (false_true e)
-answer_object h (Object v j) w i e = absurd (false_true e)
-answer_object h (Promise v j) w i e = absurd (false_true e)
-answer_object h (Answer v m) w i e = absurd (false_true e)
-answer_object h (Gift v j) w i e = absurd (false_true e)
+answer_object h other w i e = absurd (false_true e)
 
 module _ (word : ℕ → ℕ) (v : ℕ) where
   among_entry : (ks : List (Known Name)) (n : Name) → IsEventual n → IsAmong n (names_in ks) → (k : Known Name) × (entry_of (naming word v) ks n ≡ Some k)

@@ -52,9 +52,7 @@ module _ {N : Type 0} where
   dead_not : (x : Thing N) → dead x ≡ Ejector true → ⊥
   unfolding dead
   dead_not (Made node caught stamps) e = cc
-  dead_not (Ejector live) e = cc
-  dead_not (Audition live view) e = cc
-  dead_not (Resolver p) e = cc
+  dead_not other e = cc
 
   some_thing : (x y : Thing N) → Some x ≡ Some y → x ≡ y
   some_thing x y e = cc
@@ -72,9 +70,8 @@ module _ {N : Type 0} (es : List ℕ) where
   bind_ends : {A B : Type 0} (d : Done N A) (f : A → Act N B) → EndsAwaited es d → ((a : A) → Awaited es (f a)) → EndsAwaited es (and_then d f)
   unfolding and_then
   bind_ends (Gives a t) f h k = (k a).after t h
-  bind_ends (Throws p t) f h k = h
-  bind_ends (Ejects n v t) f h k = h
   bind_ends (Stops c t) f h k = tt
+  bind_ends other f h k = h
 
   await_bind : {A B : Type 0} {m : Act N A} {f : A → Act N B} → Awaited es m → ((a : A) → Awaited es (f a)) → Awaited es (m >>= f)
   unfolding ◌>>=◌

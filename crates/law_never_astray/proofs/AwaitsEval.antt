@@ -42,9 +42,8 @@ module _ {N W : Type 0} (K : Naming N W) (tree : List Node) where
 
   pub await_read_bound : (esc : List ℕ) → (x1 : ℕ) → (x2 : Option (Bound N)) → (x3 : Words) → Awaited esc (scopes.read_bound x1 x2 x3)
   unfolding scopes.read_bound
-  await_read_bound esc act (Some (Fixed v g)) x = search (awaits) depth 14
   await_read_bound esc act (Some (Slot k)) x = search (awaits, await_read_cell) depth 14
-  await_read_bound esc act None x = search (awaits) depth 14
+  await_read_bound esc act other x = search (awaits) depth 14
 
   pub await_with_lines : (esc : List ℕ) → (x1 : ℕ) → (x2 : Value N) → (x3 : Words) → (x4 : List (Value N)) → (x5 : Act N (Value N)) → Awaited esc x5 → Awaited esc (scopes.with_lines x1 x2 x3 x4 x5)
   unfolding scopes.with_lines
@@ -106,11 +105,10 @@ module _ {N W : Type 0} (K : Naming N W) (tree : List Node) where
 
   pub await_reply : (esc : List ℕ) → (x1 : Caller N) → GoodCaller x1 → (x2 : ℕ) → (x3 : Reply N) → Awaited esc (perform.reply K tree x1 x2 x3)
   unfolding perform.reply
-  await_reply esc again h1 act (Says v) = search (awaits) depth 14
   await_reply esc again h1 act (Writes t) = search (awaits, await_write_text) depth 14
   await_reply esc again h1 act (Lists vs) = search (awaits, await_make_list) depth 14
   await_reply esc again h1 act (Iterates o vs) = search (awaits, await_iterate) depth 14
-  await_reply esc again h1 act (Fails p) = search (awaits) depth 14
+  await_reply esc again h1 act other = search (awaits) depth 14
 
   pub await_data_answer : (esc : List ℕ) → (x1 : Caller N) → GoodCaller x1 → (x2 : ℕ) → (x3 : Value N) → (x4 : Words) → (x5 : List (Value N)) → Awaited esc (perform.data_answer K tree x1 x2 x3 x4 x5)
   unfolding perform.data_answer
@@ -169,21 +167,15 @@ module _ {N W : Type 0} (K : Naming N W) (tree : List Node) where
   pub await_perform : (esc : List ℕ) → (x1 : Caller N) → GoodCaller x1 → (x2 : ℕ) → (x3 : Asked N) → Awaited esc (perform.perform K tree x1 x2 x3)
   unfolding perform.perform
   await_perform esc again h1 act (MakesList vs) = search (awaits, await_make_list) depth 14
-  await_perform esc again h1 act (Ranges last a b) = search (awaits, await_reply) depth 14
-  await_perform esc again h1 act (Same a b) = search (awaits, await_reply) depth 14
-  await_perform esc again h1 act (Compares test a b) = search (awaits, await_reply) depth 14
   await_perform esc again h1 act (Loops o) = search (awaits, await_loop) depth 14
   await_perform esc again h1 act (SendsTo only x v l) = search (awaits, await_send_with) depth 14
   await_perform esc again h1 act (CallsTo x v l) = search (awaits, await_call_with) depth 14
   await_perform esc again h1 act MakesPromise = search (awaits, await_make_promise) depth 14
-  await_perform esc again h1 act (Breaks t) = search (awaits, await_reply) depth 14
-  await_perform esc again h1 act (Tells test x) = search (awaits, await_reply) depth 14
   await_perform esc again h1 act (Whens x o) = search (awaits, await_when_resolved) depth 14
-  await_perform esc again h1 act (ThrowsIt t) = search (awaits, await_reply) depth 14
   await_perform esc again h1 act (IsStamped a x) = search (awaits) depth 14
   await_perform esc again h1 act (Coerces g x j) = search (awaits, await_native_coerce) depth 14
-  await_perform esc again h1 act (AddsNull g) = search (awaits, await_reply) depth 14
   await_perform esc again h1 act NoMethod = search (awaits) depth 14
+  await_perform esc again h1 act other = search (awaits, await_reply) depth 14
 
   pub await_audit : (esc : List ℕ) → (x1 : Caller N) → GoodCaller x1 → (x2 : ℕ) → (x3 : View N) → (x4 : Value N) → (x5 : Place N) → Awaited esc (calls.audit K tree x1 x2 x3 x4 x5)
   unfolding calls.audit

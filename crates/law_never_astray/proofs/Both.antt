@@ -19,14 +19,7 @@ module _ {N : Type 0} (P Q : Bit N → Type 0) where
 
   pub value_both : (v : Value N) → ValueOk P v → ValueOk Q v → ValueOk Each v
   value_both (Ref n) h k = (h, k)
-  value_both Null h k = tt
-  value_both (Flag b) h k = tt
-  value_both (Number z) h k = tt
-  value_both (Letter c) h k = tt
-  value_both (Text t) h k = tt
-  value_both (Prim n) h k = tt
-  value_both (Broken p) h k = tt
-  value_both (Items i) h k = tt
+  value_both other h k = tt
 
   pub values_both : (vs : List (Value N)) → ValuesOk P vs → ValuesOk Q vs → ValuesOk Each vs
   values_both vs h k = all_both value_both vs h k
@@ -40,9 +33,8 @@ module _ {N : Type 0} (P Q : Bit N → Type 0) where
 
   standing_both : (x : Standing N) → StandingOk P x → StandingOk Q x → StandingOk Each x
   standing_both Unsettled h k = tt
-  standing_both (WaitsOn q) h k = (h, k)
-  standing_both (Viewed q) h k = (h, k)
   standing_both (Settled y) h k = value_both y h k
+  standing_both other h k = (h, k)
 
   known_both : (x : Known N) → KnownOk P x → KnownOk Q x → KnownOk Each x
   known_both x h k = ((h.0, k.0), standing_both x.standing h.1 k.1, all_both message_both x.held h.2 k.2, all_both (λ n i j. (i, j)) x.waiting h.3 k.3, all_both message_both x.reactions h.4 k.4, all_both (λ w i j. (i, j)) x.told h.5 k.5)
@@ -51,10 +43,8 @@ module _ {N : Type 0} (P Q : Bit N → Type 0) where
   cell_both c h k = (value_both c.guard h.0 k.0, value_both c.value h.1 k.1)
 
   freedom_both : (x : Freedom N) → FreedomOk P x → FreedomOk Q x → FreedomOk Each x
-  freedom_both IsSafe h k = tt
-  freedom_both IsItself h k = tt
   freedom_both (IsFinal g) h k = value_both g h k
-  freedom_both IsVar h k = tt
+  freedom_both other h k = tt
 
   bound_both : (b : Bound N) → BoundOk P b → BoundOk Q b → BoundOk Each b
   bound_both (Fixed v g) h k = (value_both v h.0 k.0, value_both g h.1 k.1)
@@ -73,10 +63,9 @@ module _ {N : Type 0} (P Q : Bit N → Type 0) where
   gift_both g h k = ((h.0, k.0), (h.1, k.1))
 
   place_both : (p : Place N) → PlaceOk P p → PlaceOk Q p → PlaceOk Each p
-  place_both Near h k = tt
   place_both (Mine n) h k = (h, k)
   place_both (Away w n o) h k = ((h.0, k.0), (h.1, k.1))
-  place_both (Gone t) h k = tt
+  place_both other h k = tt
 
   -- where no note was put
   pub parts_both : (ts : List (Thing N)) (cs : List (Cell N)) (ls : List (List (Value N))) (ms : List (Message N)) (ks : List (Known N)) (gs : List (GiftEntry N)) → Parts P ts cs ls ms ks gs [] → Parts Q ts cs ls ms ks gs [] → Parts Each ts cs ls ms ks gs []

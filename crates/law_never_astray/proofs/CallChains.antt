@@ -36,36 +36,17 @@ module _ {N W : Type 0} (K : Naming N W) (tree : List Node) where
     guard_asks NullGuard verb (x ∷ []) = entry_has (AskedAlike a b calls) _ _ verb (reply, tt) tt
     guard_asks NullGuard verb [] = tt
     guard_asks NullGuard verb (x ∷ y ∷ z ∷ zs) = tt
-    guard_asks AnyGuard verb [] = tt
-    guard_asks AnyGuard verb (x ∷ []) = tt
-    guard_asks AnyGuard verb (x ∷ y ∷ z ∷ zs) = tt
-    guard_asks VoidGuard verb [] = tt
-    guard_asks VoidGuard verb (x ∷ []) = tt
-    guard_asks VoidGuard verb (x ∷ y ∷ z ∷ zs) = tt
-    guard_asks IntGuard verb [] = tt
-    guard_asks IntGuard verb (x ∷ []) = tt
-    guard_asks IntGuard verb (x ∷ y ∷ z ∷ zs) = tt
-    guard_asks BooleanGuard verb [] = tt
-    guard_asks BooleanGuard verb (x ∷ []) = tt
-    guard_asks BooleanGuard verb (x ∷ y ∷ z ∷ zs) = tt
-    guard_asks CharGuard verb [] = tt
-    guard_asks CharGuard verb (x ∷ []) = tt
-    guard_asks CharGuard verb (x ∷ y ∷ z ∷ zs) = tt
-    guard_asks TextGuard verb [] = tt
-    guard_asks TextGuard verb (x ∷ []) = tt
-    guard_asks TextGuard verb (x ∷ y ∷ z ∷ zs) = tt
-    guard_asks ListGuard verb [] = tt
-    guard_asks ListGuard verb (x ∷ []) = tt
-    guard_asks ListGuard verb (x ∷ y ∷ z ∷ zs) = tt
-    guard_asks NearGuard verb [] = tt
-    guard_asks NearGuard verb (x ∷ []) = tt
-    guard_asks NearGuard verb (x ∷ y ∷ z ∷ zs) = tt
-    guard_asks FrozenGuard verb [] = tt
-    guard_asks FrozenGuard verb (x ∷ []) = tt
-    guard_asks FrozenGuard verb (x ∷ y ∷ z ∷ zs) = tt
-    guard_asks (OrNull g) verb [] = tt
-    guard_asks (OrNull g) verb (x ∷ []) = tt
-    guard_asks (OrNull g) verb (x ∷ y ∷ z ∷ zs) = tt
+    guard_asks other verb [] = tt
+    guard_asks AnyGuard verb other = tt
+    guard_asks VoidGuard verb other = tt
+    guard_asks IntGuard verb other = tt
+    guard_asks BooleanGuard verb other = tt
+    guard_asks CharGuard verb other = tt
+    guard_asks TextGuard verb other = tt
+    guard_asks ListGuard verb other = tt
+    guard_asks NearGuard verb other = tt
+    guard_asks FrozenGuard verb other = tt
+    guard_asks (OrNull g) verb other = tt
 
     pub each_ask : (p : Primitive) (verb : Words) (args : List (Value N)) → AllOf calls args → AskedAlike a b calls (asked p verb args)
     unfolding native.asked native.list_ask native.equalizer_ask native.comparer_ask native.run_ask native.send_ask native.ref_ask native.stamp_ask
@@ -73,36 +54,27 @@ module _ {N W : Type 0} (K : Naming N W) (tree : List Node) where
     each_ask MakeList verb (x ∷ []) h = entry_has (AskedAlike a b calls) _ _ verb (tt, tt) tt
     each_ask MakeList verb (x ∷ y ∷ []) h = entry_has (AskedAlike a b calls) _ _ verb (tt, (reply, (reply, tt))) tt
     each_ask MakeList verb (x ∷ y ∷ z ∷ zs) h = entry_has (AskedAlike a b calls) _ _ verb (tt, tt) tt
-    each_ask Equalizer verb [] h = tt
-    each_ask Equalizer verb (x ∷ []) h = tt
     each_ask Equalizer verb (x ∷ y ∷ []) h = entry_has (AskedAlike a b calls) _ _ verb (reply, tt) tt
     each_ask Equalizer verb (x ∷ y ∷ z ∷ zs) h = tt
-    each_ask Comparer verb [] h = tt
-    each_ask Comparer verb (x ∷ []) h = tt
     each_ask Comparer verb (x ∷ y ∷ []) h = entry_has (AskedAlike a b calls) _ _ verb (reply, (reply, (reply, (reply, (reply, tt))))) tt
     each_ask Comparer verb (x ∷ y ∷ z ∷ zs) h = tt
-    each_ask Looper verb [] h = tt
     each_ask Looper verb (x ∷ []) h = entry_has (AskedAlike a b calls) _ _ verb (agree.runs, tt) tt
     each_ask Looper verb (x ∷ y ∷ zs) h = tt
-    each_ask Sender verb [] h = tt
-    each_ask Sender verb (x ∷ []) h = tt
-    each_ask Sender verb (x ∷ y ∷ []) h = tt
     each_ask Sender verb (x ∷ y ∷ l ∷ []) h = entry_has (AskedAlike a b calls) _ _ verb (tt, (tt, (h.1.1.0, tt))) tt
-    each_ask Sender verb (x ∷ y ∷ l ∷ z ∷ zs) h = tt
     each_ask References verb [] h = entry_has (AskedAlike a b calls) _ _ verb (tt, tt) tt
     each_ask References verb (x ∷ []) h = entry_has (AskedAlike a b calls) _ _ verb (reply, (reply, (reply, (reply, (reply, (reply, (reply, tt))))))) tt
     each_ask References verb (x ∷ y ∷ []) h = entry_has (AskedAlike a b calls) _ _ verb (tt, tt) tt
     each_ask References verb (x ∷ y ∷ z ∷ zs) h = tt
-    each_ask Thrower verb [] h = tt
     each_ask Thrower verb (x ∷ []) h = entry_has (AskedAlike a b calls) _ _ verb (reply, tt) tt
     each_ask Thrower verb (x ∷ y ∷ zs) h = tt
-    each_ask StampReader verb [] h = tt
-    each_ask StampReader verb (x ∷ []) h = tt
     each_ask StampReader verb (x ∷ y ∷ []) h = entry_has (AskedAlike a b calls) _ _ verb (tt, tt) tt
     each_ask StampReader verb (x ∷ y ∷ z ∷ zs) h = tt
     each_ask (Guarding g) verb args h = guard_asks g verb args
     each_ask (Judging r) verb args h = tt
     each_ask NoPrimitive verb args h = tt
+    each_ask other verb [] h = tt
+    each_ask other verb (x ∷ []) h = tt
+    each_ask Sender verb other h = tt
 
     pub each_audition : (verb : Words) (args : List (Value N)) → AuditionAlike a b (scopes.audition_ask verb args)
     unfolding scopes.audition_ask

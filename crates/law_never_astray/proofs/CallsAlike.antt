@@ -22,9 +22,7 @@ module _ {N : Type 0} where
   bind_done : {A B : Type 0} (d : Done N A) {f g : A → Act N B} → ((a : A) → Alike (f a) (g a)) → and_then d f ≡ and_then d g
   unfolding and_then
   bind_done (Gives a t) h = (h a).at t
-  bind_done (Throws p t) h = refl
-  bind_done (Ejects n v t) h = refl
-  bind_done (Stops c t) h = refl
+  bind_done other h = refl
 
   pub alike_bind : {A B : Type 0} {m n : Act N A} {f g : A → Act N B} → Alike m n → ((a : A) → Alike (f a) (g a)) → Alike (m >>= f) (n >>= g)
   unfolding ◌>>=◌
@@ -59,44 +57,31 @@ pub record Agree {N : Type 0} (a b : Caller N) : Type 0 where
 -- what of a call's answer they need to agree on
 module _ {N : Type 0} (a b : Caller N) where
   abbrev pub ReplyAlike : Reply N → Type 0
-  ReplyAlike (Says v) = Unit {0}
-  ReplyAlike (Writes t) = Unit {0}
-  ReplyAlike (Lists vs) = Unit {0}
   ReplyAlike (Iterates o vs) = (v w : Value N) → AgreeOn a b (codes "run") (v ∷ w ∷ [])
-  ReplyAlike (Fails p) = Unit {0}
+  ReplyAlike other = Unit {0}
 
   abbrev pub AuditionAlike : AuditionAsk N → Type 0
-  AuditionAlike GetsForm = Unit {0}
   AuditionAlike (GetsGuard x) = (r : Reply N) → ReplyAlike r
   AuditionAlike (Asks x) = (v : Value N) → AgreeOn a b (codes "audit") (v ∷ [])
-  AuditionAlike NoAuditionAsk = Unit {0}
+  AuditionAlike other = Unit {0}
 
   -- a call of calls is told apart: of it they need to agree on that call, in that state
   module _ (calls : Value N → Type 0) where
     abbrev pub AskedAlike : Asked N → Type 0
     AskedAlike (MakesList vs) = Unit {0}
-    AskedAlike (Ranges last x y) = (r : Reply N) → ReplyAlike r
-    AskedAlike (Same x y) = (r : Reply N) → ReplyAlike r
-    AskedAlike (Compares t x y) = (r : Reply N) → ReplyAlike r
     AskedAlike (Loops o) = AgreeOn a b (codes "run") []
     AskedAlike (SendsTo only x v l) = Unit {0}
     AskedAlike (CallsTo x v l) = calls l
     AskedAlike MakesPromise = Unit {0}
-    AskedAlike (Breaks x) = (r : Reply N) → ReplyAlike r
-    AskedAlike (Tells t x) = (r : Reply N) → ReplyAlike r
     AskedAlike (Whens x o) = Unit {0}
-    AskedAlike (ThrowsIt x) = (r : Reply N) → ReplyAlike r
     AskedAlike (IsStamped v x) = Unit {0}
     AskedAlike (Coerces g x j) = (v : Value N) → AgreeOn a b (codes "run") (v ∷ [])
-    AskedAlike (AddsNull x) = (r : Reply N) → ReplyAlike r
     AskedAlike NoMethod = Unit {0}
+    AskedAlike other = (r : Reply N) → ReplyAlike r
 
   pub each_reply : ((v w : Value N) → AgreeOn a b (codes "run") (v ∷ w ∷ [])) → (r : Reply N) → ReplyAlike r
-  each_reply h (Says v) = tt
-  each_reply h (Writes t) = tt
-  each_reply h (Lists vs) = tt
   each_reply h (Iterates o vs) = h
-  each_reply h (Fails p) = tt
+  each_reply h other = tt
 
 module _ {N W : Type 0} (K : Naming N W) (tree : List Node) (a b : Caller N) where
   -- ---- what primitives and data answer
@@ -108,24 +93,13 @@ module _ {N W : Type 0} (K : Naming N W) (tree : List Node) (a b : Caller N) whe
 
   pub alike_reply : (act : ℕ) (r : Reply N) → ReplyAlike a b r → Alike (perform.reply K tree a act r) (perform.reply K tree b act r)
   unfolding perform.reply
-  alike_reply act (Says v) h = itself _
-  alike_reply act (Writes t) h = itself _
-  alike_reply act (Lists vs) h = itself _
   alike_reply act (Iterates o vs) h = alike_iterate h act o 0 vs
-  alike_reply act (Fails p) h = itself _
+  alike_reply act other h = itself _
 
   alike_more : {m n : Act N (Value N)} → Alike m n → (y : Value N) → Alike (perform.after_turn K tree m y) (perform.after_turn K tree n y)
   unfolding perform.after_turn
   alike_more h (Flag true) = h
-  alike_more h (Flag false) = itself _
-  alike_more h Null = itself _
-  alike_more h (Number z) = itself _
-  alike_more h (Letter c) = itself _
-  alike_more h (Text t) = itself _
-  alike_more h (Prim n) = itself _
-  alike_more h (Broken p) = itself _
-  alike_more h (Items k) = itself _
-  alike_more h (Ref n) = itself _
+  alike_more h other = itself _
 
   alike_turns : (n : ℕ) {f g : Act N (Value N)} → Alike f g → Alike (perform.turns K tree n f) (perform.turns K tree n g)
   unfolding perform.turns
@@ -175,21 +149,15 @@ module _ {N W : Type 0} (K : Naming N W) (tree : List Node) (a b : Caller N) whe
   pub alike_perform : (act : ℕ) (s : Vat N) (k : Asked N) → AskedAlike a b (CallsAlike s) k → perform.perform K tree a act k s ≡ perform.perform K tree b act k s
   unfolding perform.perform
   alike_perform act s (MakesList vs) h = refl
-  alike_perform act s (Ranges last x y) h = (alike_bind (itself _) (λ r. alike_reply act r (h r))).at s
-  alike_perform act s (Same x y) h = (alike_bind (itself _) (λ r. alike_reply act r (h r))).at s
-  alike_perform act s (Compares t x y) h = (alike_bind (itself _) (λ r. alike_reply act r (h r))).at s
   alike_perform act s (Loops o) h = (alike_loop (h act o)).at s
   alike_perform act s (SendsTo only x v l) h = refl
   alike_perform act s (CallsTo x v l) h = performed_alike act s x v l h
   alike_perform act s MakesPromise h = refl
-  alike_perform act s (Breaks x) h = (alike_bind (itself _) (λ r. alike_reply act r (h r))).at s
-  alike_perform act s (Tells t x) h = (alike_bind (itself _) (λ r. alike_reply act r (h r))).at s
   alike_perform act s (Whens x o) h = refl
-  alike_perform act s (ThrowsIt x) h = (alike_bind (itself _) (λ r. alike_reply act r (h r))).at s
   alike_perform act s (IsStamped v x) h = refl
   alike_perform act s (Coerces g x j) h = (alike_coerce h act g j x).at s
-  alike_perform act s (AddsNull x) h = (alike_bind (itself _) (λ r. alike_reply act r (h r))).at s
   alike_perform act s NoMethod h = refl
+  alike_perform act s other h = (alike_bind (itself _) (λ r. alike_reply act r (h r))).at s
 
   alike_data : (act : ℕ) (y : Value N) (verb : Words) (args : List (Value N)) → ((s : Vat N) → ReplyAlike a b (data_reply s.lists y verb args (map (follow K s) args))) → Alike (perform.data_answer K tree a act y verb args) (perform.data_answer K tree b act y verb args)
   unfolding perform.data_answer look ◌>>=◌ and_then
@@ -200,28 +168,18 @@ module _ {N W : Type 0} (K : Naming N W) (tree : List Node) (a b : Caller N) whe
   alike_audit : ((v : Value N) → AgreeOn a b (codes "audit") (v ∷ [])) → (act : ℕ) (view : View N) (x : Value N) (p : Place N) → Alike (calls.audit K tree a act view x p) (calls.audit K tree b act view x p)
   unfolding calls.audit calls.leaving
   alike_audit h act view x Near = alike_bind (itself _) (λ n. alike_then (itself _) (alike_bind (alike_ending _ _ _ (h (Ref (K.object n)) act x)) (λ v. itself _)))
-  alike_audit h act view x (Mine n) = itself _
-  alike_audit h act view x (Away w n o) = itself _
-  alike_audit h act view x (Gone t) = itself _
+  alike_audit h act view x other = itself _
 
   alike_verdict : ((v : Value N) → AgreeOn a b (codes "audit") (v ∷ [])) → (act : ℕ) (view : View N) (x y : Value N) → Alike (calls.verdict K tree a act view x y) (calls.verdict K tree b act view x y)
   unfolding calls.verdict
-  alike_verdict h act view x (Prim n) = itself _
   alike_verdict h act view x (Ref n) = alike_bind (itself _) (λ p. alike_audit h act view x p)
-  alike_verdict h act view x Null = itself _
-  alike_verdict h act view x (Flag c) = itself _
-  alike_verdict h act view x (Number z) = itself _
-  alike_verdict h act view x (Letter c) = itself _
-  alike_verdict h act view x (Text t) = itself _
-  alike_verdict h act view x (Broken p) = itself _
-  alike_verdict h act view x (Items k) = itself _
+  alike_verdict h act view x other = itself _
 
   alike_live : (act : ℕ) (view : View N) (k : AuditionAsk N) → AuditionAlike a b k → Alike (calls.audition_live K tree a act view k) (calls.audition_live K tree b act view k)
   unfolding calls.audition_live
-  alike_live act view GetsForm h = itself _
   alike_live act view (GetsGuard x) h = alike_bind (itself _) (λ r. alike_reply act r (h r))
   alike_live act view (Asks x) h = alike_bind (itself _) (λ y. alike_bind (alike_verdict h act view x y) (λ c. itself _))
-  alike_live act view NoAuditionAsk h = itself _
+  alike_live act view other h = itself _
 
   alike_audition : (act : ℕ) (live : Bool) (view : View N) (k : AuditionAsk N) → AuditionAlike a b k → Alike (calls.audition_answer K tree a act live view k) (calls.audition_answer K tree b act live view k)
   unfolding calls.audition_answer
@@ -229,16 +187,12 @@ module _ {N W : Type 0} (K : Naming N W) (tree : List Node) (a b : Caller N) whe
   alike_audition act true view GetsForm h = alike_live act view GetsForm h
   alike_audition act true view (GetsGuard x) h = alike_live act view (GetsGuard x) h
   alike_audition act true view (Asks x) h = alike_live act view (Asks x) h
-  alike_audition act false view GetsForm h = itself _
-  alike_audition act false view (GetsGuard x) h = itself _
-  alike_audition act false view (Asks x) h = itself _
+  alike_audition act false view other h = itself _
 
   alike_thing : (act i : ℕ) (t : Thing N) (verb : Words) (args : List (Value N)) → AuditionAlike a b (scopes.audition_ask verb args) → Alike (calls.thing_answer K tree a act i t verb args) (calls.thing_answer K tree b act i t verb args)
   unfolding calls.thing_answer
-  alike_thing act i (Ejector live) verb args h = itself _
   alike_thing act i (Audition live view) verb args h = alike_audition act live view (scopes.audition_ask verb args) h
-  alike_thing act i (Resolver p) verb args h = itself _
-  alike_thing act i (Made node caught stamps) verb args h = itself _
+  alike_thing act i other verb args h = itself _
 
   -- ---- a call
 
@@ -251,17 +205,15 @@ module _ {N W : Type 0} (K : Naming N W) (tree : List Node) (a b : Caller N) whe
   module _ (rec : Evaluator N) (act : ℕ) (x : Value N) (verb : Words) (args : List (Value N)) where
     alike_called : (i : ℕ) (o : Option (Thing N)) → AuditionAlike a b (scopes.audition_ask verb args) → Alike (calls.call_thing K tree rec a act x i o verb args) (calls.call_thing K tree rec b act x i o verb args)
     unfolding calls.call_thing
-    alike_called i None h = itself _
-    alike_called i (Some (Made node caught stamps)) h = itself _
     alike_called i (Some (Ejector live)) h = alike_lines act x verb args (alike_thing act i (Ejector live) verb args h)
     alike_called i (Some (Audition live view)) h = alike_lines act x verb args (alike_thing act i (Audition live view) verb args h)
     alike_called i (Some (Resolver p)) h = alike_lines act x verb args (alike_thing act i (Resolver p) verb args h)
+    alike_called i other h = itself _
 
     alike_spot : (p : Spot) → AuditionAlike a b (scopes.audition_ask verb args) → Alike (calls.call_spot K tree rec a act x p verb args) (calls.call_spot K tree rec b act x p verb args)
     unfolding calls.call_spot
     alike_spot (Own i) h = alike_bind (itself _) (λ o. alike_called i o h)
-    alike_spot (Foreign w) h = itself _
-    alike_spot NoObject h = itself _
+    alike_spot other h = itself _
 
     alike_value : (s : Vat N) (y : Value N) → Suits s verb args → calls.call_value K tree rec a act x y verb args s ≡ calls.call_value K tree rec b act x y verb args s
     unfolding calls.call_value

@@ -29,14 +29,6 @@ module _ {N W : Type 0} (K : Naming N W) (tree : List Node) (a b : Caller N) whe
 
   runs_ask : (calls : Value N → Type 0) (p : Primitive) → AskedAlike a b calls (asked p (codes "run") [])
   unfolding native.asked native.list_ask native.equalizer_ask native.comparer_ask native.run_ask native.send_ask native.ref_ask native.stamp_ask native.guard_ask entry same_words
-  runs_ask calls MakeList = tt
-  runs_ask calls Equalizer = tt
-  runs_ask calls Comparer = tt
-  runs_ask calls Looper = tt
-  runs_ask calls Sender = tt
-  runs_ask calls References = tt
-  runs_ask calls Thrower = tt
-  runs_ask calls StampReader = tt
   runs_ask calls (Guarding g) = go g
     where
       go : (g : Guard) → AskedAlike a b calls (native.guard_ask g (codes "run") [])
@@ -51,20 +43,12 @@ module _ {N W : Type 0} (K : Naming N W) (tree : List Node) (a b : Caller N) whe
       go NearGuard = tt
       go FrozenGuard = tt
       go (OrNull g) = tt
-  runs_ask calls (Judging r) = tt
-  runs_ask calls NoPrimitive = tt
+  runs_ask calls other = tt
 
   runs_data : (ls : List (List (Value N))) (y : Value N) → ReplyAlike a b (data_reply ls y (codes "run") [] [])
   unfolding native.data_reply native.int_reply native.int_alone native.int_unary native.flag_reply native.letter_reply native.text_reply native.list_reply native.no_method entry same_words
   runs_data ls Null = tt
-  runs_data ls (Flag c) = tt
-  runs_data ls (Number z) = tt
-  runs_data ls (Letter c) = tt
-  runs_data ls (Text t) = tt
-  runs_data ls (Prim n) = tt
-  runs_data ls (Broken p) = tt
-  runs_data ls (Items k) = tt
-  runs_data ls (Ref n) = tt
+  runs_data ls other = tt
 
   pub runs_suit : (s : Vat N) → Suits K tree a b s (codes "run") []
   unfolding scopes.audition_ask entry same_words
@@ -73,28 +57,13 @@ module _ {N W : Type 0} (K : Naming N W) (tree : List Node) (a b : Caller N) whe
   pairs_ask : (calls : Value N → Type 0) (p : Primitive) (v w : Value N) → AskedAlike a b calls (asked p (codes "run") (v ∷ w ∷ []))
   unfolding native.asked native.list_ask native.equalizer_ask native.comparer_ask native.run_ask native.send_ask native.ref_ask native.stamp_ask native.guard_ask entry same_words
   pairs_ask calls MakeList v w = tt
-  pairs_ask calls Equalizer v w = tt
-  pairs_ask calls Comparer v w = tt
-  pairs_ask calls Looper v w = tt
-  pairs_ask calls Sender v w = tt
-  pairs_ask calls References v w = tt
-  pairs_ask calls Thrower v w = tt
-  pairs_ask calls StampReader v w = tt
-  pairs_ask calls (Guarding g) v w = tt
-  pairs_ask calls (Judging r) v w = tt
-  pairs_ask calls NoPrimitive v w = tt
+  pairs_ask calls other v w = tt
 
   pairs_data : (ls : List (List (Value N))) (y v w p q : Value N) → ReplyAlike a b (data_reply ls y (codes "run") (p ∷ q ∷ []) (v ∷ w ∷ []))
   unfolding native.data_reply native.int_reply native.flag_reply native.letter_reply native.text_reply native.list_reply native.no_method entry same_words
-  pairs_data ls Null v w p q = tt
-  pairs_data ls (Flag c) v w p q = tt
-  pairs_data ls (Number z) v w p q = tt
-  pairs_data ls (Letter c) v w p q = tt
   pairs_data ls (Text t) v w p q = ran_alike {A = ℕ} (λ cs. Writes (native.encoded cs)) (λ cs. tt) (chars t) v w
-  pairs_data ls (Prim n) v w p q = tt
-  pairs_data ls (Broken u) v w p q = tt
   pairs_data ls (Items k) v w p q = ran_alike {A = Value N} Lists (λ vs. tt) (native.list_at ls k) v w
-  pairs_data ls (Ref n) v w p q = tt
+  pairs_data ls other v w p q = tt
 
   pub pairs_suit : (s : Vat N) (v w : Value N) → Suits K tree a b s (codes "run") (v ∷ w ∷ [])
   unfolding scopes.audition_ask
@@ -104,14 +73,6 @@ module _ {N W : Type 0} (K : Naming N W) (tree : List Node) (a b : Caller N) whe
 
   audits_ask : (calls : Value N → Type 0) (p : Primitive) (v : Value N) → AskedAlike a b calls (asked p (codes "audit") (v ∷ []))
   unfolding native.asked native.list_ask native.equalizer_ask native.comparer_ask native.run_ask native.send_ask native.ref_ask native.stamp_ask native.guard_ask entry same_words
-  audits_ask calls MakeList v = tt
-  audits_ask calls Equalizer v = tt
-  audits_ask calls Comparer v = tt
-  audits_ask calls Looper v = tt
-  audits_ask calls Sender v = tt
-  audits_ask calls References v = tt
-  audits_ask calls Thrower v = tt
-  audits_ask calls StampReader v = tt
   audits_ask calls (Guarding g) v = go g
     where
       go : (g : Guard) → AskedAlike a b calls (native.guard_ask g (codes "audit") (v ∷ []))
@@ -126,20 +87,12 @@ module _ {N W : Type 0} (K : Naming N W) (tree : List Node) (a b : Caller N) whe
       go NearGuard = tt
       go FrozenGuard = tt
       go (OrNull g) = tt
-  audits_ask calls (Judging r) v = tt
-  audits_ask calls NoPrimitive v = tt
+  audits_ask calls other v = tt
 
   audits_data : (ls : List (List (Value N))) (y v w : Value N) → ReplyAlike a b (data_reply ls y (codes "audit") (v ∷ []) (w ∷ []))
   unfolding native.data_reply native.int_reply native.int_with native.int_binary native.flag_reply native.flag_with native.flag_binary native.letter_reply native.text_reply native.text_with native.text_verb native.list_reply native.list_with native.list_verb native.no_method entry same_words
   audits_data ls Null v w = tt
-  audits_data ls (Flag c) v w = tt
-  audits_data ls (Number z) v w = tt
-  audits_data ls (Letter c) v w = tt
-  audits_data ls (Text t) v w = tt
-  audits_data ls (Prim n) v w = tt
-  audits_data ls (Broken p) v w = tt
-  audits_data ls (Items k) v w = tt
-  audits_data ls (Ref n) v w = tt
+  audits_data ls other v w = tt
 
   pub audits_suit : (s : Vat N) (v : Value N) → Suits K tree a b s (codes "audit") (v ∷ [])
   unfolding scopes.audition_ask entry same_words
@@ -153,14 +106,8 @@ module _ {N W : Type 0} (K : Naming N W) (tree : List Node) (a b : Caller N) whe
 
     ones_ask : (calls : Value N → Type 0) (p : Primitive) (v : Value N) → AskedAlike a b calls (asked p (codes "run") (v ∷ []))
     unfolding native.asked native.list_ask native.equalizer_ask native.comparer_ask native.run_ask native.send_ask native.ref_ask native.stamp_ask native.guard_ask entry same_words
-    ones_ask calls MakeList v = tt
-    ones_ask calls Equalizer v = tt
-    ones_ask calls Comparer v = tt
     ones_ask calls Looper v = agree.runs
-    ones_ask calls Sender v = tt
-    ones_ask calls References v = tt
     ones_ask calls Thrower v = any_reply
-    ones_ask calls StampReader v = tt
     ones_ask calls (Guarding g) v = go g
       where
         go : (g : Guard) → AskedAlike a b calls (native.guard_ask g (codes "run") (v ∷ []))
@@ -175,8 +122,7 @@ module _ {N W : Type 0} (K : Naming N W) (tree : List Node) (a b : Caller N) whe
         go NearGuard = tt
         go FrozenGuard = tt
         go (OrNull g) = tt
-    ones_ask calls (Judging r) v = tt
-    ones_ask calls NoPrimitive v = tt
+    ones_ask calls other v = tt
 
     pub ones_suit : (s : Vat N) (v : Value N) → Suits K tree a b s (codes "run") (v ∷ [])
     unfolding scopes.audition_ask entry same_words

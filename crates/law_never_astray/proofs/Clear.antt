@@ -25,9 +25,8 @@ module _ {N : Type 0} where
   firm_ends : {A B : Type 0} (d : Done N A) (f : A → Act N B) → NotAstray d → ((a : A) → Firm (f a)) → NotAstray (and_then d f)
   unfolding and_then
   firm_ends (Gives a t) f h k = (k a).after t
-  firm_ends (Throws p t) f h k = tt
-  firm_ends (Ejects n v t) f h k = tt
   firm_ends (Stops c t) f h k = h
+  firm_ends other f h k = tt
 
   pub firm_bind : {A B : Type 0} {m : Act N A} {f : A → Act N B} → Firm m → ((a : A) → Firm (f a)) → Firm (m >>= f)
   unfolding ◌>>=◌
@@ -113,10 +112,8 @@ module _ {N W : Type 0} (K : Naming N W) where
   Plain m = sure.Sure K each_mail Any zero Always none_first all_keep all_come zero m
 
   plain_ends : {A : Type 0} (s : Vat N) (d : Done N A) → sure.EndsSure K each_mail Any zero Always none_first all_keep all_come s d → NotAstray d
-  plain_ends s (Gives a t) h = tt
-  plain_ends s (Throws p t) h = tt
-  plain_ends s (Ejects n v t) h = tt
   plain_ends s (Stops c t) h = h
+  plain_ends s other h = tt
 
   pub firm_plain : {A : Type 0} {m : Act N A} → Plain m → Firm m
   firm_plain {m = m} h = record { after = λ s. plain_ends s (m s) (h.after s tt (open_zero s.known)) }
@@ -145,9 +142,8 @@ module _ {N W : Type 0} (K : Naming N W) (S : Care N) (law : Under K S) (mail : 
   clear_ends : {A B : Type 0} (C : Fact N) (P : A → Fact N) (s : Vat N) (d : Done N A) (f : A → Act N B) → Holds (S.ok s) C → Ends S P s d → NotAstray d → ((a : A) → Clear (Also C (P a)) (f a)) → NotAstray (and_then d f)
   unfolding and_then
   clear_ends C P s (Gives a t) f c e h k = (k a).after t e.1 (rise S s t e.0 C c, e.2)
-  clear_ends C P s (Throws p t) f c e h k = tt
-  clear_ends C P s (Ejects n v t) f c e h k = tt
   clear_ends C P s (Stops r t) f c e h k = h
+  clear_ends C P s other f c e h k = tt
 
   pub clear_bind : {A B : Type 0} {C : Fact N} {m : Act N A} {f : A → Act N B} (P : A → Fact N) → Fine S C m P → Clear C m → ((a : A) → Clear (Also C (P a)) (f a)) → Clear C (m >>= f)
   unfolding ◌>>=◌
@@ -196,9 +192,7 @@ module _ {N W : Type 0} (K : Naming N W) (S : Care N) (law : Under K S) (mail : 
   unfolding refs.resolve_to
   clear_resolve_to p y (Mine q) = clear_wait p q
   clear_resolve_to p y (Away h q false) = clear_wait p q
-  clear_resolve_to p y (Away h q true) = clear_settle p y
-  clear_resolve_to p y Near = clear_settle p y
-  clear_resolve_to p y (Gone t) = clear_settle p y
+  clear_resolve_to p y other = clear_settle p y
 
   pub clear_resolve : {C : Fact N} (p : N) (x : Value N) → Clear C (refs.resolve K p x)
   unfolding refs.resolve
@@ -213,9 +207,7 @@ module _ {N W : Type 0} (K : Naming N W) (S : Care N) (law : Under K S) (mail : 
   clear_break_at : {C : Fact N} (n : N) (p : Words) (t : Standing N) → Clear C (arrive.break_at K n p t)
   unfolding arrive.break_at
   clear_break_at n p (Settled y) = clear_firm (firm_give tt)
-  clear_break_at n p Unsettled = clear_settle n _
-  clear_break_at n p (WaitsOn q) = clear_settle n _
-  clear_break_at n p (Viewed q) = clear_settle n _
+  clear_break_at n p other = clear_settle n _
 
   clear_break_unopened : {C : Fact N} (n : N) (b : Bool) → Clear C (arrive.break_unopened K n b)
   unfolding arrive.break_unopened
@@ -225,9 +217,7 @@ module _ {N W : Type 0} (K : Naming N W) (S : Care N) (law : Under K S) (mail : 
   pub clear_tell_asker : {C : Fact N} (n : N) (w : ℕ) (t : Standing N) → Clear C (arrive.tell_asker K n w t)
   unfolding arrive.tell_asker
   clear_tell_asker n w (Settled y) = clear_firm (firm_inform K n w)
-  clear_tell_asker n w Unsettled = clear_firm (firm_alter K _ n)
-  clear_tell_asker n w (WaitsOn q) = clear_firm (firm_alter K _ n)
-  clear_tell_asker n w (Viewed q) = clear_firm (firm_alter K _ n)
+  clear_tell_asker n w other = clear_firm (firm_alter K _ n)
 
   pub clear_break_orphan : {C : Fact N} (p i : ℕ) (n : N) → Clear C (arrive.break_orphan K p i n)
   unfolding arrive.break_orphan
@@ -257,17 +247,13 @@ module _ {N W : Type 0} (K : Naming N W) (S : Care N) (law : Under K S) (mail : 
   firm_shorten_to : (i : ℕ) (p : Place N) → Firm (arrive.shorten_to K i p)
   unfolding arrive.shorten_to
   firm_shorten_to i (Away h n true) = firm_out h _
-  firm_shorten_to i (Away h n false) = firm_give tt
-  firm_shorten_to i Near = firm_give tt
-  firm_shorten_to i (Mine n) = firm_give tt
-  firm_shorten_to i (Gone t) = firm_give tt
+  firm_shorten_to i other = firm_give tt
 
   clear_break_hosted : {C : Fact N} (w : ℕ) (n : N) (p : Words) (t : Standing N) → Clear C (arrive.break_hosted K w n p t)
   unfolding arrive.break_hosted
-  clear_break_hosted w n p Unsettled = clear_settle n _
-  clear_break_hosted w n p (WaitsOn q) = clear_settle n _
   clear_break_hosted w n p (Viewed q) = clear_firm (firm_give tt)
   clear_break_hosted w n p (Settled y) = clear_firm (firm_give tt)
+  clear_break_hosted w n p other = clear_settle n _
 
   clear_notice_name : {C : Fact N} (w : ℕ) (k : Known N) → Clear C (arrive.notice_name K w k)
   unfolding arrive.notice_name

@@ -8,9 +8,7 @@ use Rattle.law_name.specs.Names.{AllOf}
 -- one, where it has not settled
 unfoldable pub open_one : {N : Type 0} → Standing N → ℕ
 open_one (Settled y) = zero
-open_one Unsettled = suc zero
-open_one (WaitsOn q) = suc zero
-open_one (Viewed q) = suc zero
+open_one other = suc zero
 
 -- how many of the first so many names have not settled
 unfoldable pub open_of : {N : Type 0} → ℕ → List (Known N) → ℕ
@@ -21,16 +19,12 @@ open_of (suc b) (k ∷ ks) = open_one k.standing + open_of b ks
 open_most : {N : Type 0} (t : Standing N) → open_one t ≤ suc zero
 unfolding open_one
 open_most (Settled y) = omega arith
-open_most Unsettled = omega arith
-open_most (WaitsOn q) = omega arith
-open_most (Viewed q) = omega arith
+open_most other = omega arith
 
 open_changed : {N : Type 0} (c : Change N) (t : Standing N) (k new : Known N) → k.standing ≡ t → open_one (unless_settled t k new).standing ≤ open_one k.standing
 unfolding unless_settled open_one
 open_changed c (Settled y) k new e = omega arith
-open_changed c Unsettled k new e = let l = open_most new.standing in let f : open_one k.standing ≡ suc zero = ap open_one e in omega arith
-open_changed c (WaitsOn q) k new e = let l = open_most new.standing in let f : open_one k.standing ≡ suc zero = ap open_one e in omega arith
-open_changed c (Viewed q) k new e = let l = open_most new.standing in let f : open_one k.standing ≡ suc zero = ap open_one e in omega arith
+open_changed c other k new e = let l = open_most new.standing in let f : open_one k.standing ≡ suc zero = ap open_one e in omega arith
 
 -- no more than there are
 pub open_length : {N : Type 0} (b : ℕ) (ks : List (Known N)) → open_of b ks ≤ b
@@ -59,19 +53,12 @@ module _ {N W : Type 0} (K : Naming N W) where
   pub to_name : (c : Change N) (k : Known N) → (changed_to c k).name ≡ k.name
   unfolding changed_to
   to_name (Hold m) k = refl
-  to_name (Wait q) k = refl
-  to_name (WaitOn q) k = refl
-  to_name (See q) k = refl
-  to_name (React m) k = refl
-  to_name (ToTell w) k = refl
-  to_name (Settle y) k = refl
+  to_name other k = refl
 
   unless_name : (t : Standing N) (k new : Known N) → new.name ≡ k.name → (unless_settled t k new).name ≡ k.name
   unfolding unless_settled
   unless_name (Settled y) k new e = refl
-  unless_name Unsettled k new e = e
-  unless_name (WaitsOn q) k new e = e
-  unless_name (Viewed q) k new e = e
+  unless_name other k new e = e
 
   changed_same : (c : Change N) (k : Known N) (n : N) → K.same (changed c k).name n ≡ K.same k.name n
   unfolding changed
@@ -165,9 +152,7 @@ module _ {N W : Type 0} (K : Naming N W) where
   settled_open : (t : Standing N) (k new : Known N) → open_one t ≡ suc zero → open_one new.standing ≡ zero → open_one (unless_settled t k new).standing ≡ zero
   unfolding unless_settled open_one
   settled_open (Settled y) k new e f = cc
-  settled_open Unsettled k new e f = f
-  settled_open (WaitsOn q) k new e f = f
-  settled_open (Viewed q) k new e f = f
+  settled_open other k new e f = f
 
   settle_open : (y : Value N) (k : Known N) → open_one (changed_to (Settle y) k).standing ≡ zero
   unfolding changed_to open_one

@@ -139,8 +139,7 @@ module _ {N W : Type 0} (K : Naming N W) (tree : List Node) (F : AtStops N) (may
     lead_call_spot : (again : Caller N) → GoodCaller tree F again → (many act : ℕ) (x : Value N) (p : Spot) (verb : Words) (args : List (Value N)) → Leads tree F many Nothing (calls.call_spot K tree rec again act x p verb args)
     unfolding calls.call_spot calls.call_thing stop
     lead_call_spot again h many act x (Own i) verb args = lead_look_thing tree F i _ (λ s e. may.lost s i e) (λ k t l c. lead_call_thing again h k act x i t c verb args)
-    lead_call_spot again h many act x (Foreign w) verb args = lead_throw tree F _
-    lead_call_spot again h many act x NoObject verb args = lead_throw tree F _
+    lead_call_spot again h many act x other verb args = lead_throw tree F _
 
     lead_call_value : (again : Caller N) → GoodCaller tree F again → (many act : ℕ) (x y : Value N) (verb : Words) (args : List (Value N)) → Leads tree F many Nothing (calls.call_value K tree rec again act x y verb args)
     unfolding calls.call_value
@@ -171,9 +170,8 @@ module _ {N W : Type 0} (K : Naming N W) (tree : List Node) (F : AtStops N) (may
     unfolding calls.turn_spot
     lead_aimed h many act (Own i) o verb args = lead_turn_spot h many act i verb args
     lead_aimed h many act (Foreign w) (inl o) verb args = let e = o.1 in cc
-    lead_aimed h many act (Foreign w) (inr o) verb args = lead_stop tree F Astray o
     lead_aimed h many act NoObject (inl o) verb args = let e = o.1 in cc
-    lead_aimed h many act NoObject (inr o) verb args = lead_stop tree F Astray o
+    lead_aimed h many act other (inr o) verb args = lead_stop tree F Astray o
 
     pub lead_turn_value : GoodCaller tree F (calls.call K tree rec) → (many act : ℕ) (x : Value N) → ((n : N) → x ≡ Ref n → ((i : ℕ) × (K.spot n ≡ Own i)) ⊎ ((s : Vat N) → F Astray s)) → (verb : Words) (args : List (Value N)) → Leads tree F many Nothing (calls.turn_value K tree rec act x verb args)
     unfolding calls.turn_value

@@ -56,14 +56,12 @@ may_stop = record { fuel = λ s. tt; deep = λ s. tt; lost = λ s i e. tt }
 
 pub ends_carrying : {N A : Type 0} (tree : List Node) (many : ℕ) (H : ℕ → A → Type 0) (d : Done N A) → Ends tree Whatever many H d → EndsCarrying tree d
 ends_carrying tree many H (Gives a t) h = h.0.1
-ends_carrying tree many H (Throws p t) h = h.1
-ends_carrying tree many H (Ejects n v t) h = h.1
 ends_carrying tree many H (Stops c t) h = tt
+ends_carrying tree many H other h = h.1
 
 is_own : {N W : Type 0} (K : Naming N W) (n : N) (p : Spot) → K.spot n ≡ p → ((i : ℕ) × (K.spot n ≡ Own i)) ⊎ ((s : Vat N) → Unit {0})
 is_own K n (Own i) e = inl (i, e)
-is_own K n (Foreign w) e = inr (λ s. tt)
-is_own K n NoObject e = inr (λ s. tt)
+is_own K n other e = inr (λ s. tt)
 
 module _ {N W : Type 0} (K : Naming N W) (tree : List Node) where
   pub refs : Refers K tree Whatever

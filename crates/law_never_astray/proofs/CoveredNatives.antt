@@ -103,11 +103,10 @@ module _ {N W : Type 0} (K : Naming N W) (tree : List Node) (F : AtStops N) (may
 
   pub lead_reply : (many : ℕ) → (x1 : Caller N) → GoodCaller tree F x1 → (x2 : ℕ) → (x3 : Reply N) → Leads tree F many Nothing (perform.reply K tree x1 x2 x3)
   unfolding perform.reply
-  lead_reply many again h1 act (Says v) = search (leads) depth 14
   lead_reply many again h1 act (Writes t) = search (leads, lead_write_text) depth 14
   lead_reply many again h1 act (Lists vs) = search (leads, lead_make_list) depth 14
   lead_reply many again h1 act (Iterates o vs) = search (leads, lead_iterate) depth 14
-  lead_reply many again h1 act (Fails p) = search (leads) depth 14
+  lead_reply many again h1 act other = search (leads) depth 14
 
   pub lead_data_answer : (many : ℕ) → (x1 : Caller N) → GoodCaller tree F x1 → (x2 : ℕ) → (x3 : Value N) → (x4 : Words) → (x5 : List (Value N)) → Leads tree F many Nothing (perform.data_answer K tree x1 x2 x3 x4 x5)
   unfolding perform.data_answer
@@ -166,21 +165,15 @@ module _ {N W : Type 0} (K : Naming N W) (tree : List Node) (F : AtStops N) (may
   pub lead_perform : (many : ℕ) → (x1 : Caller N) → GoodCaller tree F x1 → (x2 : ℕ) → (x3 : Asked N) → Leads tree F many Nothing (perform.perform K tree x1 x2 x3)
   unfolding perform.perform
   lead_perform many again h1 act (MakesList vs) = search (leads, lead_make_list) depth 14
-  lead_perform many again h1 act (Ranges last a b) = search (leads, lead_reply) depth 14
-  lead_perform many again h1 act (Same a b) = search (leads, lead_reply) depth 14
-  lead_perform many again h1 act (Compares test a b) = search (leads, lead_reply) depth 14
   lead_perform many again h1 act (Loops o) = search (leads, lead_loop) depth 14
   lead_perform many again h1 act (SendsTo only x v l) = search (leads, lead_send_with) depth 14
   lead_perform many again h1 act (CallsTo x v l) = search (leads, lead_call_with) depth 14
   lead_perform many again h1 act MakesPromise = search (leads, lead_make_promise) depth 14
-  lead_perform many again h1 act (Breaks t) = search (leads, lead_reply) depth 14
-  lead_perform many again h1 act (Tells test x) = search (leads, lead_reply) depth 14
   lead_perform many again h1 act (Whens x o) = search (leads, lead_when_resolved) depth 14
-  lead_perform many again h1 act (ThrowsIt t) = search (leads, lead_reply) depth 14
   lead_perform many again h1 act (IsStamped a x) = search (leads) depth 14
   lead_perform many again h1 act (Coerces g x j) = search (leads, lead_native_coerce) depth 14
-  lead_perform many again h1 act (AddsNull g) = search (leads, lead_reply) depth 14
   lead_perform many again h1 act NoMethod = search (leads) depth 14
+  lead_perform many again h1 act other = search (leads, lead_reply) depth 14
 
   pub lead_audit : (many : ℕ) → (x1 : Caller N) → GoodCaller tree F x1 → (x2 : ℕ) → (x3 : View N) → IsSeen tree x3 → (x4 : Value N) → (x5 : Place N) → Leads tree F many Nothing (calls.audit K tree x1 x2 x3 x4 x5)
   unfolding calls.audit

@@ -70,19 +70,17 @@ module _ {N W : Type 0} (K : Naming N W) (tree : List Node) (F : AtStops N) (may
 
   lead_read : (many act : ℕ) (v : Bool) (x : Words) (o : Option (Bound N)) → Stands many v x o → Leads tree F many Nothing (scopes.read_bound act o x)
   unfolding scopes.read_bound scopes.read_cell for_some
-  lead_read many act true x (Some (Fixed w g)) h = absurd h
   lead_read many act true x (Some (Slot k)) h = lead_look_slot tree F k _ h (λ c. lead_then tree F (lead_tell tree F _) (lead_give tree F c.value))
-  lead_read many act true x None h = absurd h
   lead_read many act false x (Some (Fixed w g)) h = lead_give tree F w
   lead_read many act false x (Some (Slot k)) h = absurd h
   lead_read many act false x None h = subst (λ p. Leads tree F many Nothing (for_some p give (stop Astray))) (sym h.1) (lead_give tree F h.0)
+  lead_read many act true x other h = absurd h
 
   lead_write_bound : (many act : ℕ) (x : Words) (o : Option (Bound N)) (v : Value N) → Stands many true x o → Leads tree F many Nothing (eval.write_bound K tree rec act o v)
   unfolding eval.write_bound eval.write_cell
   lead_write_bound many act x (Some (Slot k)) v h = lead_look_slot tree F k _ h (λ c. lead_next tree F (lead_coerce K tree F may refs many (calls.call K tree rec) again act c.guard Null v)
       (λ w. lead_then tree F (lead_write tree F k w) (lead_then tree F (lead_tell tree F _) (lead_give tree F w))))
-  lead_write_bound many act x (Some (Fixed w g)) v h = absurd h
-  lead_write_bound many act x None v h = absurd h
+  lead_write_bound many act x other v h = absurd h
 
   lead_exit : (many : ℕ) (s t : Scopes) (j : Option ℕ) (here : Scope N) → IsOpen s → WhereSome (Formed tree Expression) j → MayScoped tree s j t → Covers many here.nouns s → Leads tree F many (answer t) (eval.exit_of K tree rec j here)
   unfolding eval.exit_of

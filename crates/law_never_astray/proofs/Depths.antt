@@ -26,10 +26,8 @@ module _ {N W : Type 0} (K : Naming N W) (S : Care N) (tree : List Node) (Bad : 
   -- ---- where nothing is said of stops
 
   any_goes : {A : Type 0} (H : A → Fact N) (G : ℕ → A → Type 0) (s : Vat N) (d : Done N A) → Goes S tree Bad Rests H G s d → Goes S tree Anything Rests H G s d
-  any_goes H G s (Gives a t) h = h
-  any_goes H G s (Throws p t) h = h
-  any_goes H G s (Ejects i v t) h = h
   any_goes H G s (Stops c t) h = (tt, λ e. tt, tt)
+  any_goes H G s other h = h
 
   any_good : {C : Fact N} {n : ℕ} {A : Type 0} {m : _} {H : A → Fact N} {G : ℕ → A → Type 0} → Good S tree Bad Rests C n m H G → Good S tree Anything Rests C n m H G
   any_good {m = m} {H = H} {G = G} h = record { after = λ s g c k r. any_goes H G s (m s) (h.after s g c k r) }
@@ -53,16 +51,12 @@ module _ {N W : Type 0} (K : Naming N W) (S : Care N) (tree : List Node) (Bad : 
 
   -- what is said of stops, apart
   with_stops : {A : Type 0} (H : A → Fact N) (G : ℕ → A → Type 0) (s : Vat N) (d : Done N A) → Goes S tree Anything Rests H G s d → ((c : Stop) (t : Vat N) → d ≡ Stops c t → c ≡ Astray → Bad t) → Goes S tree Bad Rests H G s d
-  with_stops H G s (Gives a t) h f = h
-  with_stops H G s (Throws p t) h f = h
-  with_stops H G s (Ejects i v t) h f = h
   with_stops H G s (Stops c t) h f = (tt, λ e. f c t refl e, tt)
+  with_stops H G s other h f = h
 
   stops_so : {A : Type 0} (H : A → Fact N) (G : ℕ → A → Type 0) (s : Vat N) (d : Done N A) → Goes S tree Bad Rests H G s d → (c : Stop) (t : Vat N) → d ≡ Stops c t → c ≡ Astray → Bad t
-  stops_so H G s (Gives a u) h c t e i = cc
-  stops_so H G s (Throws p u) h c t e i = cc
-  stops_so H G s (Ejects j v u) h c t e i = cc
   stops_so H G s (Stops r u) h c t e i = let cause : r ≡ c = cc in let state : u ≡ t = cc in subst Bad state (h.1 (cause ∙ i))
+  stops_so H G s other h c t e i = cc
 
 module _ {N W : Type 0} (K : Naming N W) (S : Care N) (tree : List Node) (Bad : Vat N → Type 0) (Rests : List (Message N) → List (Known N) → Type 0) (works : Works K S tree Bad Rests) (names : NamesThere K S) where
   -- ---- calls

@@ -13,10 +13,9 @@ use Rattle.law_never_astray.proofs.Awaits as awaits
 use Rattle.law_never_astray.proofs.AwaitsEval.{await_turn_value, good_evaluator}
 
 awaited : {N A : Type 0} (d : Done N A) → awaits.EndsAwaited [] d → IsAwaited d
-awaited (Gives a t) h = h
-awaited (Throws p t) h = h
 awaited (Ejects n v t) h = absurd h.1
 awaited (Stops c t) h = tt
+awaited other h = h
 
 ends_awaited : {N W : Type 0} (K : Naming N W) → EndsAwaited K
 ends_awaited K tree depth s h = let good = good_evaluator K tree depth in (

@@ -161,8 +161,7 @@ module _ {N W : Type 0} (K : Naming N W) (S : Care N) (tree : List Node) (Bad : 
           → Does C many (calls.call_spot K tree rec again act x p verb args) IsValue Nothing
       unfolding calls.call_spot
       good_call_spot again h C many act x gx n g (Own i) q verb args e = good_look_thing S tree Bad Rests i _ (λ s w c f. slot_there s.things i f (names s n (g.at s c) i q)) (λ k t l c. good_call_thing again h _ k act x (lift S gx) i t (top S) c verb args (lift S e))
-      good_call_spot again h C many act x gx n g (Foreign w) q verb args e = good_throw S tree Bad Rests _
-      good_call_spot again h C many act x gx n g NoObject q verb args e = good_throw S tree Bad Rests _
+      good_call_spot again h C many act x gx n g other q verb args e = good_throw S tree Bad Rests _
 
       good_call_value : (again : Caller N) → GoodCaller S tree Bad Rests again → (C : Fact N) (many act : ℕ) (x y : Value N) → Gets S C (IsValue x) → Gets S C (IsValue y) → (verb : Words) (args : List (Value N)) → Gets S C (AreValues args) → Does C many (calls.call_value K tree rec again act x y verb args) IsValue Nothing
       unfolding calls.call_value
@@ -189,8 +188,7 @@ module _ {N W : Type 0} (K : Naming N W) (S : Care N) (tree : List Node) (Bad : 
           → Does C many (calls.turn_spot K tree rec act p verb args) IsValue Nothing
       unfolding calls.turn_spot
       good_turn_spot h C many act n g i own (Own k) q verb args e = good_look_thing S tree Bad Rests k _ (λ s w c f. slot_there s.things k f (names s n (g.at s c) k q)) (λ z t l c. good_turn_thing h _ z act k t (top S) c verb args (lift S e))
-      good_turn_spot h C many act n g i own (Foreign w) q verb args e = cc
-      good_turn_spot h C many act n g i own NoObject q verb args e = cc
+      good_turn_spot h C many act n g i own other q verb args e = cc
 
       pub good_turn_value : GoodCaller S tree Bad Rests (calls.call K tree rec) → (C : Fact N) (many act : ℕ) (x : Value N) → Gets S C (IsValue x) → ((n : N) → x ≡ Ref n → (i : ℕ) × (K.spot n ≡ Own i)) → (verb : Words) (args : List (Value N)) → Gets S C (AreValues args)
           → Does C many (calls.turn_value K tree rec act x verb args) IsValue Nothing

@@ -75,10 +75,8 @@ front_follows done (CutLink v w ∷ front) rest h = front_follows (CutLink v w �
 front_follows done (NoticeLink v w ∷ front) rest h = (h.0, h.1, front_follows (NoticeLink v w ∷ done) front rest h.2)
 
 rest_there : (count : ℕ) (e : Entry) (es : List Entry) → NoticersAreThere count (e ∷ es) → NoticersAreThere count es
-rest_there count (Turn v) es h = h
-rest_there count (Carry v w) es h = h
-rest_there count (CutLink v w) es h = h
 rest_there count (NoticeLink v w) es h = h.1
+rest_there count other es h = h
 
 false_if : (b : Bool) → (b ≡ true → ⊥) → b ≡ false
 false_if true f = absurd (f refl)
@@ -174,9 +172,7 @@ module _ (script : Script) (once : KnowsOnce script) (accepted : IsAccepted scri
 
     is_there : (w : World) → Lasts script accepted w → (e : Entry) (es : List Entry) → NoticersAreThere (length script.vats) (e ∷ es) → (v u : ℕ) → e ≡ NoticeLink v u → slice_get w.vats v ≡ None → ⊥
     is_there w lasts (NoticeLink a b) es h v u i g = let same : a ≡ v = cc in let l : a < length script.vats = h.0 in let m = lasts.count in some_there v w.vats (let n = same in omega arith) g
-    is_there w lasts (Turn a) es h v u i g = cc
-    is_there w lasts (Carry a b) es h v u i g = cc
-    is_there w lasts (CutLink a b) es h v u i g = cc
+    is_there w lasts other es h v u i g = cc
 
     entry_clear : (e : Entry) (es front : List Entry) (k : ℕ) (w : World) → NoticesFollowCuts front → NoticersAreThere (length script.vats) (e ∷ es) → world.steps_from script front 1 w0 ≡ Goes w → (D : ℕ → Type 0) → RingsBy (word script) false D w → WorldSound script w → Lasts script accepted w
         → (c : Stop) (n : ℕ) (y : World) → world.step script e k w ≡ Stopped c n y → c ≡ Astray → ⊥

@@ -33,17 +33,15 @@ module _ {N : Type 0} (s : Vat N) where
   read_found : (act : ℕ) (is_var : Bool) (x : Words) (o : Option (Bound N)) → Stands (length s.slots) is_var x o → (v : Value N) × (t : Vat N) × (read_bound act o x s ≡ Gives v t)
   unfolding read_bound ◌>>=◌ and_then look give
   read_found act true x (Some (Slot k)) h = let c = slot_found k h in cell_read act k (slice_get s.slots k) c.0 c.1
-  read_found act true x (Some (Fixed w g)) h = absurd h
-  read_found act true x None h = absurd h
   read_found act false x (Some (Slot k)) h = absurd h
   read_found act false x (Some (Fixed w g)) h = (w, s, refl)
   read_found act false x None h = safe_read _ h.0 h.1
+  read_found act true x other h = absurd h
 
   var_found : (is_var : Bool) (x : Words) (o : Option (Bound N)) → Stands (length s.slots) is_var x o → is_var ≡ true → (k : ℕ) × (c : Cell N) × (o ≡ Some (Slot k)) × (slice_get s.slots k ≡ Some c)
   var_found true x (Some (Slot k)) h e = let c = slot_found k h in (k, c.0, refl, c.1)
-  var_found true x (Some (Fixed w g)) h e = absurd h
-  var_found true x None h e = absurd h
   var_found false x o h e = cc
+  var_found true x other h e = absurd h
 
 nouns_found : (N : Type 0) → NounsAreFoundBy N
 nouns_found N s nouns scopes x is_var c e = (λ act. read_found s act is_var x (bound_in nouns x) (c x is_var e), var_found s is_var x (bound_in nouns x) (c x is_var e))
@@ -57,10 +55,8 @@ abbrev NeverAstray : {N : Type 0} → AtStops N
 NeverAstray c s = c ≡ Astray → ⊥
 
 never_ends : {N A : Type 0} (tree : List Node) (many : ℕ) (t : Vat N) (d : Done N A) → Ends tree NeverAstray many Nothing d → d ≡ Stops Astray t → ⊥
-never_ends tree many t (Gives a u) h e = cc
-never_ends tree many t (Throws p u) h e = cc
-never_ends tree many t (Ejects n v u) h e = cc
 never_ends tree many t (Stops c u) h e = h (let same : c ≡ Astray = cc in same)
+never_ends tree many t other h e = cc
 
 fuel_not : Fuel ≡ Astray → ⊥
 fuel_not e = cc

@@ -40,9 +40,7 @@ module _ {N : Type 0} (S : Care N) (tree : List Node) (Bad : Vat N → Type 0) (
   unfolding and_then
   bind_goes C P Q H G s (Gives a t) f c h k = let e = h.0 in let l = h.1 in
       further H G s t (f a t) e.0 l.0.0 ((k (length t.slots) a l.0.0 l.1).after t e.1 (rise S s t e.0 C c, e.2) (omega arith, l.0.1) h.2)
-  bind_goes C P Q H G s (Throws p t) f c h k = h
-  bind_goes C P Q H G s (Ejects i v t) f c h k = h
-  bind_goes C P Q H G s (Stops r t) f c h k = h
+  bind_goes C P Q H G s other f c h k = h
 
   pub good_bind : {A B : Type 0} {C : Fact N} {n : ℕ} {m : Act N A} {f : A → Act N B} {H : B → Fact N} {G : ℕ → B → Type 0} (P : A → Fact N) (Q : ℕ → A → Type 0) → Good C n m P Q
       → ((k : ℕ) (a : A) → n ≤ k → Q k a → Good (Also C (P a)) k (f a) H G) → Good C n (m >>= f) H G
@@ -88,9 +86,7 @@ module _ {N : Type 0} (S : Care N) (tree : List Node) (Bad : Vat N → Type 0) (
 
   more_goes : {A : Type 0} (P H : A → Fact N) (Q G : ℕ → A → Type 0) (s : Vat N) (d : Done N A) → ((a : A) → Gets S (P a) (H a)) → ((k : ℕ) (a : A) → length s.slots ≤ k → Q k a → G k a) → Goes P Q s d → Goes H G s d
   more_goes P H Q G s (Gives a t) g i h = let e = h.0 in let l = h.1 in ((e.0, e.1, (g a).at t e.2), (l.0, i (length t.slots) a l.0.0 l.1), h.2)
-  more_goes P H Q G s (Throws p t) g i h = h
-  more_goes P H Q G s (Ejects j v t) g i h = h
-  more_goes P H Q G s (Stops r t) g i h = h
+  more_goes P H Q G s other g i h = h
 
   pub good_forget : {A : Type 0} {C : Fact N} {n : ℕ} {m : Act N A} {H : A → Fact N} (G : ℕ → A → Type 0) → Good C n m H G → Good C n m H Nothing
   good_forget {m = m} {H = H} G h = record { after = λ s g c l r. more_goes H H G Nothing s (m s) (λ a. record { at = λ t i. i }) (λ k a o q. tt) (h.after s g c l r) }

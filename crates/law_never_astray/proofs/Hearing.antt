@@ -48,9 +48,8 @@ module _ (news : Bool) (M : Marked) (vats : List (Vat Name)) (v : ℕ) (q : Vat 
       → ((a : A) → Heard ks (Also C (P a)) (f a)) → NotAstray (and_then d f)
   unfolding and_then
   heard_ends ks C P s (Gives a t) f c e h k = (k a).after t e.1 e.2 (rise news M vats v q there here word us d0 s t e.0 C c, e.3)
-  heard_ends ks C P s (Throws p t) f c e h k = tt
-  heard_ends ks C P s (Ejects n x t) f c e h k = tt
   heard_ends ks C P s (Stops r t) f c e h k = h
+  heard_ends ks C P s other f c e h k = tt
 
   heard_bind : {A B : Type 0} {ks ks' : List Name} {C : Fact Name} {m : Act Name A} {f : A → Act Name B} (P : A → Fact Name) → Learns news M vats v q there here word us d0 ks C m ks' P → Heard ks C m → ((a : A) → Heard ks' (Also C (P a)) (f a)) → Heard ks C (m >>= f)
   unfolding ◌>>=◌
@@ -65,10 +64,8 @@ module _ (news : Bool) (M : Marked) (vats : List (Vat Name)) (v : ℕ) (q : Vat 
 
   given_name : (ks : List Name) (s : Vat Name) (d : Done Name Name) → Learned news M vats v q there here word us d0 ks IsValue s (and_then d (λ n. give (Ref n))) → Learned news M vats v q there here word us d0 ks IsName s d
   unfolding and_then give
-  given_name ks s (Gives n t) h = h
-  given_name ks s (Throws p t) h = h
-  given_name ks s (Ejects n x t) h = h
   given_name ks s (Stops c t) h = tt
+  given_name ks s other h = h
 
   -- a name is learnt as a value is that has it alone
   learn_name : {C : Fact Name} (ks : List Name) (n : Name) → Was news M vats v q there here word us d0 (Named n) → Learns news M vats v q there here word us d0 ks C (arrive.learn_name K (read_name ks n)) (known_after ks n) IsName

@@ -37,20 +37,18 @@ Nothing many a = Unit {0}
 
 pub stands_up : {N : Type 0} (n k : ℕ) → n ≤ k → (v : Bool) (x : Words) (o : Option (Bound N)) → Stands n v x o → Stands k v x o
 stands_up n k l true x (Some (Slot i)) h = omega arith
-stands_up n k l true x (Some (Fixed v g)) h = absurd h
-stands_up n k l true x None h = absurd h
 stands_up n k l false x (Some (Slot i)) h = absurd h
 stands_up n k l false x (Some (Fixed v g)) h = tt
 stands_up n k l false x None h = h
+stands_up n k l true x other h = absurd h
 
 pub covers_up : {N : Type 0} (n k : ℕ) → n ≤ k → (ns : List (Binding N)) (s : Scopes) → Covers n ns s → Covers k ns s
 covers_up n k l ns s h x v e = stands_up n k l v x (bound_in ns x) (h x v e)
 
 thing_up : {N : Type 0} (tree : List Node) (n k : ℕ) → n ≤ k → (t : Thing N) → ThingCarries tree n t → ThingCarries tree k t
 thing_up tree n k l (Made node caught stamps) h = (h.0, h.1, covers_up n k l caught h.0 h.2, h.3, h.4)
-thing_up tree n k l (Ejector live) h = tt
 thing_up tree n k l (Audition live view) h = h
-thing_up tree n k l (Resolver p) h = tt
+thing_up tree n k l other h = tt
 
 pub things_up : {N : Type 0} (tree : List Node) (n k : ℕ) → n ≤ k → (ts : List (Thing N)) → AllOf (ThingCarries tree n) ts → AllOf (ThingCarries tree k) ts
 things_up tree n k l ts h = all_map (thing_up tree n k l) ts h
@@ -70,10 +68,9 @@ all_at P (y ∷ xs) (suc i) x h e = all_at P xs i x h.1 e
 
 dead_carries : {N : Type 0} (tree : List Node) (n : ℕ) (t : Thing N) → ThingCarries tree n t → ThingCarries tree n (dead t)
 unfolding dead
-dead_carries tree n (Made node caught stamps) h = h
 dead_carries tree n (Ejector live) h = tt
-dead_carries tree n (Audition live view) h = h
 dead_carries tree n (Resolver p) h = tt
+dead_carries tree n other h = h
 
 all_change : {A : Type 0} (P : A → Type 0) (f : A → A) → ((x : A) → P x → P (f x)) → (n : ℕ) (xs : List A) → AllOf P xs → AllOf P (change f n xs)
 unfolding change
@@ -101,9 +98,8 @@ slot_there (x ∷ xs) (suc i) e l = slot_there xs i e (omega arith)
 module _ {N : Type 0} (tree : List Node) (F : AtStops N) where
   pub ends_less : {A : Type 0} (n k : ℕ) → n ≤ k → (H : ℕ → A → Type 0) (d : Done N A) → Ends tree F k H d → Ends tree F n H d
   ends_less n k l H (Gives a t) h = let g = h.0.0 in ((omega arith, h.0.1), h.1)
-  ends_less n k l H (Throws p t) h = let g = h.0 in (omega arith, h.1)
-  ends_less n k l H (Ejects i v t) h = let g = h.0 in (omega arith, h.1)
   ends_less n k l H (Stops c t) h = h
+  ends_less n k l H other h = let g = h.0 in (omega arith, h.1)
 
   pub lead_less : {A : Type 0} {H : ℕ → A → Type 0} {m : Act N A} (n k : ℕ) → n ≤ k → Leads tree F n H m → Leads tree F k H m
   lead_less n k l h = record { after = λ s c. h.after s (let g = c.0 in (omega arith, c.1)) }
@@ -111,9 +107,7 @@ module _ {N : Type 0} (tree : List Node) (F : AtStops N) where
   ends_bind : {A B : Type 0} (n : ℕ) (G : ℕ → A → Type 0) (H : ℕ → B → Type 0) (f : A → Act N B) → ((k : ℕ) (a : A) → n ≤ k → G k a → Leads tree F k H (f a)) → (d : Done N A) → Ends tree F n G d → Ends tree F n H (and_then d f)
   unfolding and_then
   ends_bind n G H f k (Gives a t) h = ends_less n (length t.slots) h.0.0 H (f a t) ((k (length t.slots) a h.0.0 h.1).after t (omega arith, h.0.1))
-  ends_bind n G H f k (Throws p t) h = h
-  ends_bind n G H f k (Ejects i v t) h = h
-  ends_bind n G H f k (Stops c t) h = h
+  ends_bind n G H f k other h = h
 
   pub lead_bind : {A B : Type 0} {n : ℕ} {H : ℕ → B → Type 0} {m : Act N A} {f : A → Act N B} (G : ℕ → A → Type 0) → Leads tree F n G m → ((k : ℕ) (a : A) → n ≤ k → G k a → Leads tree F k H (f a)) → Leads tree F n H (m >>= f)
   unfolding ◌>>=◌
@@ -184,9 +178,7 @@ module _ {N : Type 0} (tree : List Node) (F : AtStops N) where
 
   ends_more : {A : Type 0} (n : ℕ) (G H : ℕ → A → Type 0) → ((k : ℕ) (a : A) → n ≤ k → G k a → H k a) → (d : Done N A) → Ends tree F n G d → Ends tree F n H d
   ends_more n G H f (Gives a t) e = (e.0, f (length t.slots) a e.0.0 e.1)
-  ends_more n G H f (Throws p t) e = e
-  ends_more n G H f (Ejects i v t) e = e
-  ends_more n G H f (Stops c t) e = e
+  ends_more n G H f other e = e
 
   pub lead_more : {A : Type 0} {n : ℕ} {H : ℕ → A → Type 0} {m : Act N A} (G : ℕ → A → Type 0) → ((k : ℕ) (a : A) → n ≤ k → G k a → H k a) → Leads tree F n G m → Leads tree F n H m
   lead_more {n = n} {H = H} {m = m} G f h = record { after = λ s c. ends_more (length s.slots) G H (λ k a l g. f k a (let e = c.0 in omega arith) g) (m s) (h.after s c) }

@@ -231,9 +231,6 @@ module _ {N W : Type 0} (K : Naming N W) (S : Care N) (tree : List Node) (Bad : 
   pub good_perform : {C : Fact N} → {many : ℕ} → (x1 : Caller N) → GoodCaller S tree Bad Rests x1 → (x2 : ℕ) → (x3 : Asked N) → Gets S C (IsAsked x3) → Good S tree Bad Rests C many (perform.perform K tree x1 x2 x3) IsValue Nothing
   unfolding perform.perform
   good_perform {C = C} again h1 act (MakesList vs) g1 = let d_g1 : Gets S C (AreValues vs) = record { at = λ s h. (g1.at s h) } in search (done, looks, knows, good_make_list) depth 30
-  good_perform {C = C} again h1 act (Ranges last a b) g1 = search (done, looks, knows, good_reply) depth 30
-  good_perform {C = C} again h1 act (Same a b) g1 = search (done, looks, knows, good_reply) depth 30
-  good_perform {C = C} again h1 act (Compares test a b) g1 = search (done, looks, knows, good_reply) depth 30
   good_perform {C = C} again h1 act (Loops o) g1 = let d_g1 : Gets S C (IsValue o) = record { at = λ s h. (g1.at s h) } in search (done, looks, knows, good_loop) depth 30
   good_perform {C = C} again h1 act (SendsTo only x v l) g1 = let d0_g1 : Gets S C (IsValue x) = record { at = λ s h. (g1.at s h).0 } in let d1_g1 : Gets S C (IsValue v) = record { at = λ s h. (g1.at s h).1 } in let d2_g1 : Gets S C (IsValue l) = record { at = λ s h. (g1.at s h).2 } in search (done, looks, knows, good_send_with) depth 30
   good_perform {C = C} again h1 act (CallsTo x v l) g1 = let d0_g1 : Gets S C (IsValue x) = record { at = λ s h. (g1.at s h).0 } in let d1_g1 : Gets S C (IsValue v) = record { at = λ s h. (g1.at s h).1 } in let d2_g1 : Gets S C (IsValue l) = record { at = λ s h. (g1.at s h).2 } in search (done, looks, knows, good_call_with) depth 30
@@ -241,11 +238,11 @@ module _ {N W : Type 0} (K : Naming N W) (S : Care N) (tree : List Node) (Bad : 
   good_perform {C = C} again h1 act (Breaks t) g1 = let d_g1 : Gets S C (IsValue t) = record { at = λ s h. (g1.at s h) } in search (done, looks, knows, good_reply) depth 30
   good_perform {C = C} again h1 act (Tells test x) g1 = let d_g1 : Gets S C (IsValue x) = record { at = λ s h. (g1.at s h) } in search (done, looks, knows, good_reply) depth 30
   good_perform {C = C} again h1 act (Whens x o) g1 = let d0_g1 : Gets S C (IsValue x) = record { at = λ s h. (g1.at s h).0 } in let d1_g1 : Gets S C (IsValue o) = record { at = λ s h. (g1.at s h).1 } in search (done, looks, knows, good_when_resolved) depth 30
-  good_perform {C = C} again h1 act (ThrowsIt t) g1 = search (done, looks, knows, good_reply) depth 30
   good_perform {C = C} again h1 act (IsStamped a x) g1 = search (done, looks, knows) depth 30
   good_perform {C = C} again h1 act (Coerces g x j) g1 = let d0_g1 : Gets S C (IsValue x) = record { at = λ s h. (g1.at s h).0 } in let d1_g1 : Gets S C (IsValue j) = record { at = λ s h. (g1.at s h).1 } in search (done, looks, knows, good_native_coerce) depth 30
   good_perform {C = C} again h1 act (AddsNull g) g1 = let d_g1 : Gets S C (IsValue g) = record { at = λ s h. (g1.at s h) } in search (done, looks, knows, good_reply) depth 30
   good_perform {C = C} again h1 act NoMethod g1 = search (done, looks, knows) depth 30
+  good_perform {C = C} again h1 act other g1 = search (done, looks, knows, good_reply) depth 30
 
   pub good_leave : {C : Fact N} → {many : ℕ} → {A : Type 0} → {G : A → Fact N} → {L : ℕ → A → Type 0} → (x1 : ℕ) → (x2 : Act N A) → Good S tree Bad Rests C many x2 G L → Good S tree Bad Rests C many (calls.leave K tree {A = A} x1 x2) G L
   unfolding calls.leave

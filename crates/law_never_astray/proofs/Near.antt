@@ -31,29 +31,18 @@ module _ {N W : Type 0} (K : Naming N W) where
 
   abbrev ChangeNear : Change N → Type 0
   ChangeNear (React m) = TargetNear K m
-  ChangeNear (Hold m) = Unit {0}
-  ChangeNear (Wait q) = Unit {0}
-  ChangeNear (WaitOn q) = Unit {0}
-  ChangeNear (See q) = Unit {0}
-  ChangeNear (ToTell w) = Unit {0}
-  ChangeNear (Settle y) = Unit {0}
+  ChangeNear other = Unit {0}
 
   to_near : (c : Change N) (k : Known N) → ChangeNear c → ReactsNear K k → ReactsNear K (changed_to c k)
   unfolding changed_to
-  to_near (Hold m) k g h = h
-  to_near (Wait q) k g h = h
-  to_near (WaitOn q) k g h = h
-  to_near (See q) k g h = h
   to_near (React m) k g h = all_end (TargetNear K) k.reactions m h g
-  to_near (ToTell w) k g h = h
   to_near (Settle y) k g h = tt
+  to_near other k g h = h
 
   unless_near : (t : Standing N) (k new : Known N) → ReactsNear K k → ReactsNear K new → ReactsNear K (unless_settled t k new)
   unfolding unless_settled
   unless_near (Settled y) k new h i = h
-  unless_near Unsettled k new h i = i
-  unless_near (WaitsOn q) k new h i = i
-  unless_near (Viewed q) k new h i = i
+  unless_near other k new h i = i
 
   either_near : (b : Bool) (j k : Known N) (js ks : List (Known N)) → ReactsNear K j → ReactsNear K k → AllOf (ReactsNear K) js → AllOf (ReactsNear K) ks → AllOf (ReactsNear K) (elim b [ true ↦ j ∷ ks | false ↦ k ∷ js ])
   either_near true j k js ks a b c d = (a, d)
@@ -142,9 +131,7 @@ module _ {N W : Type 0} (K : Naming N W) where
   keep_address_plain : (w : ℕ) (y : Value N) (p : Place N) → Keeps (refs.address_plain K w y p)
   unfolding refs.address_plain
   keep_address_plain w y (Away h n o) = search (keeps) depth 14
-  keep_address_plain w y (Mine n) = search (keeps) depth 14
-  keep_address_plain w y Near = search (keeps) depth 14
-  keep_address_plain w y (Gone t) = search (keeps) depth 14
+  keep_address_plain w y other = search (keeps) depth 14
 
   mutual
     unfolding refs.address refs.address_all
@@ -174,10 +161,7 @@ module _ {N W : Type 0} (K : Naming N W) where
   keep_inform_of : (p : N) (w : ℕ) (y : Value N) (q : Place N) → Keeps (refs.inform_of K p w y q)
   unfolding refs.inform_of
   keep_inform_of p w y (Away h n true) = search (keeps) depth 14
-  keep_inform_of p w y (Away h n false) = search (keeps, keep_pass) depth 14
-  keep_inform_of p w y Near = search (keeps, keep_pass) depth 14
-  keep_inform_of p w y (Mine n) = search (keeps, keep_pass) depth 14
-  keep_inform_of p w y (Gone t) = search (keeps, keep_pass) depth 14
+  keep_inform_of p w y other = search (keeps, keep_pass) depth 14
 
   pub keep_inform : (p : N) (w : ℕ) → Keeps (refs.inform K p w)
   unfolding refs.inform
@@ -222,9 +206,7 @@ module _ {N W : Type 0} (K : Naming N W) where
   keep_standing : (settle : N → Value N → Act N (Unit {0})) → KeepsSettling settle → (p : N) (y : Value N) (k : Known N) (t : Standing N) → ReactsNear K k → Keeps (refs.settle_standing K settle p y k t)
   unfolding refs.settle_standing
   keep_standing settle good p y k (Settled z) h = quiet_give (TargetsNear K) tt
-  keep_standing settle good p y k Unsettled h = keep_known settle good p y k h
-  keep_standing settle good p y k (WaitsOn q) h = keep_known settle good p y k h
-  keep_standing settle good p y k (Viewed q) h = keep_known settle good p y k h
+  keep_standing settle good p y k other h = keep_known settle good p y k h
 
   keep_entry : (settle : N → Value N → Act N (Unit {0})) → KeepsSettling settle → (p : N) (y : Value N) (o : Option (Known N)) → MayBe (ReactsNear K) o → Keeps (refs.settle_entry K settle p y o)
   unfolding refs.settle_entry
@@ -252,9 +234,7 @@ module _ {N W : Type 0} (K : Naming N W) where
   unfolding refs.resolve_to
   keep_resolve_to p y (Mine q) = search (keeps, keep_wait_unless) depth 14
   keep_resolve_to p y (Away h q false) = search (keeps, keep_wait_unless) depth 14
-  keep_resolve_to p y (Away h q true) = search (keeps, keep_settle) depth 14
-  keep_resolve_to p y Near = search (keeps, keep_settle) depth 14
-  keep_resolve_to p y (Gone t) = search (keeps, keep_settle) depth 14
+  keep_resolve_to p y other = search (keeps, keep_settle) depth 14
 
   pub keep_resolve : (p : N) (x : Value N) → Keeps (refs.resolve K p x)
   unfolding refs.resolve
@@ -291,9 +271,7 @@ module _ {N W : Type 0} (K : Naming N W) where
   unfolding refs.react_at
   keep_react_at m g (Mine n) = keep_change (React m) n g
   keep_react_at m g (Away h n false) = keep_change (React m) n g
-  keep_react_at m g (Away h n true) = keep_queue m g
-  keep_react_at m g Near = keep_queue m g
-  keep_react_at m g (Gone t) = keep_queue m g
+  keep_react_at m g other = keep_queue m g
 
   pub keep_react : (act : ℕ) (x o near : Value N) → IsNear K near → Keeps (refs.react K act x o near)
   unfolding refs.react refs.reaction

@@ -15,15 +15,8 @@ module _ {N W : Type 0} (K : Naming N W) where
 
   keep_learn_value : (x1 : Value (Incoming N W)) → Keeps K (arrive.learn_value K x1)
   unfolding arrive.learn_value
-  keep_learn_value Null = search (keeps) depth 14
-  keep_learn_value (Flag b) = search (keeps) depth 14
-  keep_learn_value (Number z) = search (keeps) depth 14
-  keep_learn_value (Letter c) = search (keeps) depth 14
-  keep_learn_value (Text t) = search (keeps) depth 14
-  keep_learn_value (Prim n) = search (keeps) depth 14
-  keep_learn_value (Broken p) = search (keeps) depth 14
-  keep_learn_value (Items k) = search (keeps) depth 14
   keep_learn_value (Ref x) = search (keeps, keep_learn_name) depth 14
+  keep_learn_value other = search (keeps) depth 14
 
   keep_ask_for : (x1 : ℕ) → (x2 : ℕ) → (x3 : ℕ) → (x4 : N) → Keeps K (arrive.ask_for K x1 x2 x3 x4)
   unfolding arrive.ask_for
@@ -138,10 +131,9 @@ module _ {N W : Type 0} (K : Naming N W) where
 
   keep_break_hosted : (x1 : ℕ) → (x2 : N) → (x3 : Words) → (x4 : Standing N) → Keeps K (arrive.break_hosted K x1 x2 x3 x4)
   unfolding arrive.break_hosted
-  keep_break_hosted w n p Unsettled = search (keeps, keep_settle) depth 14
-  keep_break_hosted w n p (WaitsOn q) = search (keeps, keep_settle) depth 14
   keep_break_hosted w n p (Viewed q) = search (keeps) depth 14
   keep_break_hosted w n p (Settled y) = search (keeps) depth 14
+  keep_break_hosted w n p other = search (keeps, keep_settle) depth 14
 
   keep_notice_name : (x1 : ℕ) → (x2 : Known N) → Keeps K (arrive.notice_name K x1 x2)
   unfolding arrive.notice_name

@@ -43,22 +43,20 @@ module _ {N W : Type 0} (K : Naming N W) (S : Care N) (tree : List Node) (Bad : 
 
   good_read : (C : Fact N) (many act : ℕ) (v : Bool) (x : Words) (o : Option (Bound N)) → Gets S C (MayBound o) → Stands many v x o → Does C many (scopes.read_bound act o x) IsValue Nothing
   unfolding scopes.read_bound scopes.read_cell for_some
-  good_read C many act true x (Some (Fixed w g)) i h = absurd h
   good_read C many act true x (Some (Slot k)) i h = good_look_slot S tree Bad Rests k _ h (λ c. go_unit S tree Bad Rests (good_told S tree Bad Rests _ (told_slot_read S act k c.value)) (good_give S tree Bad Rests c.value (record { at = λ s q. q.1.1 })))
-  good_read C many act true x None i h = absurd h
   good_read C many act false x (Some (Fixed w g)) i h = good_give S tree Bad Rests w (record { at = λ s q. (i.at s q).0 })
   good_read C many act false x (Some (Slot k)) i h = absurd h
   good_read C many act false x None i h = subst (λ p. Good S tree Bad Rests C many (for_some p give (stop Astray)) IsValue Nothing) (sym h.1) (good_give S tree Bad Rests h.0 (safe h.0 h.1))
     where
       safe : (w : Value N) → safe_value x ≡ Some w → Gets S C (IsValue w)
       safe w e = record { at = λ s q. subst (λ o. Holds (S.ok s) (MayValue o)) e ((got_safe S C x).at s q) }
+  good_read C many act true x other i h = absurd h
 
   good_write_bound : (C : Fact N) (many act : ℕ) (x : Words) (o : Option (Bound N)) (v : Value N) → Gets S C (IsValue v) → Stands many true x o → Does C many (eval.write_bound K tree rec act o v) IsValue Nothing
   unfolding eval.write_bound eval.write_cell
   good_write_bound C many act x (Some (Slot k)) v g h = good_look_slot S tree Bad Rests k _ h (λ c. on_value S tree Bad Rests (good_coerce K S tree Bad Rests works (calls.call K tree rec) again act c.guard (record { at = λ s q. q.1.0 }) Null (got_null S _) v (lift S g))
       (λ w. go_unit S tree Bad Rests (good_write S tree Bad Rests k w (top S)) (go_unit S tree Bad Rests (good_told S tree Bad Rests _ (told_slot_wrote S act k w)) (good_give S tree Bad Rests w (top S)))))
-  good_write_bound C many act x (Some (Fixed w y)) v g h = absurd h
-  good_write_bound C many act x None v g h = absurd h
+  good_write_bound C many act x other v g h = absurd h
 
   good_exit : (C : Fact N) (many : ℕ) (s t : Scopes) (j : Option ℕ) (here : Scope N) → Gets S C (AreNouns here.nouns) → IsOpen s → WhereSome (Formed tree Expression) j → MayScoped tree s j t → Covers many here.nouns s → Does C many (eval.exit_of K tree rec j here) answer (stand.answer t)
   unfolding eval.exit_of

@@ -127,8 +127,7 @@ module _ (P : Kind → ℕ → Type 0) where
   final_parts Pattern x g h = h
   final_parts Naming x None h = tt
   final_parts Naming x (Some g) h = absurd h
-  final_parts Expression x g h = absurd h
-  final_parts Member x g h = absurd h
+  final_parts other x g h = absurd h
 
   var_parts : (kind : Kind) (x : List ℕ) (g : Option ℕ) → FormedBy P kind (Var x g) → WhereSome (P Expression) g
   var_parts Pattern x g h = h
@@ -138,8 +137,7 @@ module _ (P : Kind → ℕ → Type 0) where
   any_parts Pattern g h = h
   any_parts Naming None h = tt
   any_parts Naming (Some g) h = absurd h
-  any_parts Expression g h = absurd h
-  any_parts Member g h = absurd h
+  any_parts other g h = absurd h
 
   list_parts : (kind : Kind) (patterns : List ℕ) → FormedBy P kind (ListPattern patterns) → AllOf (P Pattern) patterns
   list_parts Pattern patterns h = h

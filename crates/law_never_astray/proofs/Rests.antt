@@ -18,9 +18,7 @@ module _ {N : Type 0} (Rests : List (Message N) → List (Known N) → Type 0) w
   bind_quiet : {A B : Type 0} (d : Done N A) (f : A → Act N B) → RestsAfter d → ((a : A) → Quiet (f a)) → RestsAfter (and_then d f)
   unfolding and_then
   bind_quiet (Gives a t) f h k = (k a).after t h
-  bind_quiet (Throws p t) f h k = h
-  bind_quiet (Ejects i v t) f h k = h
-  bind_quiet (Stops c t) f h k = h
+  bind_quiet other f h k = h
 
   pub quiet_bind : {A B : Type 0} {m : Act N A} {f : A → Act N B} → Quiet m → ((a : A) → Quiet (f a)) → Quiet (m >>= f)
   unfolding ◌>>=◌

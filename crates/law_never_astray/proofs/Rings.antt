@@ -30,10 +30,8 @@ module _ {N W : Type 0} (K : Naming N W) (R : Vat N → Vat N → Type 0) (base 
   call_keeps d act x verb args = walk.walk_call (KeepsBy R) K tree (keeps_closed R base) (keeps_ends R base) (keeps_in_eval R base) (keeps_in_eval_under K R base law tree) (evaluator K tree d) (good_evaluator K R base law tree d) act x verb args
 
 stopped : {N A : Type 0} (R : Vat N → Vat N → Type 0) (s t : Vat N) (c : Stop) (d : Done N A) → After R s d → d ≡ Stops c t → R s t
-stopped R s t c (Gives a u) h e = cc
-stopped R s t c (Throws p u) h e = cc
-stopped R s t c (Ejects i v u) h e = cc
 stopped R s t c (Stops r u) h e = let same : u ≡ t = cc in subst (R s) same h
+stopped R s t c other h e = cc
 
 module _ (word : ℕ → ℕ) (v : ℕ) where
   abbrev K : Naming Name Name
@@ -77,14 +75,8 @@ module _ (word : ℕ → ℕ) (v : ℕ) where
           go (WaitsOn m) q next i = absurd (no_ref n k i)
           go (Viewed g) q next i = absurd (open_leads d g k (λ y. view_open n g y q) i)
           go (Settled y) q next i = rw (settled n y q) (next y i)
-      leads_on (suc d) Null k e = cc
-      leads_on (suc d) (Flag b) k e = cc
-      leads_on (suc d) (Number z) k e = cc
-      leads_on (suc d) (Letter c) k e = cc
-      leads_on (suc d) (Text t) k e = cc
-      leads_on (suc d) (Prim p) k e = cc
-      leads_on (suc d) (Broken p) k e = cc
       leads_on (suc d) (Items j) k e = e
+      leads_on (suc d) other k e = cc
 
   severed_by : (b : Bool) (t : Words) (n : Name) (k : ℕ) → ◌≡◌ {A = Value Name} (elim b [ true ↦ Broken t | false ↦ Ref n ]) (Items k) → ⊥
   severed_by true t n k e = cc
@@ -99,26 +91,12 @@ module _ (word : ℕ → ℕ) (v : ℕ) where
   severed_list : (s : Vat Name) (y : Value Name) (k : ℕ) → refs.severed K s y ≡ Items k → y ≡ Items k
   unfolding refs.severed
   severed_list s (Ref n) k e = absurd (severed_at s n (K.spot n) k e)
-  severed_list s Null k e = e
-  severed_list s (Flag b) k e = e
-  severed_list s (Number z) k e = e
-  severed_list s (Letter c) k e = e
-  severed_list s (Text t) k e = e
-  severed_list s (Prim p) k e = e
-  severed_list s (Broken p) k e = e
-  severed_list s (Items j) k e = e
+  severed_list s other k e = e
 
   items_severed : (s : Vat Name) (y : Value Name) (k : ℕ) → y ≡ Items k → refs.severed K s y ≡ Items k
   unfolding refs.severed
   items_severed s (Items j) k e = e
-  items_severed s (Ref n) k e = cc
-  items_severed s Null k e = cc
-  items_severed s (Flag b) k e = cc
-  items_severed s (Number z) k e = cc
-  items_severed s (Letter c) k e = cc
-  items_severed s (Text t) k e = cc
-  items_severed s (Prim p) k e = cc
-  items_severed s (Broken p) k e = cc
+  items_severed s other k e = cc
 
   -- ---- lists
 
@@ -146,26 +124,12 @@ module _ (word : ℕ → ℕ) (v : ℕ) where
 
     leads_still : (x : Value Name) (k : ℕ) → Leads K s x (Items k) → Leads K t x (Items k)
     leads_still (Items j) k h = (h.0, subst (IsAmong h.0) (sym (same_members h.0 j h.1)) h.1, follows_on h.0 k h.2)
-    leads_still Null k h = absurd h
-    leads_still (Flag b) k h = absurd h
-    leads_still (Number z) k h = absurd h
-    leads_still (Letter c) k h = absurd h
-    leads_still (Text p) k h = absurd h
-    leads_still (Prim n) k h = absurd h
-    leads_still (Broken p) k h = absurd h
-    leads_still (Ref n) k h = absurd h
+    leads_still other k h = absurd h
 
     -- what leads on is a list
     list_leads : (d : ℕ) (z y : Value Name) → LeadsIn K (suc d) s z y → (k : ℕ) × (z ≡ Items k)
     list_leads d (Items k) y h = (k, refl)
-    list_leads d Null y h = absurd h.1
-    list_leads d (Flag b) y h = absurd h.1
-    list_leads d (Number z) y h = absurd h.1
-    list_leads d (Letter c) y h = absurd h.1
-    list_leads d (Text p) y h = absurd h.1
-    list_leads d (Prim n) y h = absurd h.1
-    list_leads d (Broken p) y h = absurd h.1
-    list_leads d (Ref n) y h = absurd h.1
+    list_leads d other y h = absurd h.1
 
     is_list : (d : ℕ) (z : Value Name) (k : ℕ) → LeadsIn K d s z (Items k) → (j : ℕ) × (z ≡ Items j)
     is_list zero z k h = (k, h)
@@ -187,22 +151,8 @@ module _ (word : ℕ → ℕ) (v : ℕ) where
   ends_so : (s : Vat Name) (d : ℕ) (x : Value Name) → LeadingEndsIn K d s x → EndsIn K d s x
   ends_so s zero (Items k) h = h
   ends_so s (suc d) (Items k) h = all_of (λ y. ends_so s d (follow K s y)) (list_at s.lists k) h
-  ends_so s zero Null h = tt
-  ends_so s zero (Flag b) h = tt
-  ends_so s zero (Number z) h = tt
-  ends_so s zero (Letter c) h = tt
-  ends_so s zero (Text p) h = tt
-  ends_so s zero (Prim n) h = tt
-  ends_so s zero (Broken p) h = tt
-  ends_so s zero (Ref n) h = tt
-  ends_so s (suc d) Null h = tt
-  ends_so s (suc d) (Flag b) h = tt
-  ends_so s (suc d) (Number z) h = tt
-  ends_so s (suc d) (Letter c) h = tt
-  ends_so s (suc d) (Text p) h = tt
-  ends_so s (suc d) (Prim n) h = tt
-  ends_so s (suc d) (Broken p) h = tt
-  ends_so s (suc d) (Ref n) h = tt
+  ends_so s zero other h = tt
+  ends_so s (suc d) other h = tt
 
   lists_end : (s : Vat Name) → NoListLeadsBack K s → ListsEnd K s
   lists_end s none x = ends_so s (length s.lists) x (ringless_lists_end word v s none x)

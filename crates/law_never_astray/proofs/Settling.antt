@@ -27,18 +27,13 @@ module _ {N W : Type 0} (K : Naming N W) (mail : N → Bool) where
     unfolding changed_to
     to_waits (Hold m) k g h = (h.0, all_end (IsAsked K mail P) k.held m h.1 g)
     to_waits (Wait q) k g h = (all_end P k.waiting q h.0 g, h.1)
-    to_waits (WaitOn q) k g h = h
-    to_waits (See q) k g h = h
-    to_waits (React m) k g h = h
-    to_waits (ToTell w) k g h = h
     to_waits (Settle y) k g h = (tt, tt)
+    to_waits other k g h = h
 
     unless_waits : (t : Standing N) (k new : Known N) → Waits k → Waits new → Waits (unless_settled t k new)
     unfolding unless_settled
     unless_waits (Settled y) k new h i = h
-    unless_waits Unsettled k new h i = i
-    unless_waits (WaitsOn q) k new h i = i
-    unless_waits (Viewed q) k new h i = i
+    unless_waits other k new h i = i
 
     waits_change : (c : Change N) (n : N) (ks : List (Known N)) → ChangeWaits K mail P c → AllOf Waits ks → AllOf Waits (with_change K c n ks)
     unfolding with_change changed
@@ -116,9 +111,7 @@ module _ {N W : Type 0} (K : Naming N W) (mail : N → Bool) where
         → EndsSure s (refs.settle_standing K (λ q z. refs.settle_at K c q z) p y k t s)
     unfolding refs.settle_standing open_one
     standing_ends c good p y k (Settled z) i s w l e f = ends_same s tt w
-    standing_ends c good p y k Unsettled i s w l e f = wakes c good p y k s w l e f (rw i refl)
-    standing_ends c good p y k (WaitsOn q) i s w l e f = wakes c good p y k s w l e f (rw i refl)
-    standing_ends c good p y k (Viewed q) i s w l e f = wakes c good p y k s w l e f (rw i refl)
+    standing_ends c good p y k other i s w l e f = wakes c good p y k s w l e f (rw i refl)
 
     entry_ends : (c : ℕ) → ((d : ℕ) → c ≡ suc d → SureSettler d (λ q z. refs.settle_at K c q z)) → (p : N) → P p → (y : Value N) (s : Vat N) → Within s.known → open_of b s.known ≤ c → (o : Option (Known N)) → entry_of K s.known p ≡ o
         → EndsSure s (refs.settle_entry K (λ q z. refs.settle_at K c q z) p y o s)
@@ -152,10 +145,8 @@ module _ {N W : Type 0} (K : Naming N W) (mail : N → Bool) where
   all_within ks h = record { long = omega arith; waits = h; known = entry_known ks }
 
   sure_ends : {A : Type 0} (P : N → Type 0) (b : ℕ) (s : Vat N) (d : Done N A) → EndsSure P b s d → NotAstray d
-  sure_ends P b s (Gives a t) h = tt
-  sure_ends P b s (Throws p t) h = tt
-  sure_ends P b s (Ejects n v t) h = tt
   sure_ends P b s (Stops c t) h = h
+  sure_ends P b s other h = tt
 
   unknown_ends : (settle : N → Value N → Act N (Unit {0})) (p : N) (y : Value N) (s : Vat N) (o : Option (Known N)) → o ≡ None → NotAstray (refs.settle_entry K settle p y o s)
   unfolding refs.settle_entry give

@@ -42,15 +42,11 @@ pub record Facts (script : Script) (w : World) : Type 0 where
 -- where it gives, what is to be taken is near
 given_near : (K : Naming Name Name) (d : Done Name (Unit {0})) (t : Vat Name) → RestsAfter (TargetsNear K) d → d ≡ Gives tt t → TargetsNear K t.queue t.known
 given_near K (Gives a u) t h e = let same : u ≡ t = cc in subst (λ (z : Vat Name). TargetsNear K z.queue z.known) same h
-given_near K (Throws p u) t h e = cc
-given_near K (Ejects i x u) t h e = cc
-given_near K (Stops c u) t h e = cc
+given_near K other t h e = cc
 
 off_near : (word : ℕ → ℕ) (v : ℕ) (Bad : Vat Name → Type 0) (d : Done Name (Unit {0})) (t : Vat Name) → OffIn Bad (AtPeace word v) d → d ≡ Gives tt t → TargetsNear (naming word v) t.queue t.known
 off_near word v Bad (Gives a u) t h e = let same : u ≡ t = cc in subst (λ (z : Vat Name). TargetsNear (naming word v) z.queue z.known) same h.1
-off_near word v Bad (Throws p u) t h e = cc
-off_near word v Bad (Ejects i x u) t h e = cc
-off_near word v Bad (Stops c u) t h e = cc
+off_near word v Bad other t h e = cc
 
 put_near : (P : ℕ → Vat Name → Type 0) (v : ℕ) (t : Vat Name) (xs : List (Vat Name)) → P v t → ((u : ℕ) (s : Vat Name) → slice_get xs u ≡ Some s → P u s) → (u : ℕ) (s : Vat Name) → slice_get (put_at v t xs) u ≡ Some s → P u s
 unfolding put_at
@@ -62,10 +58,8 @@ put_near P (suc v) t (x ∷ xs) h all (suc u) s e = put_near (λ n. P (suc n)) v
 
 -- a state that is a bad one where it stopped astray is none, where no list leads back to itself there
 off_clear : (K : Naming Name Name) (Rests : List (Message Name) → List (Known Name) → Type 0) (d : Done Name (Unit {0})) → OffIn (λ t. NoListLeadsBack K t → ⊥) Rests d → ((c : Stop) (t : Vat Name) → d ≡ Stops c t → NoListLeadsBack K t) → NotAstray d
-off_clear K Rests (Gives a t) h f = tt
-off_clear K Rests (Throws p t) h f = tt
-off_clear K Rests (Ejects i x t) h f = tt
 off_clear K Rests (Stops c t) h f = λ e. h e (f c t refl)
+off_clear K Rests other h f = tt
 
 module _ (script : Script) where
   given_there : (v : ℕ) (c : ℕ) (us : List ℕ) → AllOf (NounOk (There (names script v) c)) (world.given script.vats us)
@@ -196,10 +190,9 @@ module _ (script : Script) (accepted : IsAccepted script) where
     moved_lasts y (Tells v u s t r ds n hostile there performs lawful puts e) = absurd hostile
 
     honest : (e : Entry) → IsHonest script Nobody AnyNotice (λ w v s d. ⊥) (λ w v u s n. ⊥) w e
-    honest (Turn v) = λ b. b
-    honest (Carry a v) = λ b. b
     honest (CutLink a b) = tt
     honest (NoticeLink v to) = (λ b. b, tt)
+    honest other = λ b. b
 
     pub entry_lasts : (e : Entry) (k : ℕ) (y : World) → world.step script e k w ≡ Goes y → Lasts y
     entry_lasts e k y i = moved_lasts y (moves_told script Nobody AnyNotice (λ w v s d. ⊥) (λ w v u s n. ⊥) w y (Stepped e k (honest e) i))

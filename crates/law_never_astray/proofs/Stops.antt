@@ -25,10 +25,8 @@ module _ (script : Script) where
   Ended D w v t = Sound (N script v) t × Ringless (N script v) v D (Seen (word script) w.vats v) t.noticed t × TellsSo (N script v) D t
 
   none_after : (D : ℕ → Type 0) (w : World) (v : ℕ) (s t : Vat Name) (c : Stop) (d : Done Name (Unit {0})) → After (λ r u. Ended D w v u) s d → d ≡ Stops c t → NoListLeadsBack (N script v) t
-  none_after D w v s t c (Gives a u) h e = cc
-  none_after D w v s t c (Throws p u) h e = cc
-  none_after D w v s t c (Ejects i x u) h e = cc
   none_after D w v s t c (Stops r u) h e = let same : u ≡ t = cc in subst (NoListLeadsBack (N script v)) same h.1.none
+  none_after D w v s t c other h e = cc
 
   sound_at : (v : ℕ) (w : World) (s : Vat Name) → WorldSound script w → slice_get w.vats v ≡ Some s → Sound (N script v) s
   unfolding names

@@ -14,11 +14,7 @@ module _ {N W : Type 0} (K : Naming N W) (mail : N → Bool) where
   abbrev pub ChangeWaits : (N → Type 0) → Change N → Type 0
   ChangeWaits P (Hold m) = IsAsked K mail P m
   ChangeWaits P (Wait q) = P q
-  ChangeWaits P (WaitOn q) = Unit {0}
-  ChangeWaits P (See q) = Unit {0}
-  ChangeWaits P (React m) = Unit {0}
-  ChangeWaits P (ToTell w) = Unit {0}
-  ChangeWaits P (Settle y) = Unit {0}
+  ChangeWaits P other = Unit {0}
 
   -- where I is kept of what is known, among which there are b names
   module _ (P : N → Type 0) (b : ℕ) (I : List (Known N) → Type 0) (long : (ks : List (Known N)) → I ks → b ≤ length ks)
@@ -40,18 +36,14 @@ module _ {N W : Type 0} (K : Naming N W) (mail : N → Bool) where
       pub after : (s : Vat N) → I s.known → open_of b s.known ≤ c → EndsSure s (m s)
 
     pub widen : {A : Type 0} (s t : Vat N) (d : Done N A) → open_of b t.known ≤ open_of b s.known → EndsSure t d → EndsSure s d
-    widen s t (Gives a u) l h = (h.0, let m = h.1 in omega arith)
-    widen s t (Throws p u) l h = (h.0, let m = h.1 in omega arith)
-    widen s t (Ejects n v u) l h = (h.0, let m = h.1 in omega arith)
     widen s t (Stops c u) l h = h
+    widen s t other l h = (h.0, let m = h.1 in omega arith)
 
     module _ (c : ℕ) where
       bind_ends : {A B : Type 0} (s : Vat N) (d : Done N A) (f : A → Act N B) → open_of b s.known ≤ c → EndsSure s d → ((a : A) → Sure c (f a)) → EndsSure s (and_then d f)
       unfolding and_then
       bind_ends s (Gives a t) f l h k = widen s t (f a t) h.1 ((k a).after t h.0 (let m = h.1 in omega arith))
-      bind_ends s (Throws p t) f l h k = h
-      bind_ends s (Ejects n v t) f l h k = h
-      bind_ends s (Stops r t) f l h k = h
+      bind_ends s other f l h k = h
 
       pub sure_bind : {A B : Type 0} {m : Act N A} {f : A → Act N B} → Sure c m → ((a : A) → Sure c (f a)) → Sure c (m >>= f)
       unfolding ◌>>=◌
@@ -143,9 +135,7 @@ module _ {N W : Type 0} (K : Naming N W) (mail : N → Bool) where
       sure_address_plain : (w : ℕ) (y : Value N) (p : Place N) → Sure c (refs.address_plain K w y p)
       unfolding refs.address_plain
       sure_address_plain w y (Away h n o) = search (sure) depth 14
-      sure_address_plain w y (Mine n) = search (sure) depth 14
-      sure_address_plain w y Near = search (sure) depth 14
-      sure_address_plain w y (Gone t) = search (sure) depth 14
+      sure_address_plain w y other = search (sure) depth 14
 
       mutual
         unfolding refs.address refs.address_all
@@ -175,10 +165,7 @@ module _ {N W : Type 0} (K : Naming N W) (mail : N → Bool) where
       sure_inform_of : (p : N) (w : ℕ) (y : Value N) (q : Place N) → Sure c (refs.inform_of K p w y q)
       unfolding refs.inform_of
       sure_inform_of p w y (Away h n true) = search (sure) depth 14
-      sure_inform_of p w y (Away h n false) = search (sure, sure_pass) depth 14
-      sure_inform_of p w y Near = search (sure, sure_pass) depth 14
-      sure_inform_of p w y (Mine n) = search (sure, sure_pass) depth 14
-      sure_inform_of p w y (Gone t) = search (sure, sure_pass) depth 14
+      sure_inform_of p w y other = search (sure, sure_pass) depth 14
 
       pub sure_inform : (p : N) (w : ℕ) → Sure c (refs.inform K p w)
       unfolding refs.inform

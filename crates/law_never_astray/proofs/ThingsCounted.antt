@@ -122,10 +122,9 @@ module _ {N W : Type 0} (K : Naming N W) (counted : Counted K (There K)) where
   answer_there s (Stops c t) h = tt
 
   value_there : (s : Vat N) (d : Done N (Value N)) → Ends S IsValue s d → ValueThere K d
-  value_there s (Gives x t) h = let g = h.1 in (g.parts, h.2)
   value_there s (Throws p t) h = let g = h.1 in g.parts
-  value_there s (Ejects n v t) h = let g = h.1 in (g.parts, h.2)
   value_there s (Stops c t) h = tt
+  value_there s other h = let g = h.1 in (g.parts, h.2)
 
   keeps_things : EvaluationKeepsThings K
   keeps_things tree depth s h =
@@ -142,12 +141,9 @@ own_is i j e = cc
 there_up : {N W : Type 0} (K : Naming N W) (m n : ℕ) → m ≤ n → (b : Bit N) → There K m b → There K n b
 there_up K m n l (Named a) h = λ i e. let k : i < m = h i e in omega arith
 there_up K m n l (Mail a) h = h
-there_up K m n l (Drew i) h = tt
-there_up K m n l (At w) h = tt
-there_up K m n l (Off w) h = tt
 there_up K m n l (Entered a) h = λ i e. let k : i < m = h i e in omega arith
 there_up K m n l (Owns a j) h = λ i e. let k : i < m = h i e in omega arith
-there_up K m n l (Gave i) h = tt
+there_up K m n l other h = tt
 
 own_spot : (v i : ℕ) → spot_of v (Object v i) ≡ Own i
 unfolding spot_of
@@ -184,16 +180,11 @@ unfolding same_local
 local_is (Obj i) (Obj j) e = ap Obj (eqb-true i j e)
 local_is (Prom i) (Prom j) e = ap Prom (eqb-true i j e)
 local_is (Far h p) (Far g q) e = let both = both_true (h == g) (p == q) e in ap (λ x. Far x p) (eqb-true h g both.0) ∙ ap (Far g) (eqb-true p q both.1)
-local_is (Obj i) (Prom j) e = absurd (false_true e)
-local_is (Obj i) (Far h p) e = absurd (false_true e)
-local_is (Obj i) (Mess j) e = absurd (false_true e)
-local_is (Prom i) (Obj j) e = absurd (false_true e)
-local_is (Prom i) (Far h p) e = absurd (false_true e)
-local_is (Prom i) (Mess j) e = absurd (false_true e)
-local_is (Far h p) (Obj j) e = absurd (false_true e)
-local_is (Far h p) (Prom j) e = absurd (false_true e)
-local_is (Far h p) (Mess j) e = absurd (false_true e)
 local_is (Mess i) b e = absurd (false_true e)
+local_is other (Mess j) e = absurd (false_true e)
+local_is other (Prom j) e = absurd (false_true e)
+local_is other (Far h p) e = absurd (false_true e)
+local_is other (Obj j) e = absurd (false_true e)
 
 numbered_counted : (word : ℕ → ℕ) → Counted (numbering {W = Name} word) (There (numbering {W = Name} word))
 unfolding numbering local_spot

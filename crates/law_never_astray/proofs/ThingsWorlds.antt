@@ -17,7 +17,7 @@ use Rattle.law_name.proofs.Facts.{MayBe, all_map, all_so, message_up, note_up, F
 use Rattle.law_name.proofs.Care.{Care, Sound, Ends, Fine, parts_up}
 use Rattle.law_name.proofs.CareEval.{fine_opening, fine_taking}
 use Rattle.law_name.proofs.CareArrive.{fine_notice}
-use Rattle.law_name.proofs.Serves.{served_by}
+use Rattle.law_name.proofs.Serves.{served_by, closing_by}
 use Rattle.law_name.proofs.SameNames.{false_true, reference_is}
 use Rattle.law_name.proofs.Among.{get_put}
 use Rattle.law_name.proofs.Run.{with_link_holds, push_all_holds, link_holds, links_from_hold, fresh_at}
@@ -30,21 +30,14 @@ use Rattle.law_never_astray.proofs.ThingsHeard.{arrives}
 
 below_up : (c d : ℕ → ℕ) → ((u : ℕ) → c u ≤ d u) → (n : Name) → IsBelow c n → IsBelow d n
 below_up c d f (Object w i) h = let l : c w ≤ d w = f w in let k : i < c w = h in omega arith
-below_up c d f (Root w) h = tt
-below_up c d f (Promise w i) h = tt
-below_up c d f (Answer w m) h = tt
-below_up c d f (Gift w i) h = tt
-below_up c d f (Sent m) h = tt
+below_up c d f other h = tt
 
 are_up : (c d : ℕ → ℕ) → ((u : ℕ) → c u ≤ d u) → (b : Bit Name) → AreBelow c b → AreBelow d b
 are_up c d f (Named n) h = below_up c d f n h
 are_up c d f (Mail n) h = h
-are_up c d f (Drew i) h = tt
-are_up c d f (At w) h = tt
-are_up c d f (Off w) h = tt
 are_up c d f (Entered n) h = below_up c d f n h
 are_up c d f (Owns n i) h = below_up c d f n h
-are_up c d f (Gave i) h = tt
+are_up c d f other h = tt
 
 -- so many of that vat, and of each other as many as there are
 abbrev count_by : Bool → ℕ → ℕ → ℕ
@@ -102,11 +95,7 @@ module _ (vats : List (Vat Name)) (v : ℕ) (s : Vat Name) (there : slice_get va
 answer_below : (c : ℕ → ℕ) (h : ℕ) (m : Name) → IsMessageName m → IsBelow c (answer_of h m)
 unfolding answer_of
 answer_below c h (Sent m) g = tt
-answer_below c h (Root w) g = absurd g
-answer_below c h (Object w i) g = absurd g
-answer_below c h (Promise w i) g = absurd g
-answer_below c h (Answer w m) g = absurd g
-answer_below c h (Gift w i) g = absurd g
+answer_below c h other g = absurd g
 
 run_counted : (word : ℕ → ℕ) (v : ℕ) (vats : List (Vat Name)) → Counted (naming word v) (λ n. AreBelow (counts v vats n))
 unfolding naming name_of mail_of
@@ -171,9 +160,7 @@ module _ (script : Script) where
     gives_on : (t : Vat Name) (head : List Event) (d : Done Name (Unit {0})) → Ends S nothing (world.readied w q) d → d ≡ Gives tt t → ObjectsThere (went v w head t)
     unfolding world.readied
     gives_on t head (Gives a r) (l, g, k) e = let one : r ≡ t = cc in rw one at (went_on r head l g)
-    gives_on t head (Throws p r) i e = cc
-    gives_on t head (Ejects n x r) i e = cc
-    gives_on t head (Stops c r) i e = cc
+    gives_on t head other i e = cc
 
     does_on : (t : Vat Name) (head : List Event) (C : Fact Name) (m : Act Name (Unit {0})) → Parts (AreBelow (things_of w.vats)) q.things q.slots q.lists q.queue q.known q.gifts [] → Fine S C m nothing → Holds (P (length q.things)) C → m (world.readied w q) ≡ Gives tt t → ObjectsThere (went v w head t)
     unfolding world.readied
@@ -194,7 +181,8 @@ module _ (script : Script) where
     unfolding does names
     opens_on tree depth us e = let C = run_counted word v w.vats in let care = things (naming word v) (λ n. AreBelow (counts v w.vats n)) C in
         does_on w h v s s there refl t head (Also (IsName (Root v)) (AreNouns (world.given script.vats us))) _ (ready_parts (things_of w.vats) s (h.vats v s there))
-        (fine_opening (naming word v) care (served_by (naming word v) care (things_under (naming word v) (λ n. AreBelow (counts v w.vats n)) C) (things_makes (naming word v) (λ n. AreBelow (counts v w.vats n)) C)) tree depth (Root v) (record { at = λ x c. c.0 }) (world.given script.vats us) (record { at = λ x c. c.1 }))
+        (fine_opening (naming word v) care (served_by (naming word v) care (things_under (naming word v) (λ n. AreBelow (counts v w.vats n)) C) (things_makes (naming word v) (λ n. AreBelow (counts v w.vats n)) C)) tree depth (Root v) (record { at = λ x c. c.0 })
+        (closing_by (naming word v) care (things_under (naming word v) (λ n. AreBelow (counts v w.vats n)) C) (Root v)) (world.given script.vats us) (record { at = λ x c. c.1 }))
         (tt, given_below (counts v w.vats (length s.things)) us) e
 
     takes_on : (tree : List _) (depth : ℕ) (m : Message Name) (ms : List (Message Name)) → s.queue ≡ m ∷ ms → does (names script v) (Takes tree depth m) (world.readied w (record s { queue = ms })) ≡ Gives tt t → ObjectsThere (went v w head t)
@@ -293,30 +281,19 @@ module _ (word : ℕ → ℕ) (vats : List (Vat Name)) (v : ℕ) (s : Vat Name) 
   is_there : (n : Name) → IsBelow (things_of vats) n → IsThere (naming word v) (length s.things) n
   unfolding naming spot_of
   is_there (Object w i) h j e = own_below w i j h (v == w) refl e
-  is_there (Root w) h j e = cc
-  is_there (Promise w i) h j e = cc
-  is_there (Answer w m) h j e = cc
-  is_there (Gift w i) h j e = cc
-  is_there (Sent m) h j e = cc
+  is_there other h j e = cc
 
   answers_apart : (m : Name) → IsMessageName m → AnswersApart (naming word v) m
   unfolding naming spot_of name_of answer_of
   answers_apart (Sent m) g h k i e = cc
-  answers_apart (Root w) g h k i e = absurd g
-  answers_apart (Object w j) g h k i e = absurd g
-  answers_apart (Promise w j) g h k i e = absurd g
-  answers_apart (Answer w m) g h k i e = absurd g
-  answers_apart (Gift w j) g h k i e = absurd g
+  answers_apart other g h k i e = absurd g
 
   own_there : (b : Bit Name) → AreBelow (things_of vats) b → There (naming word v) (length s.things) b
   own_there (Named n) h = is_there n h
   own_there (Mail n) h = answers_apart n h
-  own_there (Drew i) h = tt
-  own_there (At w) h = tt
-  own_there (Off w) h = tt
   own_there (Entered n) h = is_there n h
   own_there (Owns n i) h = is_there n h
-  own_there (Gave i) h = tt
+  own_there other h = tt
 
 things_in : (script : Script) (w : World) → ObjectsThere w → (v : ℕ) (s : Vat Name) → slice_get w.vats v ≡ Some s → ThingsAreThere (names script v) s
 unfolding names

@@ -32,17 +32,15 @@ use Rattle.law_never_astray.proofs.Depths.{good_evaluator, good_call}
 -- where it gives, what is kept is kept; and where it stops astray, it is in a bad state
 abbrev pub OffIn : {N A : Type 0} → (Vat N → Type 0) → (List (Message N) → List (Known N) → Type 0) → Done N A → Type 0
 OffIn Bad Rests (Gives a t) = Rests t.queue t.known
-OffIn Bad Rests (Throws p t) = Unit {0}
-OffIn Bad Rests (Ejects i v t) = Unit {0}
 OffIn Bad Rests (Stops c t) = c ≡ Astray → Bad t
+OffIn Bad Rests other = Unit {0}
 
 module _ {N W : Type 0} (K : Naming N W) (S : Care N) (law : Under K S) (tree : List Node) (Bad : Vat N → Type 0) (Rests : List (Message N) → List (Known N) → Type 0) (works : Works K S tree Bad Rests) (names : NamesThere K S) (suffice : LevelsSuffice K tree)
     (before : (d act : ℕ) (x : Value N) (verb : Words) (args : List (Value N)) (s t : Vat N) (c : Stop) → Rests s.queue s.known → calls.call K tree (eval.evaluator K tree d) act x verb args s ≡ Stops c t → (ListsEnd K s → Bad t) → Bad t) where
   goes_off : {A : Type 0} (H : A → Fact N) (G : ℕ → A → Type 0) (s : Vat N) (d : Done N A) → Goes S tree Bad Rests H G s d → OffIn Bad Rests d
   goes_off H G s (Gives a t) h = h.2
-  goes_off H G s (Throws p t) h = tt
-  goes_off H G s (Ejects i v t) h = tt
   goes_off H G s (Stops c t) h = h.1
+  goes_off H G s other h = tt
 
   -- ---- how a turn ends
 

@@ -8,7 +8,7 @@ use Rattle.def_kernel.specs.declared.node.Node.{Node}
 use Rattle.law_name.proofs.Facts.{Fact, IsMail, IsVat, IsPlace, IsValue, new_names, nothing}
 use Rattle.law_name.proofs.Care.{Care, Under, Makes, Sound, Gets, Fine, got, got_left, fine_tell, fine_new_message, fine_lone_message}
 use Rattle.law_name.proofs.Looks.{look_follow, look_place, look_number, got_answer_host}
-use Rattle.law_name.proofs.Serves.{Serves, served_by}
+use Rattle.law_name.proofs.Serves.{Serves, Closing, served_by, closing_by}
 use Rattle.law_never_astray.proofs.Leads as covered
 use Rattle.law_never_astray.proofs.Leads.{Leads, Refers, Nothing}
 use Rattle.law_never_astray.proofs.Settled.{refers}
@@ -52,10 +52,8 @@ module _ {N W : Type 0} (K : Naming N W) where
   firm_react_at : (m : Message N) (p : Place N) → Firm (refs.react_at K m p)
   unfolding refs.react_at
   firm_react_at m (Mine n) = firm_alter K _ n
-  firm_react_at m (Away h n true) = firm_enqueue m
   firm_react_at m (Away h n false) = firm_alter K _ n
-  firm_react_at m Near = firm_enqueue m
-  firm_react_at m (Gone t) = firm_enqueue m
+  firm_react_at m other = firm_enqueue m
 
   firm_react : (act : ℕ) (x o near : Value N) → Firm (refs.react K act x o near)
   unfolding refs.react
@@ -69,10 +67,8 @@ module _ {N W : Type 0} (K : Naming N W) (S : Care N) (law : Under K S) (makes :
 
   done_ends : {A B : Type 0} (b : B) (d : Done N A) → NotAstray d → NotAstray (and_then d (λ _. give {N = N} b))
   unfolding and_then give
-  done_ends b (Gives a t) h = tt
-  done_ends b (Throws p t) h = tt
-  done_ends b (Ejects i v t) h = tt
   done_ends b (Stops c t) h = h
+  done_ends b other h = tt
 
   clear_done : {A B : Type 0} {C : Fact N} (b : B) {m : Act N A} → Clear C m → Clear C (m >> give b)
   unfolding ◌>>◌
@@ -104,10 +100,8 @@ module _ {N W : Type 0} (K : Naming N W) (S : Care N) (law : Under K S) (makes :
 
   module _ (tree : List Node) (Bad : Vat N → Type 0) (Rests : List (Message N) → List (Known N) → Type 0) where
     not_off : {A : Type 0} (n : ℕ) (d : Done N A) → covered.Ends tree Whatever n Nothing d → NotAstray d → covered.Ends tree (Off S tree Bad Rests) n Nothing d
-    not_off n (Gives a t) h k = h
-    not_off n (Throws p t) h k = h
-    not_off n (Ejects i v t) h k = h
     not_off n (Stops c t) h k = λ e. absurd (k e)
+    not_off n other h k = h
 
     good_block : {A : Type 0} {C : Fact N} {n : ℕ} {m : Act N A} {H : A → Fact N} → Fine S C m H → Leads tree Whatever n Nothing m → Clear C m → Quiet Rests m → Good S tree Bad Rests C n m H Nothing
     good_block {m = m} f l c q = record { after = λ s h i k r. (f.after s h i, not_off (length s.slots) (m s) (l.after s k) (c.after s h i), q.after s r) }
@@ -118,12 +112,15 @@ module _ {N W : Type 0} (K : Naming N W) (S : Care N) (law : Under K S) (makes :
     abbrev serving : Serves K S
     serving = served_by K S law makes
 
+    abbrev closing : (p : N) → Closing K S p
+    closing p = closing_by K S law p
+
     pub works_by : Rested K Rests → Works K S tree Bad Rests
     works_by rested = record {
       serves = serving;
       promises = λ C n. good_block (serving.promises C) (leading.promises n) (clear.clear_firm K S law mail awaits (firm_promise K)) rested.promises;
-      breaks = λ C n p g t. good_block (serving.breaks C p g t) (leading.breaks n p t) (clear.clear_settle K S law mail awaits p (Broken t)) (rested.breaks p t);
-      resolves = λ C n p g y h. good_block (serving.resolves C p g y h) (leading.resolves n p y) (clear.clear_resolve K S law mail awaits p y) (rested.resolves p y);
+      breaks = λ C n p g t. let ends = closing p in good_block (ends.breaks C g t) (leading.breaks n p t) (clear.clear_settle K S law mail awaits p (Broken t)) (rested.breaks p t);
+      resolves = λ C n p g y h. let ends = closing p in good_block (ends.closes C g y h) (leading.resolves n p y) (clear.clear_resolve K S law mail awaits p y) (rested.resolves p y);
       sends = λ C n act x g verb args h. good_block (serving.sends C act x g verb args h) (leading.sends n act x verb args) (clear_send act x g verb args) (rested.sends act x verb args);
       sends_only = λ C n act x g verb args h. good_block (serving.sends_only C act x g verb args h) (leading.sends_only n act x verb args) (clear_send_only act x g verb args) (rested.sends_only act x verb args);
       reacts = λ C n act x g o h near k i. good_block (serving.reacts C act x g o h near k) (leading.reacts n act x o near) (clear.clear_firm K S law mail awaits (firm_react K act x o near)) (rested.reacts act x o near i);

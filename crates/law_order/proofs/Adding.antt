@@ -40,21 +40,13 @@ module _ (K : Naming Name Name) (s t : Vat Name) (g : RefersAlike K s t) where
   unfolding refs.led
   led_alike f h e n (Settled y) = e y
   led_alike f h e n (Viewed q) = e (Ref q)
-  led_alike f h e n (WaitsOn q) = refl
-  led_alike f h e n Unsettled = refl
+  led_alike f h e n other = refl
 
   pub follows_alike : (d : ℕ) (x : Value Name) → refs.follow_at K d t.known x ≡ refs.follow_at K d s.known x
   unfolding refs.follow_at
   follows_alike zero x = refl
   follows_alike (suc d) (Ref n) = led_alike (λ y. refs.follow_at K d t.known y) (λ y. refs.follow_at K d s.known y) (λ y. follows_alike d y) n (refs.standing_of K t.known n) ∙ ap (λ q. refs.led K (λ y. refs.follow_at K d s.known y) n q) (standings n)
-  follows_alike (suc d) Null = refl
-  follows_alike (suc d) (Flag b) = refl
-  follows_alike (suc d) (Number z) = refl
-  follows_alike (suc d) (Letter c) = refl
-  follows_alike (suc d) (Text p) = refl
-  follows_alike (suc d) (Prim k) = refl
-  follows_alike (suc d) (Broken p) = refl
-  follows_alike (suc d) (Items k) = refl
+  follows_alike (suc d) other = refl
 
   severs : (h : ℕ) (n : Name) → refs.severed_by K h t n ≡ refs.severed_by K h s n
   unfolding refs.severed_by
@@ -69,14 +61,7 @@ module _ (K : Naming Name Name) (s t : Vat Name) (g : RefersAlike K s t) where
   severed_alike : (y : Value Name) → refs.severed K t y ≡ refs.severed K s y
   unfolding refs.severed
   severed_alike (Ref n) = severed_spot n (K.spot n)
-  severed_alike Null = refl
-  severed_alike (Flag b) = refl
-  severed_alike (Number z) = refl
-  severed_alike (Letter c) = refl
-  severed_alike (Text p) = refl
-  severed_alike (Prim k) = refl
-  severed_alike (Broken p) = refl
-  severed_alike (Items k) = refl
+  severed_alike other = refl
 
   pub follow_alike : (x : Value Name) → refs.follow K t x ≡ refs.follow K s x
   unfolding refs.follow
@@ -84,21 +69,13 @@ module _ (K : Naming Name Name) (s t : Vat Name) (g : RefersAlike K s t) where
 
   spot_alike : (n : Name) (p : Spot) → refs.spotted K t n p ≡ refs.spotted K s n p
   unfolding refs.spotted
-  spot_alike n (Own i) = refl
-  spot_alike n (Foreign h) = refl
   spot_alike n NoObject = ap (λ v. refs.hosted K v n (refs.host_at K t.number t.known n)) g.number ∙ ap (λ h. refs.hosted K s.number n h) (hosts n)
+  spot_alike n other = refl
 
   place_alike : (y : Value Name) → refs.place K t y ≡ refs.place K s y
   unfolding refs.place
   place_alike (Ref n) = spot_alike n (K.spot n)
-  place_alike Null = refl
-  place_alike (Flag b) = refl
-  place_alike (Number z) = refl
-  place_alike (Letter c) = refl
-  place_alike (Text p) = refl
-  place_alike (Prim k) = refl
-  place_alike (Broken p) = refl
-  place_alike (Items k) = refl
+  place_alike other = refl
 
 -- ---- where a reference leads
 

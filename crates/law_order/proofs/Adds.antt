@@ -43,14 +43,7 @@ module _ (K : Naming Name Name) (s t : Vat Name) (g : RefersAlike K s t) where
 
   fixed_alike : (y : Value Name) → IsFixed K s y → IsFixed K t y
   fixed_alike (Ref m) i = fixed_ref m i
-  fixed_alike Null i = tt
-  fixed_alike (Flag b) i = tt
-  fixed_alike (Number z) i = tt
-  fixed_alike (Letter c) i = tt
-  fixed_alike (Text p) i = tt
-  fixed_alike (Prim k) i = tt
-  fixed_alike (Broken p) i = tt
-  fixed_alike (Items k) i = tt
+  fixed_alike other i = tt
 
   followed_alike : (x : Value Name) → refs.follow_at K (suc (length t.known)) t.known x ≡ refs.follow_at K (suc (length s.known)) s.known x
   followed_alike x = follows_alike K s t g (suc (length t.known)) x ∙ ap (λ d. refs.follow_at K (suc d) s.known x) g.names_known
@@ -68,13 +61,10 @@ module _ (K : Naming Name Name) (s t : Vat Name) (g : RefersAlike K s t) where
 -- ---- what changes no name's standing
 
 abbrev pub IsSimple : Change Name → Type 0
-IsSimple (Hold m) = Unit {0}
-IsSimple (Wait q) = Unit {0}
 IsSimple (WaitOn q) = ⊥
 IsSimple (See q) = ⊥
-IsSimple (React m) = Unit {0}
-IsSimple (ToTell h) = Unit {0}
 IsSimple (Settle y) = ⊥
+IsSimple other = Unit {0}
 
 held_more : (n : Name) (ms : List (Message Name)) (m : Message Name) → Within (held_on n ms) (held_on n (ms ++ m ∷ []))
 unfolding held_on
@@ -89,17 +79,13 @@ changed_alike n c k i = go k.standing (state.changed_to c k) (to c i)
     to : (c : Change Name) → IsSimple c → StandsAlike n (Some k) (Some (state.changed_to c k))
     to (Hold m) i = (refl, refl, held_more n k.held m)
     to (Wait q) i = (refl, refl, λ j h. h)
-    to (WaitOn q) i = absurd i
-    to (See q) i = absurd i
     to (React m) i = (refl, refl, λ j h. h)
     to (ToTell h) i = (refl, refl, λ j h. h)
-    to (Settle y) i = absurd i
+    to other i = absurd i
 
     go : (q : Standing Name) (j : Known Name) → StandsAlike n (Some k) (Some j) → StandsAlike n (Some k) (Some (state.unless_settled q k j))
-    go Unsettled j a = a
-    go (WaitsOn q) j a = a
-    go (Viewed q) j a = a
     go (Settled y) j a = (refl, refl, λ i h. h)
+    go other j a = a
 
 -- what is known of a name holds what it held, and maybe more behind it
 abbrev HoldsMore : Name → Option (Known Name) → Option (Known Name) → Type 0
@@ -114,18 +100,14 @@ changed_holds n c k i = go k.standing (state.changed_to c k) (to c i)
   where
     to : (c : Change Name) → IsSimple c → HoldsMore n (Some k) (Some (state.changed_to c k))
     to (Hold m) i = (item m.id n ∷ [], held_end n k.held m)
-    to (Wait q) i = ([], sym (append-nil (held_on n k.held)))
     to (WaitOn q) i = absurd i
     to (See q) i = absurd i
-    to (React m) i = ([], sym (append-nil (held_on n k.held)))
-    to (ToTell h) i = ([], sym (append-nil (held_on n k.held)))
     to (Settle y) i = absurd i
+    to other i = ([], sym (append-nil (held_on n k.held)))
 
     go : (q : Standing Name) (j : Known Name) → HoldsMore n (Some k) (Some j) → HoldsMore n (Some k) (Some (state.unless_settled q k j))
-    go Unsettled j a = a
-    go (WaitsOn q) j a = a
-    go (Viewed q) j a = a
     go (Settled y) j a = ([], sym (append-nil (held_on n k.held)))
+    go other j a = a
 
 module _ (K : Naming Name Name) (c : Change Name) (n : Name) (simple : IsSimple c) where
   head_alike : (m : Name) (b : Bool) (k : Known Name) (o p : Option (Known Name)) → StandsAlike m o p → StandsAlike m (elim b [ true ↦ Some k | false ↦ o ]) (elim b [ true ↦ Some (state.changed c k) | false ↦ p ])
@@ -214,12 +196,9 @@ adds_note K s p i = record {
 -- ---- readiness
 
 nothing_drawn : (d : List ℕ) (n : Note Name) → LetsNothingGo n → LetsDrawn d n
-nothing_drawn d (Deliver m n verb ys) h = tt
 nothing_drawn d (Open i n) h = absurd h
-nothing_drawn d (Ask p i n) h = tt
-nothing_drawn d (SettledTo n y) h = tt
-nothing_drawn d (Elsewhere n c) h = tt
 nothing_drawn d (Shorten n c i) h = absurd h
+nothing_drawn d other h = tt
 
 pushed_drawn : (d : List ℕ) (v : ℕ) (ps : List (Put Name)) (ls : List Link) → NothingGoes ps → AllDrawn d ls → AllDrawn d (world.push_all v ps ls)
 unfolding world.push_all

@@ -83,11 +83,7 @@ module _ (script : Script) (honest : ℕ → Bool) (vs : List (Vat Name)) (Links
   unsettled_same : (u : ℕ) (p : Name) (gs : List (GiftEntry Name)) → unsettled script honest Vats' Links' u p gs ≡ unsettled script honest Vats Links u p gs
   unfolding unsettled
   unsettled_same u (Gift h i) gs = ap (λ c. elim ((h == u) && not (opened_there (Gift h i) gs)) [ true ↦ c | false ↦ Free ]) (gift_more script honest h i Links Links' grow)
-  unsettled_same u (Root h) gs = refl
-  unsettled_same u (Object h i) gs = refl
-  unsettled_same u (Promise h i) gs = refl
-  unsettled_same u (Answer h m) gs = refl
-  unsettled_same u (Sent m) gs = refl
+  unsettled_same u other gs = refl
 
   released_same : (u : ℕ) (p : Name) (gs : List (GiftEntry Name)) (q : Standing Name) → released script honest Vats' Links' u p gs q ≡ released script honest Vats Links u p gs q
   unfolding released

@@ -72,21 +72,13 @@ module _ (script : Script) (honest : ℕ → Bool) (v : ℕ) (s : Vat Name) wher
   followed_of : (n : Name) (o : Option (Known Name)) → IsObject n ⊎ ((k : Known Name) × (o ≡ Some k)) → of_name script honest v s n o ≡ by_follow script honest v s (Ref n)
   unfolding of_name
   followed_of (Object h i) o e = refl
-  followed_of (Root h) (Some k) e = refl
-  followed_of (Promise h i) (Some k) e = refl
-  followed_of (Answer h m) (Some k) e = refl
-  followed_of (Gift h i) (Some k) e = refl
-  followed_of (Sent m) (Some k) e = refl
   followed_of (Root h) None (inl e) = absurd e
   followed_of (Promise h i) None (inl e) = absurd e
   followed_of (Answer h m) None (inl e) = absurd e
   followed_of (Gift h i) None (inl e) = absurd e
   followed_of (Sent m) None (inl e) = absurd e
-  followed_of (Root h) None (inr e) = none_some e.0 e.1
-  followed_of (Promise h i) None (inr e) = none_some e.0 e.1
-  followed_of (Answer h m) None (inr e) = none_some e.0 e.1
-  followed_of (Gift h i) None (inr e) = none_some e.0 e.1
-  followed_of (Sent m) None (inr e) = none_some e.0 e.1
+  followed_of other (Some k) e = refl
+  followed_of other None (inr e) = none_some e.0 e.1
 
   pub learnt_leads : (n : Name) → IsLearnt v script s n → leads_in script honest v s (Ref n) ≡ (let y = refs.follow (names script v) s (Ref n) in aimed v y (refs.place (names script v) s y))
   unfolding leads_in by_follow
@@ -173,13 +165,8 @@ module _ (script : Script) (honest : ℕ → Bool) (w : World) (a b : ℕ) (r s 
 
     all_fit : (l : Lane) → FitsLane (Beheads (Way a b) (item m.message n)) Any (λ c. stays) script honest (world.put_at b s w.vats) All Links (message_all m n verb ys a b Links) l
     all_fit (Queue u) = tt
-    all_fit (Way x y) = tt
     all_fit (Held u (Gift h i)) = tt
-    all_fit (Held u (Root h)) = tt
-    all_fit (Held u (Object h i)) = tt
-    all_fit (Held u (Promise h i)) = tt
-    all_fit (Held u (Answer h q)) = tt
-    all_fit (Held u (Sent q)) = tt
+    all_fit other = tt
 
     lanes : (l : Lane) (o : Name) → Beheads (Way a b) (item m.message n) (onward_at script honest (world.put_at b s w.vats) All l o) (onward_at script honest (world.put_at b t w.vats) Links' l o)
     lanes l o = subst (λ c. Beheads (Way a b) (item m.message n) (onward_at script honest (world.put_at b s w.vats) All l o) c) (sym (onward_then l o)) (onward_leaves (Beheads (Way a b) (item m.message n)) Any (λ c. stays) script honest (world.put_at b s w.vats) All Links (message_all m n verb ys a b Links) l (all_fit l) o)
@@ -226,10 +213,8 @@ unfolding state.changed state.unless_settled state.changed_to
 holds_alike n m k = go k.standing
   where
     go : (q : Standing Name) → StandsAlike n (Some k) (Some (state.unless_settled q k (record k { held = k.held ++ m ∷ [] })))
-    go Unsettled = (refl, refl, held_more n k.held m)
-    go (WaitsOn z) = (refl, refl, held_more n k.held m)
-    go (Viewed z) = (refl, refl, held_more n k.held m)
     go (Settled y) = (refl, refl, λ i h. h)
+    go other = (refl, refl, held_more n k.held m)
 
 alike_self : (n : Name) (o : Option (Known Name)) → StandsAlike n o o
 alike_self n None = tt
@@ -276,14 +261,7 @@ both_behind j js ks f i (inr h) = inr (f i h)
 
 queued_within : (y : Value Name) (m : Name) (js ks : List Item) → Within js ks → Within (elim y [ Ref n ↦ item m n ∷ js | _ ↦ js ]) (elim y [ Ref n ↦ item m n ∷ ks | _ ↦ ks ])
 queued_within (Ref n) m js ks f = λ i h. both_behind (item m n) js ks f i h
-queued_within Null m js ks f = f
-queued_within (Flag b) m js ks f = f
-queued_within (Number z) m js ks f = f
-queued_within (Letter c) m js ks f = f
-queued_within (Text p) m js ks f = f
-queued_within (Prim k) m js ks f = f
-queued_within (Broken p) m js ks f = f
-queued_within (Items k) m js ks f = f
+queued_within other m js ks f = f
 
 queued_more : (q : List (Message Name)) (m : Message Name) → Within (queued q) (queued (q ++ m ∷ []))
 unfolding queued
@@ -368,8 +346,7 @@ module _ (script : Script) (honest : ℕ → Bool) (w : World) (a b : ℕ) (r s 
     unfolding refs.send_to state.enqueue state.alter aimed
     sent_here y Near f h e = near_sent y e
     sent_here y (Mine q) f h e = let k = f q refl in mine_sent y q k.0 k.1 k.2 e
-    sent_here y (Away g o c) f h e = absurd h
-    sent_here y (Gone p) f h e = absurd h
+    sent_here y other f h e = absurd h
 
 pub carried_messages_go_on : CarriedMessagesGoOn
 carried_messages_go_on = λ script honest w a b r s settle m asks answer n verb ys at way known waiting here.
@@ -382,14 +359,7 @@ broken_aimed v y p problem e = ap (λ q. aimed v y q) e ∙ gone_aimed y
   where
     gone_aimed : (y : Value Name) → aimed v y (Gone problem) ≡ Nowhere
     gone_aimed (Ref n) = refl
-    gone_aimed Null = refl
-    gone_aimed (Flag c) = refl
-    gone_aimed (Number z) = refl
-    gone_aimed (Letter c) = refl
-    gone_aimed (Text q) = refl
-    gone_aimed (Prim k) = refl
-    gone_aimed (Broken q) = refl
-    gone_aimed (Items k) = refl
+    gone_aimed other = refl
 
 abbrev mail_named : Name → Message Name
 mail_named m = record { id = m; target = Null; verb = []; args = []; answer = None }
@@ -405,14 +375,7 @@ away_aimed v y p h q o e = ap (λ z. aimed v y z) e ∙ away_end y
   where
     away_end : (y : Value Name) → aimed v y (Away h q o) ≡ End (Way v h) q
     away_end (Ref n) = refl
-    away_end Null = refl
-    away_end (Flag c) = refl
-    away_end (Number z) = refl
-    away_end (Letter c) = refl
-    away_end (Text p) = refl
-    away_end (Prim k) = refl
-    away_end (Broken p) = refl
-    away_end (Items k) = refl
+    away_end other = refl
 
 -- a message that is put on an open link stands there
 module _ (script : Script) (honest : ℕ → Bool) (w : World) (b h : ℕ) (way : IsOpenWay honest b h w) (m : Delivery Name) (q : Name) (verb : Words) (zs : Passeds Name) (vs : List (Vat Name)) (ps : List (Put Name)) where

@@ -19,12 +19,9 @@ abbrev Holds : List ℕ → List ℕ → Type 0
 Holds ds es = (x : ℕ) → is_in x ds ≡ true → is_in x es ≡ true
 
 more_note : (ds es : List ℕ) (n : Note Name) → Holds ds es → LetsDrawn ds n → LetsDrawn es n
-more_note ds es (Deliver m n verb ys) i h = tt
 more_note ds es (Open j n) i h = i (word_of j) h
-more_note ds es (Ask p j n) i h = tt
-more_note ds es (SettledTo n y) i h = tt
-more_note ds es (Elsewhere n c) i h = tt
 more_note ds es (Shorten n c j) i h = i (word_of j) h
+more_note ds es other i h = tt
 
 more_notes : (ds es : List ℕ) (ns : List (Note Name)) → Holds ds es → NotesDrawn ds ns → NotesDrawn es ns
 more_notes ds es [] i h = tt
@@ -94,12 +91,9 @@ with_drawn d n v h (l ∷ ls) i j = go (with_drawn d n v h ls i j.2) (world.is_l
 
 -- it lets no gift go under that key
 abbrev pub Lacks : ℕ → Note Name → Type 0
-Lacks d (Deliver m n verb ys) = Unit {0}
 Lacks d (Open i n) = i ≡ d → ⊥
-Lacks d (Ask p i n) = Unit {0}
-Lacks d (SettledTo n y) = Unit {0}
-Lacks d (Elsewhere n c) = Unit {0}
 Lacks d (Shorten n c i) = i ≡ d → ⊥
+Lacks d other = Unit {0}
 
 abbrev pub NotesLack : ℕ → List (Note Name) → Type 0
 NotesLack d [] = Unit {0}
@@ -119,12 +113,9 @@ module _ (ds : List ℕ) (d : ℕ) (new : is_in (word_of d) ds ≡ false) where
       go false e f = cc
 
   note_lacks : (n : Note Name) → LetsDrawn ds n → Lacks d n
-  note_lacks (Deliver m n verb ys) h = tt
   note_lacks (Open i n) h = another i h
-  note_lacks (Ask p i n) h = tt
-  note_lacks (SettledTo n y) h = tt
-  note_lacks (Elsewhere n c) h = tt
   note_lacks (Shorten n c i) h = another i h
+  note_lacks other h = tt
 
   notes_lack : (ns : List (Note Name)) → NotesDrawn ds ns → NotesLack d ns
   notes_lack [] h = tt
@@ -140,12 +131,9 @@ and_false false b e = refl
 
 pub lacks_spares : (d : ℕ) (n : Note Name) → Lacks d n → Spares d n
 unfolding opens shortens
-lacks_spares d (Deliver m n verb ys) h = (refl, λ g. refl)
 lacks_spares d (Open i n) h = (ne_eqb i d h, λ g. refl)
-lacks_spares d (Ask p i n) h = (refl, λ g. refl)
-lacks_spares d (SettledTo n y) h = (refl, λ g. refl)
-lacks_spares d (Elsewhere n c) h = (refl, λ g. refl)
 lacks_spares d (Shorten n c i) h = (refl, λ g. and_false (c == g) (i == d) (ne_eqb i d h))
+lacks_spares d other h = (refl, λ g. refl)
 
 pub no_place : (d : ℕ) (f : Note Name → Bool) (l : Lane) (b : List Item) (ns : List (Note Name)) → ((n : Note Name) → Spares d n → f n ≡ false) → NotesLack d ns → note_place f l b ns ≡ None
 unfolding note_place

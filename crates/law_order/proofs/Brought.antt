@@ -122,11 +122,7 @@ module _ (script : Script) (honest : ℕ → Bool) (v h : ℕ) (s : Vat Name) (n
   spot_plain : (m : Name) → (IsObject m → ⊥) → (names script h).spot m ≡ NoObject
   unfolding names naming spot_of
   spot_plain (Object g i) e = absurd (e tt)
-  spot_plain (Root g) e = refl
-  spot_plain (Promise g i) e = refl
-  spot_plain (Answer g a) e = refl
-  spot_plain (Gift g i) e = refl
-  spot_plain (Sent a) e = refl
+  spot_plain other e = refl
 
   hosted_there : refs.host_at (names script h) s.number s.known n ≡ v
   unfolding refs.host_at refs.host_in

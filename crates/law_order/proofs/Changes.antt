@@ -118,9 +118,7 @@ growing_keeps = λ w u g c. (
 -- the message stands at the end of that lane
 abbrev StandsAt : Ways → Name → Place → Type 0
 StandsAt w x (End l m) = IsIn (record { mail = x; aim = m }) (w.stands l)
-StandsAt w x Nowhere = ⊥
-StandsAt w x Free = ⊥
-StandsAt w x (Mid l b m) = ⊥
+StandsAt w x other = ⊥
 
 put_ahead : (w : Ways) (x : Name) (c d : Place) → StandsAt w x c → Follows w c d → Ahead w x d
 put_ahead w x c d s (doomed h) = doomed_there h
@@ -131,9 +129,7 @@ put_ahead w x c d s (beside h) = in_end s (beside h)
 module _ (P : Place → Type 0) (w : Ways) where
   abbrev NextHas : Place → Type 0
   NextHas (End l n) = P (w.onward l n)
-  NextHas Nowhere = Unit {0}
-  NextHas Free = Unit {0}
-  NextHas (Mid l b n) = Unit {0}
+  NextHas other = Unit {0}
 
   doomed_next : ((c : Place) → Doom w c → P c) → (d : Place) → Doom w d → NextHas d
   doomed_next f d nowhere = tt
@@ -143,15 +139,11 @@ module _ (P : Place → Type 0) (w : Ways) where
 -- from that place the way leads to the place e
 abbrev LeadsTo : Ways → Place → Place → Type 0
 LeadsTo w e (End l m) = (w.onward l m ≡ e) × GoesOneWay w l
-LeadsTo w e Nowhere = ⊥
-LeadsTo w e Free = ⊥
-LeadsTo w e (Mid l b m) = ⊥
+LeadsTo w e other = ⊥
 
 abbrev IsNotFree : Place → Type 0
 IsNotFree Free = ⊥
-IsNotFree Nowhere = Unit {0}
-IsNotFree (End l n) = Unit {0}
-IsNotFree (Mid l b n) = Unit {0}
+IsNotFree other = Unit {0}
 
 not_free : (c d : Place) → c ≡ d → IsNotFree c → d ≡ Free → ⊥
 not_free c d e i f = subst IsNotFree (e ∙ f) i

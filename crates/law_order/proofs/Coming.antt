@@ -65,21 +65,13 @@ module _ (K : Naming Name Name) where
   unfolding refs.led
   led_alike f h e n (Settled y) = e y
   led_alike f h e n (Viewed q) = e (Ref q)
-  led_alike f h e n (WaitsOn q) = refl
-  led_alike f h e n Unsettled = refl
+  led_alike f h e n other = refl
 
   follows_by : (ks ls : List (Known Name)) → ((m : Name) → refs.standing_of K ls m ≡ refs.standing_of K ks m) → (d : ℕ) (x : Value Name) → refs.follow_at K d ls x ≡ refs.follow_at K d ks x
   unfolding refs.follow_at
   follows_by ks ls f zero x = refl
   follows_by ks ls f (suc d) (Ref n) = led_alike (λ y. refs.follow_at K d ls y) (λ y. refs.follow_at K d ks y) (λ y. follows_by ks ls f d y) n (refs.standing_of K ls n) ∙ ap (λ q. refs.led K (λ y. refs.follow_at K d ks y) n q) (f n)
-  follows_by ks ls f (suc d) Null = refl
-  follows_by ks ls f (suc d) (Flag b) = refl
-  follows_by ks ls f (suc d) (Number z) = refl
-  follows_by ks ls f (suc d) (Letter c) = refl
-  follows_by ks ls f (suc d) (Text p) = refl
-  follows_by ks ls f (suc d) (Prim k) = refl
-  follows_by ks ls f (suc d) (Broken p) = refl
-  follows_by ks ls f (suc d) (Items k) = refl
+  follows_by ks ls f (suc d) other = refl
 
   -- it leads nowhere further
   abbrev Ended : List (Known Name) → Value Name → Type 0
@@ -87,10 +79,9 @@ module _ (K : Naming Name Name) where
 
   pub waits_here : (f : Value Name → Value Name) (n : Name) (q : Standing Name) → IsWaiting q → refs.led K f n q ≡ Ref n
   unfolding refs.led
-  waits_here f n Unsettled h = refl
-  waits_here f n (WaitsOn q) h = refl
   waits_here f n (Viewed q) h = absurd h
   waits_here f n (Settled y) h = absurd h
+  waits_here f n other h = refl
 
   -- from where it leads nowhere further it is not followed on
   further : (ks : List (Known Name)) (d : ℕ) (x : Value Name) → Ended ks (refs.follow_at K d ks x) → refs.follow_at K (suc d) ks x ≡ refs.follow_at K d ks x
@@ -103,33 +94,12 @@ module _ (K : Naming Name Name) where
       go f (Viewed q) i = f (Ref q) i
       go f (WaitsOn q) i = refl
       go f Unsettled i = refl
-  further ks zero Null h = refl
-  further ks zero (Flag b) h = refl
-  further ks zero (Number z) h = refl
-  further ks zero (Letter c) h = refl
-  further ks zero (Text p) h = refl
-  further ks zero (Prim k) h = refl
-  further ks zero (Broken p) h = refl
-  further ks zero (Items k) h = refl
-  further ks (suc d) Null h = refl
-  further ks (suc d) (Flag b) h = refl
-  further ks (suc d) (Number z) h = refl
-  further ks (suc d) (Letter c) h = refl
-  further ks (suc d) (Text p) h = refl
-  further ks (suc d) (Prim k) h = refl
-  further ks (suc d) (Broken p) h = refl
-  further ks (suc d) (Items k) h = refl
+  further ks zero other h = refl
+  further ks (suc d) other h = refl
 
 abbrev IsData : Value Name → Type 0
 IsData (Ref n) = ⊥
-IsData Null = Unit {0}
-IsData (Flag b) = Unit {0}
-IsData (Number z) = Unit {0}
-IsData (Letter c) = Unit {0}
-IsData (Text p) = Unit {0}
-IsData (Prim k) = Unit {0}
-IsData (Broken p) = Unit {0}
-IsData (Items k) = Unit {0}
+IsData other = Unit {0}
 
 abbrev IsTrue' : Bool → Type 0
 IsTrue' true = Unit {0}
@@ -187,9 +157,8 @@ module _ (script : Script) (honest : ℕ → Bool) (v : ℕ) (s : Vat Name) (n :
 
   severed_spot : (m : Name) (p : Spot) → refs.host_at K s.number T.known m ≡ refs.host_at K s.number s.known m → refs.severed_at K T m p ≡ refs.severed_at K s m p
   unfolding refs.severed_at refs.severed_by
-  severed_spot m (Own i) e = refl
-  severed_spot m (Foreign h) e = refl
   severed_spot m NoObject e = ap (λ h. elim (is_in h s.noticed) [ true ↦ Broken (codes "partition") | false ↦ Ref m ]) e
+  severed_spot m other e = refl
 
   severed_object : (m : Name) → IsObject m → refs.severed_at K T m (K.spot m) ≡ refs.severed_at K s m (K.spot m)
   unfolding names naming spot_of refs.severed_at refs.severed_by
@@ -198,24 +167,13 @@ module _ (script : Script) (honest : ℕ → Bool) (v : ℕ) (s : Vat Name) (n :
       go : (c : Bool) → refs.severed_at K T (Object h i) (elim c [ true ↦ Own i | false ↦ Foreign h ]) ≡ refs.severed_at K s (Object h i) (elim c [ true ↦ Own i | false ↦ Foreign h ])
       go true = refl
       go false = refl
-  severed_object (Root h) o = absurd o
-  severed_object (Promise h i) o = absurd o
-  severed_object (Answer h m) o = absurd o
-  severed_object (Gift h i) o = absurd o
-  severed_object (Sent m) o = absurd o
+  severed_object other o = absurd o
 
   severed_fixed : (y : Value Name) → IsFixed K s y → refs.severed K T y ≡ refs.severed K s y
   unfolding refs.severed
   severed_fixed (Ref m) (inl i) = severed_object m i
   severed_fixed (Ref m) (inr h) = severed_spot m (K.spot m) (host_known m h.0 h.1)
-  severed_fixed Null i = refl
-  severed_fixed (Flag b) i = refl
-  severed_fixed (Number z) i = refl
-  severed_fixed (Letter c) i = refl
-  severed_fixed (Text p) i = refl
-  severed_fixed (Prim k) i = refl
-  severed_fixed (Broken p) i = refl
-  severed_fixed (Items k) i = refl
+  severed_fixed other i = refl
 
   fixed_by : (m : Name) (c : Bool) → IsFixed K s (Ref m) → IsFixed K s (elim c [ true ↦ Broken (codes "partition") | false ↦ Ref m ])
   fixed_by m true i = tt
@@ -230,14 +188,7 @@ module _ (script : Script) (honest : ℕ → Bool) (v : ℕ) (s : Vat Name) (n :
   fixed_after : (y : Value Name) → IsFixed K s y → IsFixed K s (refs.severed K s y)
   unfolding refs.severed
   fixed_after (Ref m) i = fixed_spot m (K.spot m) i
-  fixed_after Null i = tt
-  fixed_after (Flag b) i = tt
-  fixed_after (Number z) i = tt
-  fixed_after (Letter c) i = tt
-  fixed_after (Text p) i = tt
-  fixed_after (Prim k) i = tt
-  fixed_after (Broken p) i = tt
-  fixed_after (Items k) i = tt
+  fixed_after other i = tt
 
   spotted_object : (m : Name) → IsObject m → refs.spotted K T m (K.spot m) ≡ refs.spotted K s m (K.spot m)
   unfolding names naming spot_of refs.spotted
@@ -246,30 +197,18 @@ module _ (script : Script) (honest : ℕ → Bool) (v : ℕ) (s : Vat Name) (n :
       go : (c : Bool) → refs.spotted K T (Object h i) (elim c [ true ↦ Own i | false ↦ Foreign h ]) ≡ refs.spotted K s (Object h i) (elim c [ true ↦ Own i | false ↦ Foreign h ])
       go true = refl
       go false = refl
-  spotted_object (Root h) o = absurd o
-  spotted_object (Promise h i) o = absurd o
-  spotted_object (Answer h m) o = absurd o
-  spotted_object (Gift h i) o = absurd o
-  spotted_object (Sent m) o = absurd o
+  spotted_object other o = absurd o
 
   spotted_known : (m : Name) (p : Spot) → refs.host_at K s.number T.known m ≡ refs.host_at K s.number s.known m → refs.spotted K T m p ≡ refs.spotted K s m p
   unfolding refs.spotted
-  spotted_known m (Own i) e = refl
-  spotted_known m (Foreign h) e = refl
   spotted_known m NoObject e = ap (λ h. refs.hosted K s.number m h) e
+  spotted_known m other e = refl
 
   place_fixed : (y : Value Name) → IsFixed K s y → refs.place K T y ≡ refs.place K s y
   unfolding refs.place
   place_fixed (Ref m) (inl i) = spotted_object m i
   place_fixed (Ref m) (inr h) = spotted_known m (K.spot m) (host_known m h.0 h.1)
-  place_fixed Null i = refl
-  place_fixed (Flag b) i = refl
-  place_fixed (Number z) i = refl
-  place_fixed (Letter c) i = refl
-  place_fixed (Text p) i = refl
-  place_fixed (Prim k) i = refl
-  place_fixed (Broken p) i = refl
-  place_fixed (Items k) i = refl
+  place_fixed other i = refl
 
   follow_fixed : (m : Name) → IsFixed K s (refs.follow_at K (suc (length s.known)) s.known (Ref m)) → refs.follow K T (Ref m) ≡ refs.follow K s (Ref m)
   unfolding refs.follow
@@ -289,58 +228,31 @@ module _ (script : Script) (honest : ℕ → Bool) (v : ℕ) (s : Vat Name) (n :
   by_follow_data : (x : Value Name) → ((m : Name) → x ≡ Ref m → ⊥) → by_follow script honest v T x ≡ by_follow script honest v s x
   unfolding by_follow refs.follow refs.follow_at refs.severed refs.place aimed
   by_follow_data (Ref m) h = absurd (h m refl)
-  by_follow_data Null h = refl
-  by_follow_data (Flag b) h = refl
-  by_follow_data (Number z) h = refl
-  by_follow_data (Letter c) h = refl
-  by_follow_data (Text p) h = refl
-  by_follow_data (Prim k) h = refl
-  by_follow_data (Broken p) h = refl
-  by_follow_data (Items k) h = refl
+  by_follow_data other h = refl
 
   of_some : (r : Vat Name) (m : Name) (k : Known Name) → of_name script honest v r m (Some k) ≡ by_follow script honest v r (Ref m)
   unfolding of_name
   of_some r (Root h) k = refl
-  of_some r (Object h i) k = refl
-  of_some r (Promise h i) k = refl
-  of_some r (Answer h a) k = refl
-  of_some r (Gift h i) k = refl
-  of_some r (Sent a) k = refl
+  of_some r other k = refl
 
   of_object : (r : Vat Name) (m : Name) (o : Option (Known Name)) → IsObject m → of_name script honest v r m o ≡ by_follow script honest v r (Ref m)
   unfolding of_name
   of_object r (Object h i) o e = refl
-  of_object r (Root h) o e = absurd e
-  of_object r (Promise h i) o e = absurd e
-  of_object r (Answer h a) o e = absurd e
-  of_object r (Gift h i) o e = absurd e
-  of_object r (Sent a) o e = absurd e
+  of_object r other o e = absurd e
 
   of_none : (r : Vat Name) (m : Name) → (IsObject m → ⊥) → of_name script honest v r m None ≡ by_host v r m (host_of m)
   unfolding of_name
   of_none r (Object h i) e = absurd (e tt)
-  of_none r (Root h) e = refl
-  of_none r (Promise h i) e = refl
-  of_none r (Answer h a) e = refl
-  of_none r (Gift h i) e = refl
-  of_none r (Sent a) e = refl
+  of_none r other e = refl
 
   spot_plain : (m : Name) → (IsObject m → ⊥) → K.spot m ≡ NoObject
   unfolding names naming spot_of
   spot_plain (Object h i) e = absurd (e tt)
-  spot_plain (Root h) e = refl
-  spot_plain (Promise h i) e = refl
-  spot_plain (Answer h a) e = refl
-  spot_plain (Gift h i) e = refl
-  spot_plain (Sent a) e = refl
+  spot_plain other e = refl
 
   pub is_object : (m : Name) → IsObject m ⊎ (IsObject m → ⊥)
   is_object (Object h i) = inl tt
-  is_object (Root h) = inr (λ e. e)
-  is_object (Promise h i) = inr (λ e. e)
-  is_object (Answer h a) = inr (λ e. e)
-  is_object (Gift h i) = inr (λ e. e)
-  is_object (Sent a) = inr (λ e. e)
+  is_object other = inr (λ e. e)
 
   module _ (here : s.number ≡ v) where
     -- a name that is followed to itself, and has that host

@@ -209,14 +209,7 @@ module _ (script : Script) (honest : ℕ → Bool) (w : World) (v : ℕ) (r : Va
     unfolding state.enqueue aimed
     near_last (Ref n) = let x : Message Name = record m { target = Ref n } in
         inl (queue_is script honest w v r at (record q { queue = q.queue ++ x ∷ [] }) ∙ queued_end q.queue x n refl ∙ ap (λ ms. queued ms ++ item m.id n ∷ []) queue ∙ ap (λ js. js ++ item m.id n ∷ []) (sym (queue_is script honest w v r at s)))
-    near_last Null = tt
-    near_last (Flag b) = tt
-    near_last (Number z) = tt
-    near_last (Letter c) = tt
-    near_last (Text t) = tt
-    near_last (Prim k) = tt
-    near_last (Broken p) = tt
-    near_last (Items k) = tt
+    near_last other = tt
 
     abbrev Waits : Name → Type 0
     Waits n = (k : Known Name) × (refs.entry_of N s.known n ≡ Some k) × IsWaiting k.standing
@@ -241,16 +234,12 @@ module _ (script : Script) (honest : ℕ → Bool) (w : World) (v : ℕ) (r : Va
         go : (d : Done Name (Passeds Name)) → After (Still script honest w v v h) q d → IfGives (Last y (Away h n o)) (and_then d (λ ys. tell (Posted h m.id) >> send_out h (Deliver (refs.delivery_of N m) n m.verb ys)))
         go (Gives ys t) f = let u : Vat Name = record t { happened = t.happened ++ Posted h m.id ∷ []; outbox = t.outbox ++ record { to = h; note = Deliver (refs.delivery_of N m) n m.verb ys } ∷ [] } in
             from_there t u f (note_last script honest w v h here there (refs.delivery_of N m) n m.verb ys t u refl)
-        go (Throws p t) f = tt
-        go (Ejects i z t) f = tt
-        go (Stops c t) f = tt
+        go other f = tt
 
     gone_last : (y : Value Name) (p : Words) (d : Done Name (Unit {0})) → IfGives (Last y (Gone p)) d
     unfolding aimed
     gone_last y p (Gives a t) = tt
-    gone_last y p (Throws z t) = tt
-    gone_last y p (Ejects i z t) = tt
-    gone_last y p (Stops c t) = tt
+    gone_last y p other = tt
 
     first_last : (y : Value Name) (p : Place Name) → honest v ≡ true → ((h : ℕ) (n : Name) (o : Bool) → p ≡ Away h n o → honest h ≡ true) → ((n : Name) → p ≡ Mine n → Waits n) → IfGives (Last y p) (refs.send_first N m y p q)
     unfolding refs.send_first refs.send_to
@@ -267,27 +256,16 @@ module _ (script : Script) (honest : ℕ → Bool) (w : World) (v : ℕ) (r : Va
     aimed_behind y (Mine n) = comers_are_behind (U s) (U t) (Held v n) n grows
     aimed_behind y (Away h n o) = comers_are_behind (U s) (U t) (Way v h) n grows
     aimed_behind y (Gone p) = tt
-    aimed_behind Null Near = tt
-    aimed_behind (Flag b) Near = tt
-    aimed_behind (Number z) Near = tt
-    aimed_behind (Letter c) Near = tt
-    aimed_behind (Text p) Near = tt
-    aimed_behind (Prim k) Near = tt
-    aimed_behind (Broken p) Near = tt
-    aimed_behind (Items k) Near = tt
+    aimed_behind other Near = tt
 
   pub after_gives : {A : Type 0} (s : Vat Name) (P : Vat Name → Type 0) → ((t : Vat Name) → StaysReady script honest w v s t → P t) → (d : Done Name A) → After (StaysReady script honest w v) s d → IfGives P d
   after_gives s P f (Gives a t) h = f t h
-  after_gives s P f (Throws p t) h = tt
-  after_gives s P f (Ejects n y t) h = tt
-  after_gives s P f (Stops c t) h = tt
+  after_gives s P f other h = tt
 
   then_gives : {A : Type 0} (P : Vat Name → Type 0) (d : Done Name (Unit {0})) (y : A) → IfGives P d → IfGives P (and_then d (λ _. give y))
   unfolding and_then give
   then_gives P (Gives b t) y h = h
-  then_gives P (Throws p t) y h = tt
-  then_gives P (Ejects i z t) y h = tt
-  then_gives P (Stops c t) y h = tt
+  then_gives P other y h = tt
 
   module _ (act : ℕ) (x : Value Name) (verb : Words) (args : List (Value Name)) (s : Vat Name) (here : honest v ≡ true) (ready : Ready script honest w v s) (hand : IsHeld script honest w v s x) where
     abbrev Y : Value Name
@@ -301,9 +279,7 @@ module _ (script : Script) (honest : ℕ → Bool) (w : World) (v : ℕ) (r : Va
 
     abbrev IsGone : Place Name → Type 0
     IsGone (Gone z) = Unit {0}
-    IsGone Near = ⊥
-    IsGone (Mine n) = ⊥
-    IsGone (Away h n o) = ⊥
+    IsGone other = ⊥
 
     not_gone : (p : Place Name) → P ≡ p → (IsGone p → ⊥) → (z : Words) → P ≡ Gone z → ⊥
     not_gone p e f z q = f (subst IsGone (sym q ∙ e) tt)
@@ -379,15 +355,12 @@ sends_come_last = λ script honest w v act x verb args r s at here f ready hand.
 module _ (w u : Ways) (k : Lane) (i : Item) where
   abbrev IsAppended : lanes.Place → Type 0
   IsAppended (End l n) = u.stands l ≡ w.stands l ++ item i.mail n ∷ []
-  IsAppended Nowhere = Unit {0}
-  IsAppended Free = Unit {0}
-  IsAppended (Mid l b n) = Unit {0}
+  IsAppended other = Unit {0}
 
   moves : (c : lanes.Place) → GoesOneWay u k → IsAppended c → GoesTo w u k i c → MovesLast w u k i c
   moves (End l n) one e g = let h = gone_on_is_behind w u k l i n g one in (e, h.0, h.1)
   moves Nowhere one e g = tt
-  moves Free one e g = absurd g
-  moves (Mid l b n) one e g = absurd g
+  moves other one e g = absurd g
 
 module _ (script : Script) (honest : ℕ → Bool) (w : World) (a b : ℕ) (r s : Vat Name) (settle : Settler {N = Name} {W = Name} (names script b)) (m : Message Name) (asks : Bool) (answer : Option Name) (n : Name) (verb : Words) (ys : Passeds Name) (at : slice_get w.vats b ≡ Some r) where
   abbrev Mail : Note Name
@@ -414,14 +387,7 @@ module _ (script : Script) (honest : ℕ → Bool) (w : World) (a b : ℕ) (r s 
   unfolding state.enqueue aimed
   arrives_near (Ref o) = let x : Message Name = record m { target = Ref o } in
       queue_is script honest w b r at (record s { queue = s.queue ++ x ∷ [] }) ∙ queued_end s.queue x o refl ∙ ap (λ js. js ++ item m.id o ∷ []) (sym from_queue)
-  arrives_near Null = tt
-  arrives_near (Flag c) = tt
-  arrives_near (Number z) = tt
-  arrives_near (Letter c) = tt
-  arrives_near (Text t) = tt
-  arrives_near (Prim k) = tt
-  arrives_near (Broken p) = tt
-  arrives_near (Items k) = tt
+  arrives_near other = tt
 
   arrives_mine : (y : Value Name) (q : Name) → (k : Known Name) × (refs.entry_of (names script b) s.known q ≡ Some k) × IsWaiting k.standing → IfGives (Arrives y (Mine q)) (state.alter (names script b) (Hold (record m { target = y })) q s)
   unfolding state.alter aimed
@@ -436,8 +402,7 @@ module _ (script : Script) (honest : ℕ → Bool) (w : World) (a b : ℕ) (r s 
   unfolding refs.send_to
   arrives y Near h f = arrives_near y
   arrives y (Mine q) h f = arrives_mine y q (f q refl)
-  arrives y (Away g q o) h f = absurd h
-  arrives y (Gone p) h f = absurd h
+  arrives y other h f = absurd h
 
   abbrev Goes : lanes.Place → Vat Name → Type 0
   Goes c t = GoesTo From (To t) (Way a b) (item m.id n) c
@@ -447,9 +412,7 @@ module _ (script : Script) (honest : ℕ → Bool) (w : World) (a b : ℕ) (r s 
 
   both_arrive : {A : Type 0} (c : lanes.Place) (d : Done Name A) → IfGives (λ t. IsAppended From (To t) (Way a b) (item m.id n) c) d → IfGives (Goes c) d → IfGives (Moves c) d
   both_arrive c (Gives z t) e g = moves From (To t) (Way a b) (item m.id n) c tt e g
-  both_arrive c (Throws p t) e g = tt
-  both_arrive c (Ejects i z t) e g = tt
-  both_arrive c (Stops z t) e g = tt
+  both_arrive c other e g = tt
 
 pub carried_come_last : CarriedComeLast
 carried_come_last = λ script honest w a b r s settle m asks answer n verb ys at way learnt f here.

@@ -60,9 +60,7 @@ module _ (script : Script) (honest : ℕ → Bool) (w : World) (v h : ℕ) (n : 
       go : (d : Done Name (Passeds Name)) → After (Still script honest w v v h) s d → IfGives (Last (item m.id n ∷ []) s) (and_then d (λ ys. tell (Posted h m.id) >> send_out h (Deliver (refs.delivery_of N m) n m.verb ys)))
       go (Gives ys t) f = let u : Vat Name = record t { happened = t.happened ++ Posted h m.id ∷ []; outbox = t.outbox ++ record { to = h; note = Deliver (refs.delivery_of N m) n m.verb ys } ∷ [] } in
           λ o. note_open script honest w v h here there (refs.delivery_of N m) n m.verb ys t u refl o ∙ ap (λ z. z ++ item m.id n ∷ []) f.same
-      go (Throws p t) f = tt
-      go (Ejects i z t) f = tt
-      go (Stops c t) f = tt
+      go other f = tt
 
   delivered_out : (m : Message Name) (s : Vat Name) → Ready script honest w v s → IfGives (WentOut (item m.id n ∷ []) s) (refs.deliver N m h n s)
   delivered_out m s q = let d = refs.deliver N m h n s in

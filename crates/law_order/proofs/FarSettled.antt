@@ -162,9 +162,8 @@ module _ (script : Script) (honest : ℕ → Bool) (w : World) (v h : ℕ) (n : 
 
   less : (l : Lane) → Within (without (W t).stands v p l) ((W t).stands l)
   unfolding without
-  less (Queue u) = λ i j. j
   less (Held u o) = without_less u o (Test v p u o)
-  less (Way a b) = λ i j. j
+  less other = λ i j. j
 
   none_there : (i : Item) → IsIn i (without (W t).stands v p (Held v p)) → ⊥
   unfolding without
@@ -213,10 +212,8 @@ module _ (script : Script) (honest : ℕ → Bool) (w : World) (v h : ℕ) (n : 
       go (inr j) = absurd (f (sym i ∙ j.1))
 
   abbrev IsEnd : Place → Type 0
-  IsEnd Nowhere = Unit {0}
   IsEnd Free = ⊥
-  IsEnd (End l o) = Unit {0}
-  IsEnd (Mid l b o) = Unit {0}
+  IsEnd other = Unit {0}
 
   held_onward : (o : Name) → (W t).onward (Held v p) o ≡ End (Way v h) n
   held_onward o = let f = settled_is_passed script honest w v r s T p (Ref n) at g in

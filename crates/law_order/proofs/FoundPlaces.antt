@@ -34,17 +34,8 @@ module _ (x : Name) where
   aimed_lacks : (v : ℕ) (y : Value Name) (p : refs.Place Name) → LacksAt x (aimed v y p)
   unfolding aimed
   aimed_lacks v (Ref n) Near = tt
-  aimed_lacks v y (Mine n) = tt
-  aimed_lacks v y (Away h n o) = tt
-  aimed_lacks v y (Gone p) = tt
-  aimed_lacks v Null Near = tt
-  aimed_lacks v (Flag b) Near = tt
-  aimed_lacks v (Number z) Near = tt
-  aimed_lacks v (Letter c) Near = tt
-  aimed_lacks v (Text t) Near = tt
-  aimed_lacks v (Prim k) Near = tt
-  aimed_lacks v (Broken p) Near = tt
-  aimed_lacks v (Items k) Near = tt
+  aimed_lacks v other Near = tt
+  aimed_lacks v y other = tt
 
   host_lacks : (v : ℕ) (n : Name) (h : ℕ) (a b : Bool) → LacksAt x (elim a [ true ↦ Nowhere | false ↦ elim b [ true ↦ End (Held v n) n | false ↦ End (Way v h) n ] ])
   host_lacks v n h true b = tt

@@ -44,11 +44,7 @@ join_none (i ∷ a) = ap (λ q. i ∷ q) (join_none a)
 delivered_cons : (k : Note Name) (ns : List (Note Name)) → delivered (k ∷ []) ++ delivered ns ≡ delivered (k ∷ ns)
 unfolding delivered
 delivered_cons (Deliver a b c d) ns = refl
-delivered_cons (Open j a) ns = refl
-delivered_cons (Ask p j a) ns = refl
-delivered_cons (SettledTo a y) ns = refl
-delivered_cons (Elsewhere a c) ns = refl
-delivered_cons (Shorten a c j) ns = refl
+delivered_cons other ns = refl
 
 delivered_open : (ns : List (Note Name)) (d : ℕ) (n : Name) → delivered (ns ++ Open d n ∷ []) ≡ delivered ns
 unfolding delivered

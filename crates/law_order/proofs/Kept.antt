@@ -40,9 +40,8 @@ doom_free w h = elim h [ ]
 
 pub follows_self : (w : Ways) (c : Place) → IsDefinite c → Follows w c c
 follows_self w Nowhere d = doomed nowhere
-follows_self w Free d = absurd d
 follows_self w (End l n) d = alike
-follows_self w (Mid l b n) d = absurd d
+follows_self w other d = absurd d
 
 pub behind_nowhere : (w : Ways) (c : Place) → Follows w Nowhere c → Doom w c
 behind_nowhere w c (doomed h) = h

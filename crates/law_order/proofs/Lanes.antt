@@ -11,18 +11,15 @@ Same l k = (l ≡ k) ⊎ (l ≡ k → ⊥)
 
 abbrev IsQueue : Lane → Type 0
 IsQueue (Queue v) = Unit {0}
-IsQueue (Held v p) = ⊥
-IsQueue (Way a b) = ⊥
+IsQueue other = ⊥
 
 abbrev IsHeld : Lane → Type 0
-IsHeld (Queue v) = ⊥
 IsHeld (Held v p) = Unit {0}
-IsHeld (Way a b) = ⊥
+IsHeld other = ⊥
 
 abbrev IsWay : Lane → Type 0
-IsWay (Queue v) = ⊥
-IsWay (Held v p) = ⊥
 IsWay (Way a b) = Unit {0}
+IsWay other = ⊥
 
 abbrev one_of : Lane → ℕ
 one_of (Queue v) = v
@@ -35,9 +32,8 @@ other_of (Held v p) = v
 other_of (Way a b) = b
 
 abbrev name_of : Name → Lane → Name
-name_of n (Queue v) = n
 name_of n (Held v p) = p
-name_of n (Way a b) = n
+name_of n other = n
 
 same_queue : (u v : ℕ) (c : Bool) → (u == v) ≡ c → Same (Queue u) (Queue v)
 same_queue u v true e = inl (ap Queue (eqb-true u v e))
@@ -62,12 +58,9 @@ pub same_lane : (l k : Lane) → Same l k
 same_lane (Queue u) (Queue v) = same_queue u v (u == v) refl
 same_lane (Held u p) (Held v q) = same_held u v p q (Test v q u p) refl
 same_lane (Way a b) (Way c d) = same_way a b c d (a == c) (b == d) refl refl
-same_lane (Queue u) (Held v q) = inr (λ e. subst IsQueue e tt)
-same_lane (Queue u) (Way c d) = inr (λ e. subst IsQueue e tt)
-same_lane (Held u p) (Queue v) = inr (λ e. subst IsHeld e tt)
-same_lane (Held u p) (Way c d) = inr (λ e. subst IsHeld e tt)
-same_lane (Way a b) (Queue v) = inr (λ e. subst IsWay e tt)
-same_lane (Way a b) (Held v q) = inr (λ e. subst IsWay e tt)
+same_lane (Queue u) other = inr (λ e. subst IsQueue e tt)
+same_lane (Held u p) other = inr (λ e. subst IsHeld e tt)
+same_lane (Way a b) other = inr (λ e. subst IsWay e tt)
 
 -- ---- apart from what is held
 

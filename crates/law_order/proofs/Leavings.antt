@@ -89,14 +89,11 @@ in_split i (j ∷ js) (inr h) = let f = in_split i js h in (j ∷ f.0, f.1, ap (
 abbrev lane_in : Lane → Place → Lane
 lane_in k (Mid l b n) = l
 lane_in k (End l n) = l
-lane_in k Nowhere = k
-lane_in k Free = k
+lane_in k other = k
 
 abbrev front_in : Place → List Item
 front_in (Mid l b n) = b
-front_in (End l n) = []
-front_in Nowhere = []
-front_in Free = []
+front_in other = []
 
 abbrev IsEmpty : List Item → Type 0
 IsEmpty [] = Unit {0}

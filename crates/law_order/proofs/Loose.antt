@@ -39,15 +39,13 @@ module _ (K : Naming Name Name) (p : Name) (s t : Vat Name) (g : OnlyWaits K p s
   unfolding refs.led
   led_alike f h e n (Settled y) = e y
   led_alike f h e n (Viewed q) = e (Ref q)
-  led_alike f h e n (WaitsOn q) = refl
-  led_alike f h e n Unsettled = refl
+  led_alike f h e n other = refl
 
   waits_here : (f : Value Name → Value Name) (n : Name) (q : Standing Name) → IsWaiting q → refs.led K f n q ≡ Ref n
   unfolding refs.led
-  waits_here f n Unsettled h = refl
-  waits_here f n (WaitsOn q) h = refl
   waits_here f n (Viewed q) h = absurd h
   waits_here f n (Settled y) h = absurd h
+  waits_here f n other h = refl
 
   led_known : (f h : Value Name → Value Name) → ((x : Value Name) → f x ≡ h x) → (n : Name) (j k : Known Name) → (k.standing ≡ j.standing) ⊎ ((n ≡ p) × (j.standing ≡ Unsettled) × IsWaiting k.standing) → refs.led K f n k.standing ≡ refs.led K h n j.standing
   led_known f h e n j k (inl q) = led_alike f h e n k.standing ∙ ap (λ z. refs.led K h n z) q
@@ -64,14 +62,7 @@ module _ (K : Naming Name Name) (p : Name) (s t : Vat Name) (g : OnlyWaits K p s
   unfolding refs.follow_at refs.standing_of
   follows_alike zero x = refl
   follows_alike (suc d) (Ref n) = led_near (λ y. refs.follow_at K d t.known y) (λ y. refs.follow_at K d s.known y) (λ y. follows_alike d y) n (refs.entry_of K s.known n) (refs.entry_of K t.known n) (g.entries n)
-  follows_alike (suc d) Null = refl
-  follows_alike (suc d) (Flag b) = refl
-  follows_alike (suc d) (Number z) = refl
-  follows_alike (suc d) (Letter c) = refl
-  follows_alike (suc d) (Text p) = refl
-  follows_alike (suc d) (Prim k) = refl
-  follows_alike (suc d) (Broken p) = refl
-  follows_alike (suc d) (Items k) = refl
+  follows_alike (suc d) other = refl
 
   severs : (h : ℕ) (n : Name) → refs.severed_by K h t n ≡ refs.severed_by K h s n
   unfolding refs.severed_by
@@ -86,14 +77,7 @@ module _ (K : Naming Name Name) (p : Name) (s t : Vat Name) (g : OnlyWaits K p s
   severed_alike : (y : Value Name) → refs.severed K t y ≡ refs.severed K s y
   unfolding refs.severed
   severed_alike (Ref n) = severed_spot n (K.spot n)
-  severed_alike Null = refl
-  severed_alike (Flag b) = refl
-  severed_alike (Number z) = refl
-  severed_alike (Letter c) = refl
-  severed_alike (Text p) = refl
-  severed_alike (Prim k) = refl
-  severed_alike (Broken p) = refl
-  severed_alike (Items k) = refl
+  severed_alike other = refl
 
   follow_alike : (x : Value Name) → refs.follow K t x ≡ refs.follow K s x
   unfolding refs.follow
@@ -101,21 +85,13 @@ module _ (K : Naming Name Name) (p : Name) (s t : Vat Name) (g : OnlyWaits K p s
 
   spot_alike : (n : Name) (q : Spot) → refs.spotted K t n q ≡ refs.spotted K s n q
   unfolding refs.spotted
-  spot_alike n (Own i) = refl
-  spot_alike n (Foreign h) = refl
   spot_alike n NoObject = ap (λ v. refs.hosted K v n (refs.host_at K t.number t.known n)) g.number ∙ ap (λ h. refs.hosted K s.number n h) (hosts n)
+  spot_alike n other = refl
 
   place_alike : (y : Value Name) → refs.place K t y ≡ refs.place K s y
   unfolding refs.place
   place_alike (Ref n) = spot_alike n (K.spot n)
-  place_alike Null = refl
-  place_alike (Flag b) = refl
-  place_alike (Number z) = refl
-  place_alike (Letter c) = refl
-  place_alike (Text p) = refl
-  place_alike (Prim k) = refl
-  place_alike (Broken p) = refl
-  place_alike (Items k) = refl
+  place_alike other = refl
 
 -- ---- where a reference leads
 

@@ -93,14 +93,7 @@ module _ (K : Naming Name Name) (s : Vat Name) (n : Name) (h : ℕ) (plain : IsO
 
   fixed_on : (y : Value Name) → IsFixed K s y → IsFixed K (record s { known = Ks }) y
   fixed_on (Ref m) i = fixed_ref m i
-  fixed_on Null i = tt
-  fixed_on (Flag b) i = tt
-  fixed_on (Number z) i = tt
-  fixed_on (Letter c) i = tt
-  fixed_on (Text p) i = tt
-  fixed_on (Prim k) i = tt
-  fixed_on (Broken p) i = tt
-  fixed_on (Items k) i = tt
+  fixed_on other i = tt
 
   new_waits : (m : Name) (k : Known Name) → refs.entry_of K s.known m ≡ None → refs.entry_of K Ks m ≡ Some k → IsWaiting k.standing
   unfolding begun
@@ -117,17 +110,14 @@ module _ (K : Naming Name Name) (s : Vat Name) (n : Name) (h : ℕ) (plain : IsO
 -- an object is none of these
 pub objects_apart : (n m : Name) → (IsObject n → ⊥) → IsObject m → same_reference n m ≡ false
 unfolding same_reference same_name
-objects_apart (Root a) (Object h i) f o = refl
 objects_apart (Object a j) m f o = absurd (f tt)
-objects_apart (Promise a j) (Object h i) f o = refl
-objects_apart (Answer a j) (Object h i) f o = refl
-objects_apart (Gift a j) (Object h i) f o = refl
 objects_apart (Sent a) m f o = refl
 objects_apart n (Root h) f o = absurd o
 objects_apart n (Promise h i) f o = absurd o
 objects_apart n (Answer h i) f o = absurd o
 objects_apart n (Gift h i) f o = absurd o
 objects_apart n (Sent i) f o = absurd o
+objects_apart other (Object h i) f o = refl
 
 module _ (script : Script) (honest : ℕ → Bool) (w : World) (v : ℕ) (s : Vat Name) (n : Name) (plain : IsObject n → ⊥) (r : Ready script honest w v s) where
   abbrev K : Naming Name Name

@@ -117,14 +117,7 @@ module _ (K : Naming Name Name) (settle : Settler {N = Name} {W = Name} K) (p : 
 within_by : (x : Value Name) (m : Name) (js ks : List Item) → Within js ks → Within (elim x [ Ref n ↦ item m n ∷ js | _ ↦ js ]) (elim x [ Ref n ↦ item m n ∷ ks | _ ↦ ks ])
 within_by (Ref n) m js ks f i (inl e) = inl e
 within_by (Ref n) m js ks f i (inr h) = inr (f i h)
-within_by Null m js ks f i h = f i h
-within_by (Flag b) m js ks f i h = f i h
-within_by (Number z) m js ks f i h = f i h
-within_by (Letter c) m js ks f i h = f i h
-within_by (Text t) m js ks f i h = f i h
-within_by (Prim k) m js ks f i h = f i h
-within_by (Broken p) m js ks f i h = f i h
-within_by (Items k) m js ks f i h = f i h
+within_by other m js ks f i h = f i h
 
 pub queued_more : (q : List (Message Name)) (m : Message Name) → Within (queued q) (queued (q ++ m ∷ []))
 unfolding queued
@@ -133,14 +126,7 @@ queued_more (o ∷ q) m i h = within_by o.target o.id (queued q) (queued (q ++ m
 
 behind : (x : Value Name) (i : Item) (m : Name) (js : List Item) → IsIn i js → IsIn i (elim x [ Ref n ↦ item m n ∷ js | _ ↦ js ])
 behind (Ref n) i m js h = inr h
-behind Null i m js h = h
-behind (Flag b) i m js h = h
-behind (Number z) i m js h = h
-behind (Letter c) i m js h = h
-behind (Text t) i m js h = h
-behind (Prim k) i m js h = h
-behind (Broken p) i m js h = h
-behind (Items k) i m js h = h
+behind other i m js h = h
 
 queued_end : (q : List (Message Name)) (m : Message Name) (n : Name) → m.target ≡ Ref n → IsIn (item m.id n) (queued (q ++ m ∷ []))
 unfolding queued
@@ -164,38 +150,23 @@ module _ (K : Naming Name Name) (t : Vat Name) where
   own_spot : (n : Name) (q : Spot) → IsOwnSpot q → refs.severed_at K t n q ≡ Ref n
   unfolding refs.severed_at
   own_spot n (Own i) h = refl
-  own_spot n (Foreign g) h = absurd h
-  own_spot n NoObject h = absurd h
+  own_spot n other h = absurd h
 
   here_severed : (y : Value Name) → IsHere K y → refs.severed K t y ≡ y
   unfolding refs.severed
   here_severed (Ref n) h = own_spot n (K.spot n) h
-  here_severed Null h = refl
-  here_severed (Flag b) h = refl
-  here_severed (Number z) h = refl
-  here_severed (Letter c) h = refl
-  here_severed (Text x) h = refl
-  here_severed (Prim k) h = refl
-  here_severed (Broken x) h = refl
-  here_severed (Items k) h = refl
+  here_severed other h = refl
 
   own_near : (n : Name) (q : Spot) → IsOwnSpot q → refs.spotted K t n q ≡ Near
   unfolding refs.spotted
   own_near n (Own i) h = refl
-  own_near n (Foreign g) h = absurd h
-  own_near n NoObject h = absurd h
+  own_near n other h = absurd h
 
   here_near : (y : Value Name) → IsHere K y → refs.place K t y ≡ Near
   unfolding refs.place
   here_near (Ref n) h = own_near n (K.spot n) h
-  here_near Null h = refl
-  here_near (Flag b) h = refl
-  here_near (Number z) h = refl
-  here_near (Letter c) h = refl
-  here_near (Text x) h = refl
-  here_near (Prim k) h = refl
   here_near (Broken x) h = absurd h
-  here_near (Items k) h = refl
+  here_near other h = refl
 
 module _ (script : Script) (honest : ℕ → Bool) (w : World) (v : ℕ) (r s : Vat Name) (p : Name) (y : Value Name) (k : Known Name) (at : slice_get w.vats v ≡ Some r) (g : SettlesHere (names script v) s (settled_to (names script v) s p y) p y v) (e : refs.entry_of (names script v) s.known p ≡ Some k) (here : IsHere (names script v) y) where
   abbrev K : Naming Name Name
@@ -288,14 +259,7 @@ module _ (script : Script) (honest : ℕ → Bool) (w : World) (v : ℕ) (r s : 
   sent_by : (x : Value Name) → x ≡ y → (i : Item) → IsIn i (held_on p k.held) → Ahead Gone i.mail (aimed v x Near)
   unfolding aimed
   sent_by (Ref n) q i h = in_end (in_the_queue (record { mail = i.mail; aim = n }) (subst (λ z. IsIn (record { mail = i.mail; aim = n }) (queued (retargeted z s.queue k.held))) q (comes_to_queue p n k.held s.queue i h))) alike
-  sent_by Null q i h = doomed_there nowhere
-  sent_by (Flag b) q i h = doomed_there nowhere
-  sent_by (Number z) q i h = doomed_there nowhere
-  sent_by (Letter c) q i h = doomed_there nowhere
-  sent_by (Text x) q i h = doomed_there nowhere
-  sent_by (Prim j) q i h = doomed_there nowhere
-  sent_by (Broken x) q i h = doomed_there nowhere
-  sent_by (Items j) q i h = doomed_there nowhere
+  sent_by other q i h = doomed_there nowhere
 
   is_sent : (i : Item) → IsIn i (W.stands (Held v p)) → Ahead Gone i.mail Aim
   is_sent i h = subst (Ahead Gone i.mail) (sym aimed_here) (sent_by y refl i (held_before i h))

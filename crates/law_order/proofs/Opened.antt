@@ -28,38 +28,22 @@ module _ (script : Script) (honest : ℕ → Bool) (v : ℕ) (s : Vat Name) (gs 
   severed_spot : (n : Name) (p : Spot) → refs.severed_at K T n p ≡ refs.severed_at K s n p
   unfolding refs.severed_at refs.severed_by
   severed_spot n (Own i) = refl
-  severed_spot n (Foreign h) = refl
-  severed_spot n NoObject = refl
+  severed_spot n other = refl
 
   severed_still : (y : Value Name) → refs.severed K T y ≡ refs.severed K s y
   unfolding refs.severed
   severed_still (Ref n) = severed_spot n (K.spot n)
-  severed_still Null = refl
-  severed_still (Flag b) = refl
-  severed_still (Number z) = refl
-  severed_still (Letter c) = refl
-  severed_still (Text p) = refl
-  severed_still (Prim k) = refl
-  severed_still (Broken p) = refl
-  severed_still (Items k) = refl
+  severed_still other = refl
 
   spotted_still : (n : Name) (p : Spot) → refs.spotted K T n p ≡ refs.spotted K s n p
   unfolding refs.spotted
   spotted_still n (Own i) = refl
-  spotted_still n (Foreign h) = refl
-  spotted_still n NoObject = refl
+  spotted_still n other = refl
 
   place_still : (y : Value Name) → refs.place K T y ≡ refs.place K s y
   unfolding refs.place
   place_still (Ref n) = spotted_still n (K.spot n)
-  place_still Null = refl
-  place_still (Flag b) = refl
-  place_still (Number z) = refl
-  place_still (Letter c) = refl
-  place_still (Text p) = refl
-  place_still (Prim k) = refl
-  place_still (Broken p) = refl
-  place_still (Items k) = refl
+  place_still other = refl
 
   follow_still : (x : Value Name) → refs.follow K T x ≡ refs.follow K s x
   unfolding refs.follow
@@ -133,8 +117,7 @@ front_open a b n (k ∷ ls) o = go (λ q. front_open a b n ls q) (world.is_link 
 
 abbrev IsWay : Lane → Type 0
 IsWay (Way a b) = Unit {0}
-IsWay (Held v p) = ⊥
-IsWay (Queue v) = ⊥
+IsWay other = ⊥
 
 -- ---- the note acts
 
@@ -274,11 +257,7 @@ module _ (script : Script) (honest : ℕ → Bool) (w : World) (a b : ℕ) (r s 
       go false d e q = inl (unsettled_other Vats Vats' u h j gs hs e (f (Gift h j) e))
       go true false e q = inl (unsettled_away Vats' Links Links u h j hs gs q ∙ unsettled_away Vats Links Kept u h j gs gs q)
       go true true e q = inr (is_it u h j e q)
-  unsettled_alike u (Root h) gs hs f = inl refl
-  unsettled_alike u (Object h j) gs hs f = inl refl
-  unsettled_alike u (Promise h j) gs hs f = inl refl
-  unsettled_alike u (Answer h m) gs hs f = inl refl
-  unsettled_alike u (Sent m) gs hs f = inl refl
+  unsettled_alike u other gs hs f = inl refl
 
   released_alike : (u : ℕ) (p : Name) (gs hs : List (GiftEntry Name)) (q : Standing Name) → Opened gs hs → (released script honest Vats' Links u p hs q ≡ released script honest Vats Kept u p gs q) ⊎ IsIt u p
   unfolding released

@@ -35,18 +35,12 @@ module _ (script : Script) (honest : ℕ → Bool) (vs : List (Vat Name)) (ls : 
   unsettled_so : (u : ℕ) (p : Name) (gs : List (GiftEntry Name)) → (unsettled script honest vs Then u p gs ≡ unsettled script honest vs ls u p gs) ⊎ (unsettled script honest vs ls u p gs ≡ Free)
   unfolding unsettled
   unsettled_so u (Gift g i) gs = unsettled_by (gift_place script honest g i ls) (gift_place script honest g i Then) ((g == u) && not (opened_there (Gift g i) gs)) (gift_by g i (d == i) refl)
-  unsettled_so u (Root g) gs = inl refl
-  unsettled_so u (Object g i) gs = inl refl
-  unsettled_so u (Promise g i) gs = inl refl
-  unsettled_so u (Answer g m) gs = inl refl
-  unsettled_so u (Sent m) gs = inl refl
+  unsettled_so u other gs = inl refl
 
   released_so : (u : ℕ) (p : Name) (gs : List (GiftEntry Name)) (q : Standing Name) → (released script honest vs Then u p gs q ≡ released script honest vs ls u p gs q) ⊎ (released script honest vs ls u p gs q ≡ Free)
   unfolding released leads
   released_so u p gs Unsettled = unsettled_so u p gs
-  released_so u p gs (WaitsOn q) = inl refl
-  released_so u p gs (Viewed q) = inl refl
-  released_so u p gs (Settled y) = inl refl
+  released_so u p gs other = inl refl
 
   released_vat : (u : ℕ) (p : Name) (o : Option (Vat Name)) → (released_at script honest vs Then u p o ≡ released_at script honest vs ls u p o) ⊎ (released_at script honest vs ls u p o ≡ Free)
   unfolding released_at
@@ -99,9 +93,8 @@ module _ (script : Script) (honest : ℕ → Bool) (vs : List (Vat Name)) (ls : 
 
   stands_so : (l : Lane) (i : Item) → IsIn i (stands_at script honest vs ls l) → IsIn i (stands_at script honest vs Then l)
   unfolding stands_at
-  stands_so (Queue u) i j = j
-  stands_so (Held u p) i j = j
   stands_so (Way a b) i j = notes_grow (world.link_at a b ls) (world.link_at a b Then) (link_alike (suc d) a b ls Then grow_any) i j
+  stands_so other i j = j
 
   pub opening_grows : Grows (ways_of script honest vs ls) (ways_of script honest vs Then)
   unfolding ways_of

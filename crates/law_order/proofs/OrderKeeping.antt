@@ -217,16 +217,11 @@ module _ (R : Place → Place → Type 0) (G : ℕ → ℕ → Type 0) where
       module _ (vs : List (Vat Name)) (ks ls : List Link) (g : AllLeave ks ls) where
         abbrev pub Fits : Name → Type 0
         Fits (Gift h i) = G h i
-        Fits (Root h) = Unit {0}
-        Fits (Object h i) = Unit {0}
-        Fits (Promise h i) = Unit {0}
-        Fits (Answer h m) = Unit {0}
-        Fits (Sent m) = Unit {0}
+        Fits other = Unit {0}
 
         abbrev pub FitsLane : Lane → Type 0
         FitsLane (Held u p) = Fits p
-        FitsLane (Queue u) = Unit {0}
-        FitsLane (Way x y) = Unit {0}
+        FitsLane other = Unit {0}
 
         unsettled_if : (c : Bool) (h i : ℕ) → G h i → R (elim c [ true ↦ gift_place script honest h i ks | false ↦ Free ]) (elim c [ true ↦ gift_place script honest h i ls | false ↦ Free ])
         unsettled_if true h i o = gift_leaves h i o ks ls g
@@ -235,11 +230,7 @@ module _ (R : Place → Place → Type 0) (G : ℕ → ℕ → Type 0) where
         unsettled_leaves : (u : ℕ) (p : Name) → Fits p → (gs : List (GiftEntry Name)) → R (unsettled script honest vs ks u p gs) (unsettled script honest vs ls u p gs)
         unfolding unsettled
         unsettled_leaves u (Gift h i) o gs = unsettled_if ((h == u) && not (opened_there (Gift h i) gs)) h i o
-        unsettled_leaves u (Root h) o gs = self Free
-        unsettled_leaves u (Object h i) o gs = self Free
-        unsettled_leaves u (Promise h i) o gs = self Free
-        unsettled_leaves u (Answer h m) o gs = self Free
-        unsettled_leaves u (Sent m) o gs = self Free
+        unsettled_leaves u other o gs = self Free
 
         leads_still : (u : ℕ) (x : Value Name) → leads script honest vs ls u x ≡ leads script honest vs ks u x
         unfolding leads
@@ -328,20 +319,16 @@ each_same G (Some c) None e = none_some c e
 -- a note that is silent stands in front of nothing
 nothing_delivered : (n : Note Name) → IsSilent n → delivered (n ∷ []) ≡ []
 unfolding delivered
-nothing_delivered (Deliver m n verb ys) h = absurd h
-nothing_delivered (Open i n) h = absurd h
 nothing_delivered (Ask p i n) h = refl
 nothing_delivered (SettledTo n y) h = refl
 nothing_delivered (Elsewhere n c) h = refl
-nothing_delivered (Shorten n c i) h = absurd h
+nothing_delivered other h = absurd h
 
 lets_nothing : (n : Note Name) → IsSilent n → LetsNothingGo n
-lets_nothing (Deliver m n verb ys) h = absurd h
-lets_nothing (Open i n) h = absurd h
 lets_nothing (Ask p i n) h = tt
 lets_nothing (SettledTo n y) h = tt
 lets_nothing (Elsewhere n c) h = tt
-lets_nothing (Shorten n c i) h = absurd h
+lets_nothing other h = absurd h
 
 silent_place : (f : Note Name → Bool) → IsTest f → (l : Lane) (n : Note Name) (ns : List (Note Name)) → IsSilent n → note_place f l [] ns ≡ note_place f l [] (n ∷ ns)
 silent_place f t l n ns h = sym (place_front f l n ns (t n (lets_nothing n h)) ∙ ap (λ b. note_place f l b ns) (nothing_delivered n h))
@@ -393,11 +380,7 @@ module _ (script : Script) (honest : ℕ → Bool) (vs : List (Vat Name)) (a b :
 
       go : (n : Note Name) → (IsIn i (delivered (n ∷ ns)) → IsIn i (delivered ns) ⊎ IsIn i (delivered (n ∷ []))) × (IsIn i (delivered ns) → IsIn i (delivered (n ∷ ns)))
       go (Deliver m o verb ys) = (λ h. swap h, λ h. inr h)
-      go (Open j o) = (λ h. inl h, λ h. h)
-      go (Ask p j o) = (λ h. inl h, λ h. h)
-      go (SettledTo o y) = (λ h. inl h, λ h. h)
-      go (Elsewhere o c) = (λ h. inl h, λ h. h)
-      go (Shorten o c j) = (λ h. inl h, λ h. h)
+      go other = (λ h. inl h, λ h. h)
 
   comes_here : (l : Link) → l.from ≡ a → l.to ≡ b → (x y : ℕ) → x ≡ a → y ≡ b → Comes x y (Some (in_front n l)) (Some l)
   unfolding in_front is_honest
@@ -428,19 +411,17 @@ module _ (script : Script) (honest : ℕ → Bool) (vs : List (Vat Name)) (a b :
 
   pub stands_leaves : (ls : List Link) (l : Lane) (i : Item) → IsIn i (stands_at script honest vs (world.with_link (in_front n) a b ls) l) → IsIn i (stands_at script honest vs ls l) ⊎ ((l ≡ Way a b) × IsIn i (delivered (n ∷ [])))
   unfolding stands_at
-  stands_leaves ls (Queue u) i h = inl h
-  stands_leaves ls (Held u p) i h = inl h
   stands_leaves ls (Way x y) i h = go ((comes_at x y ls i).0 h)
     where
       go : IsIn i (Stands (world.link_at x y ls)) ⊎ ((x ≡ a) × (y ≡ b) × IsIn i (delivered (n ∷ []))) → IsIn i (Stands (world.link_at x y ls)) ⊎ ((Way x y ≡ Way a b) × IsIn i (delivered (n ∷ [])))
       go (inl q) = inl q
       go (inr q) = inr (ap (λ z. Way z y) q.0 ∙ ap (λ z. Way a z) q.1, q.2)
+  stands_leaves ls other i h = inl h
 
   pub stands_back : (ls : List Link) (l : Lane) (i : Item) → IsIn i (stands_at script honest vs ls l) → IsIn i (stands_at script honest vs (world.with_link (in_front n) a b ls) l)
   unfolding stands_at
-  stands_back ls (Queue u) i h = h
-  stands_back ls (Held u p) i h = h
   stands_back ls (Way x y) i h = (comes_at x y ls i).1 h
+  stands_back ls other i h = h
 
 -- ---- a silent note
 
@@ -450,13 +431,8 @@ module _ (script : Script) (honest : ℕ → Bool) (vs : List (Vat Name)) (a b :
 
   any_fits : (l : Lane) → FitsLane Same Any (λ c. refl) script honest vs (world.with_link (in_front n) a b ls) ls silent_all l
   any_fits (Queue u) = tt
-  any_fits (Way x y) = tt
   any_fits (Held u (Gift h i)) = tt
-  any_fits (Held u (Root h)) = tt
-  any_fits (Held u (Object h i)) = tt
-  any_fits (Held u (Promise h i)) = tt
-  any_fits (Held u (Answer h m)) = tt
-  any_fits (Held u (Sent m)) = tt
+  any_fits other = tt
 
   silent_stands : (l : Lane) (i : Item) → IsIn i (stands_at script honest vs ls l) ⊎ ((l ≡ Way a b) × IsIn i (delivered (n ∷ []))) → IsIn i (stands_at script honest vs ls l)
   silent_stands l i (inl j) = j

@@ -77,21 +77,13 @@ module _ (v : ℕ) (p : Name) (e : Place) where
           go : (c : Bool) → Stays (elim c [ true ↦ gift_place script honest h i ls | false ↦ Free ])
           go true = gift_stays h i ls
           go false = passes_free v p e
-      waiting_stays u (Root h) gs = passes_free v p e
-      waiting_stays u (Object h i) gs = passes_free v p e
-      waiting_stays u (Promise h i) gs = passes_free v p e
-      waiting_stays u (Answer h m) gs = passes_free v p e
-      waiting_stays u (Sent m) gs = passes_free v p e
+      waiting_stays u other gs = passes_free v p e
 
 -- it does not hang on the vats
 pub waiting_same : (script : Script) (honest : ℕ → Bool) (vs rs : List (Vat Name)) (ls : List Link) (u : ℕ) (n : Name) (gs : List (GiftEntry Name)) → unsettled script honest vs ls u n gs ≡ unsettled script honest rs ls u n gs
 unfolding unsettled
 waiting_same script honest vs rs ls u (Gift h i) gs = refl
-waiting_same script honest vs rs ls u (Root h) gs = refl
-waiting_same script honest vs rs ls u (Object h i) gs = refl
-waiting_same script honest vs rs ls u (Promise h i) gs = refl
-waiting_same script honest vs rs ls u (Answer h m) gs = refl
-waiting_same script honest vs rs ls u (Sent m) gs = refl
+waiting_same script honest vs rs ls u other gs = refl
 
 -- ---- vats that are found
 

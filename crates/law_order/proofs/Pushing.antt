@@ -17,21 +17,13 @@ IsTest f = (n : Note Name) → LetsNothingGo n → f n ≡ false
 
 pub opens_test : (i : ℕ) → IsTest (opens i)
 unfolding opens
-opens_test i (Deliver m n verb ys) h = refl
 opens_test i (Open j n) h = absurd h
-opens_test i (Ask p j n) h = refl
-opens_test i (SettledTo n y) h = refl
-opens_test i (Elsewhere n c) h = refl
-opens_test i (Shorten n c j) h = refl
+opens_test i other h = refl
 
 pub shortens_test : (g i : ℕ) → IsTest (shortens g i)
 unfolding shortens
-shortens_test g i (Deliver m n verb ys) h = refl
-shortens_test g i (Open j n) h = refl
-shortens_test g i (Ask p j n) h = refl
-shortens_test g i (SettledTo n y) h = refl
-shortens_test g i (Elsewhere n c) h = refl
 shortens_test g i (Shorten n c j) h = absurd h
+shortens_test g i other h = refl
 
 pub place_more : (f : Note Name → Bool) (l : Lane) (b : List Item) (ns : List (Note Name)) (n : Note Name) → f n ≡ false → note_place f l b (ns ++ n ∷ []) ≡ note_place f l b ns
 unfolding note_place

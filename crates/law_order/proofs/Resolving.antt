@@ -43,11 +43,9 @@ module _ (script : Script) (honest : ℕ → Bool) (w : World) (v : ℕ) (r : Va
 
   resolve_kept : (y : Value Name) (q : refs.Place Name) → PlaceWell script honest w v p s y q → IfGives Kept (refs.resolve_to J p y q s)
   unfolding refs.resolve_to
-  resolve_kept y Near h = settle_kept y h
   resolve_kept y (Mine q) h = wait_kept q h
   resolve_kept y (Away g q false) h = wait_kept q h
-  resolve_kept y (Away g q true) h = settle_kept y h
-  resolve_kept y (Gone z) h = settle_kept y h
+  resolve_kept y other h = settle_kept y h
 
   resolves : (x : Value Name) → ResolvesWell script honest w v p s x → IfGives Kept (refs.resolve J p x s)
   unfolding refs.resolve state.◌>>=◌ state.and_then state.look

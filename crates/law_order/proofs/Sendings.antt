@@ -101,9 +101,7 @@ module _ (script : Script) (honest : ℕ → Bool) (w : World) (v : ℕ) where
   unfolding refs.react_at
   stays_react_at m (Mine n) = stays_react_to m n
   stays_react_at m (Away h n false) = stays_react_to m n
-  stays_react_at m (Away h n true) = stays_enqueue m
-  stays_react_at m Near = stays_enqueue m
-  stays_react_at m (Gone p) = stays_enqueue m
+  stays_react_at m other = stays_enqueue m
 
   pub stays_react : (act : ℕ) (x o near : Value Name) → Keeps R (refs.react K act x o near)
   unfolding refs.react
@@ -154,9 +152,7 @@ module _ (script : Script) (honest : ℕ → Bool) (w : World) (v : ℕ) where
 
   single_after : {A : Type 0} (s : Vat Name) (d : Done Name A) → After R s d → After C s d
   single_after s (Gives a t) f = single f
-  single_after s (Throws p t) f = single f
-  single_after s (Ejects n y t) f = single f
-  single_after s (Stops c t) f = single f
+  single_after s other f = single f
 
   so : {A : Type 0} {m : Act Name A} → Keeps R m → Keeps C m
   so {m = m} h = record { after = λ s. single_after s (m s) (h.after s) }

@@ -19,14 +19,7 @@ use Rattle.law_order.specs.Worlds.{IfGives, IsWaiting, SentMessagesAreAhead}
 -- behind more than there was it stands where it stood
 queued_behind : (t : Value Name) (i : Item) (m : Name) (js : List Item) → IsIn i js → IsIn i (elim t [ Ref n ↦ item m n ∷ js | _ ↦ js ])
 queued_behind (Ref n) i m js h = inr h
-queued_behind Null i m js h = h
-queued_behind (Flag b) i m js h = h
-queued_behind (Number z) i m js h = h
-queued_behind (Letter c) i m js h = h
-queued_behind (Text t) i m js h = h
-queued_behind (Prim k) i m js h = h
-queued_behind (Broken p) i m js h = h
-queued_behind (Items k) i m js h = h
+queued_behind other i m js h = h
 
 pub queued_last : (q : List (Message Name)) (m : Message Name) (n : Name) → m.target ≡ Ref n → IsIn (item m.id n) (queued (q ++ m ∷ []))
 unfolding queued
@@ -218,38 +211,29 @@ module _ (script : Script) (honest : ℕ → Bool) (w : World) (v : ℕ) (r t : 
 
 pub if_all : {A : Type 0} (P : Vat Name → Type 0) → ((t : Vat Name) → P t) → (d : Done Name A) → IfGives P d
 if_all P f (Gives a t) = f t
-if_all P f (Throws p t) = tt
-if_all P f (Ejects n y t) = tt
-if_all P f (Stops c t) = tt
+if_all P f other = tt
 
 pub if_map : {A : Type 0} (P Q : Vat Name → Type 0) → ((t : Vat Name) → P t → Q t) → (d : Done Name A) → IfGives P d → IfGives Q d
 if_map P Q f (Gives a t) h = f t h
-if_map P Q f (Throws p t) h = tt
-if_map P Q f (Ejects n y t) h = tt
-if_map P Q f (Stops c t) h = tt
+if_map P Q f other h = tt
 
 pub if_both : {A : Type 0} (P Q : Vat Name → Type 0) (d : Done Name A) → IfGives P d → IfGives Q d → IfGives (λ t. P t × Q t) d
 if_both P Q (Gives a t) h i = (h, i)
-if_both P Q (Throws p t) h i = tt
-if_both P Q (Ejects n y t) h i = tt
-if_both P Q (Stops c t) h i = tt
+if_both P Q other h i = tt
 
 pub chain : {A B : Type 0} (P Q : Vat Name → Type 0) (d : Done Name A) (n : Act Name B) → IfGives P d → ((t : Vat Name) → P t → IfGives Q (n t)) → IfGives Q (state.and_then d (λ _. n))
 unfolding state.and_then
 chain P Q (Gives a t) n h f = f t h
-chain P Q (Throws p t) n h f = tt
-chain P Q (Ejects i y t) n h f = tt
-chain P Q (Stops c t) n h f = tt
+chain P Q other n h f = tt
 
 pub held_by : (k : Known Name) (m : Message Name) → IsWaiting k.standing → (state.changed (Hold m) k).held ≡ k.held ++ m ∷ []
 unfolding state.changed state.unless_settled state.changed_to
 held_by k m i = go k.standing i
   where
     go : (q : Standing Name) → IsWaiting q → (state.unless_settled q k (record k { held = k.held ++ m ∷ [] })).held ≡ k.held ++ m ∷ []
-    go Unsettled i = refl
-    go (WaitsOn q) i = refl
     go (Viewed q) i = absurd i
     go (Settled y) i = absurd i
+    go other i = refl
 
 pub changed_name : (c : state.Change Name) (k : Known Name) → (state.changed c k).name ≡ k.name
 unfolding state.changed state.unless_settled state.changed_to
@@ -257,18 +241,11 @@ changed_name c k = go k.standing (state.changed_to c k) (to c)
   where
     to : (c : state.Change Name) → (state.changed_to c k).name ≡ k.name
     to (Hold m) = refl
-    to (Wait q) = refl
-    to (WaitOn q) = refl
-    to (state.See q) = refl
-    to (state.React m) = refl
-    to (state.ToTell h) = refl
-    to (state.Settle y) = refl
+    to other = refl
 
     go : (q : Standing Name) (j : Known Name) → j.name ≡ k.name → (state.unless_settled q k j).name ≡ k.name
-    go Unsettled j e = e
-    go (WaitsOn q) j e = e
-    go (Viewed q) j e = e
     go (Settled y) j e = refl
+    go other j e = e
 
 module _ (K : Naming Name Name) (n : Name) where
   pub entry_here : (k : Known Name) (ks : List (Known Name)) → K.same k.name n ≡ true → refs.entry_of K (k ∷ ks) n ≡ Some k
@@ -302,14 +279,7 @@ module _ (script : Script) (honest : ℕ → Bool) (w : World) (v : ℕ) (r s : 
   sent_near : (y : Value Name) → IfGives (Then y Near) (state.enqueue (record m { target = y }) s)
   unfolding state.enqueue aimed
   sent_near (Ref n) = near script honest w v r (record s { queue = s.queue ++ record m { target = Ref n } ∷ [] }) at s.queue (record m { target = Ref n }) n refl refl
-  sent_near Null = doomed_there nowhere
-  sent_near (Flag b) = doomed_there nowhere
-  sent_near (Number z) = doomed_there nowhere
-  sent_near (Letter c) = doomed_there nowhere
-  sent_near (Text t) = doomed_there nowhere
-  sent_near (Prim k) = doomed_there nowhere
-  sent_near (Broken p) = doomed_there nowhere
-  sent_near (Items k) = doomed_there nowhere
+  sent_near other = doomed_there nowhere
 
   sent_mine : (y : Value Name) (n : Name) → Waiting (Mine n) → IfGives (Then y (Mine n)) (state.alter (names script v) (Hold (record m { target = y })) n s)
   unfolding state.alter aimed
@@ -331,15 +301,11 @@ module _ (script : Script) (honest : ℕ → Bool) (w : World) (v : ℕ) (r s : 
 
       go : (p : Name) (d : Done Name (Passeds Name)) → IfGives (PutLast h n) (state.and_then (state.and_then d (λ args. state.◌>>◌ (state.tell (Posted h m.id)) (state.send_out h (Deliver (record { message = m.id; asks = true; answer = Some New }) n m.verb args)))) (λ _. refs.wait_on (names script v) p ((names script v).made (IsAnswer h m.id) (length s.known))))
       go p (Gives args t) = (true, Some New, t.outbox, args, refl)
-      go p (Throws q t) = tt
-      go p (Ejects i z t) = tt
-      go p (Stops c t) = tt
+      go p other = tt
 
       lone : (d : Done Name (Passeds Name)) → IfGives (PutLast h n) (state.and_then d (λ args. state.◌>>◌ (state.tell (Posted h m.id)) (state.send_out h (Deliver (refs.delivery_of (names script v) m) n m.verb args))))
       lone (Gives args t) = (is_some m.answer, m.answer, t.outbox, args, refl)
-      lone (Throws q t) = tt
-      lone (Ejects i z t) = tt
-      lone (Stops c t) = tt
+      lone other = tt
 
       by_answer : (o : Option Name) → IfGives (PutLast h n) (state.for_some o (λ p. state.◌>>=◌ (state.come (names script v) (IsAnswer h m.id) h) (λ a. state.◌>>◌ (refs.deliver (names script v) (record m { answer = Some a }) h n) (refs.wait_on (names script v) p a))) (refs.deliver (names script v) m h n) s)
       by_answer (Some p) = go p (refs.pass_all (names script v) h m.args (record s { known = s.known ++ state.begun ((names script v).made (IsAnswer h m.id) (length s.known)) h ∷ [] }))

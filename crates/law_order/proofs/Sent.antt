@@ -24,33 +24,18 @@ module _ (script : Script) (honest : ℕ → Bool) (w : World) (v : ℕ) (r s : 
   known_leads : (n : Name) (k : Known Name) → of_name script honest v s n (Some k) ≡ by_follow script honest v s (Ref n)
   unfolding of_name
   known_leads (Root h) k = refl
-  known_leads (Object h i) k = refl
-  known_leads (Promise h i) k = refl
-  known_leads (Answer h a) k = refl
-  known_leads (Gift h i) k = refl
-  known_leads (Sent a) k = refl
+  known_leads other k = refl
 
   object_leads : (n : Name) (o : Option (Known Name)) → IsObject n → of_name script honest v s n o ≡ by_follow script honest v s (Ref n)
   unfolding of_name
   object_leads (Object h i) o e = refl
-  object_leads (Root h) o e = absurd e
-  object_leads (Promise h i) o e = absurd e
-  object_leads (Answer h a) o e = absurd e
-  object_leads (Gift h i) o e = absurd e
-  object_leads (Sent a) o e = absurd e
+  object_leads other o e = absurd e
 
   held_leads : (x : Value Name) → IsHeld script honest w v s x → leads_in script honest v s x ≡ by_follow script honest v s x
   unfolding leads_in
   held_leads (Ref n) (inl i) = object_leads n (refs.entry_of K s.known n) i
   held_leads (Ref n) (inr h) = ap (λ o. of_name script honest v s n o) h.1 ∙ known_leads n h.0
-  held_leads Null i = refl
-  held_leads (Flag b) i = refl
-  held_leads (Number z) i = refl
-  held_leads (Letter c) i = refl
-  held_leads (Text p) i = refl
-  held_leads (Prim k) i = refl
-  held_leads (Broken p) i = refl
-  held_leads (Items k) i = refl
+  held_leads other i = refl
 
   pub leads_there : (x : Value Name) → IsHeld script honest w v s x → LeadsAmid script honest w v s v x ≡ aimed v (refs.follow K s x) (refs.place K s (refs.follow K s x))
   unfolding leads leads_at amid by_follow
@@ -60,15 +45,12 @@ module _ (script : Script) (honest : ℕ → Bool) (w : World) (v : ℕ) (r s : 
 
 abbrev IsNone : Spot → Type 0
 IsNone NoObject = Unit {0}
-IsNone (Own k) = ⊥
-IsNone (Foreign g) = ⊥
+IsNone other = ⊥
 
 module _ (script : Script) (honest : ℕ → Bool) (w : World) (v : ℕ) (s : Vat Name) (ready : Ready script honest w v s) where
   abbrev At : Name → Place Name → Type 0
   At n (Mine m) = m ≡ n
-  At n Near = ⊥
-  At n (Away h m o) = ⊥
-  At n (Gone p) = ⊥
+  At n other = ⊥
 
   abbrev Waits : Name → Type 0
   Waits n = (k : Known Name) × (refs.entry_of (names script v) s.known n ≡ Some k) × IsWaiting k.standing
@@ -93,17 +75,12 @@ module _ (script : Script) (honest : ℕ → Bool) (w : World) (v : ℕ) (s : Va
       go : (b : Bool) → elim b [ true ↦ Own i | false ↦ Foreign h ] ≡ NoObject → ⊥
       go true q = subst IsNone (sym q) tt
       go false q = subst IsNone (sym q) tt
-  not_object (Root h) e o = o
-  not_object (Promise h i) e o = o
-  not_object (Answer h a) e o = o
-  not_object (Gift h i) e o = o
-  not_object (Sent a) e o = o
+  not_object other e o = o
 
   spotted_waits : (m n : Name) (q : Spot) → (names script v).spot m ≡ q → IsObject m ⊎ Waits m → At n (refs.spotted (names script v) s m q) → Waits n
   unfolding refs.spotted refs.hosted
-  spotted_waits m n (Own i) e h a = absurd a
-  spotted_waits m n (Foreign g) e h a = absurd a
   spotted_waits m n NoObject e h a = hosted_waits m n (refs.host_at (names script v) s.number s.known m) (s.number == refs.host_at (names script v) s.number s.known m) (λ q. waits_by m n h (not_object m e) q) a
+  spotted_waits m n other e h a = absurd a
 
   placed_waits : (m n : Name) → IsObject m ⊎ Waits m → At n (refs.place (names script v) s (Ref m)) → Waits n
   unfolding refs.place
@@ -118,14 +95,7 @@ module _ (script : Script) (honest : ℕ → Bool) (w : World) (v : ℕ) (s : Va
   fixed_waits : (n : Name) (z : Value Name) → IsFixed (names script v) s z → At n (refs.place (names script v) s (refs.severed (names script v) s z)) → Waits n
   unfolding refs.severed refs.place
   fixed_waits n (Ref m) h a = cut_waits m n ((names script v).spot m) h a
-  fixed_waits n Null h a = absurd a
-  fixed_waits n (Flag b) h a = absurd a
-  fixed_waits n (Number z) h a = absurd a
-  fixed_waits n (Letter c) h a = absurd a
-  fixed_waits n (Text p) h a = absurd a
-  fixed_waits n (Prim k) h a = absurd a
-  fixed_waits n (Broken p) h a = absurd a
-  fixed_waits n (Items k) h a = absurd a
+  fixed_waits n other h a = absurd a
 
   object_stands : (n : Name) → IsObject n → refs.follow_at (names script v) (suc (length s.known)) s.known (Ref n) ≡ Ref n
   unfolding refs.follow_at refs.standing_of refs.standing_in
@@ -135,14 +105,7 @@ module _ (script : Script) (honest : ℕ → Bool) (w : World) (v : ℕ) (s : Va
   unfolding refs.follow_at
   followed_fixed (Ref n) (inl i) = subst (IsFixed (names script v) s) (sym (object_stands n i)) (inl i)
   followed_fixed (Ref n) (inr h) = ready.ends.fixed n h
-  followed_fixed Null i = tt
-  followed_fixed (Flag b) i = tt
-  followed_fixed (Number z) i = tt
-  followed_fixed (Letter c) i = tt
-  followed_fixed (Text p) i = tt
-  followed_fixed (Prim k) i = tt
-  followed_fixed (Broken p) i = tt
-  followed_fixed (Items k) i = tt
+  followed_fixed other i = tt
 
   pub mine_waits : (x : Value Name) (n : Name) → IsHeld script honest w v s x → refs.place (names script v) s (refs.follow (names script v) s x) ≡ Mine n → Waits n
   unfolding refs.follow
@@ -174,9 +137,7 @@ module _ (script : Script) (honest : ℕ → Bool) (w : World) (v act : ℕ) (x 
       where
         go : (d : Done Name (Passeds Name)) → IfGives (PutLast h n) (and_then d (λ ys. tell (Posted h m.id) >> send_out h (Deliver (refs.delivery_of (names script v) m) n m.verb ys)))
         go (Gives ys t) = (t.outbox, ys, refl)
-        go (Throws p t) = tt
-        go (Ejects i z t) = tt
-        go (Stops c t) = tt
+        go other = tt
 
     delivered_ahead : (h : ℕ) (n : Name) (o : Bool) → Honest (Away h n o) → IfGives (Then (Away h n o)) (refs.deliver (names script v) m h n q)
     unfolding aimed
@@ -195,9 +156,7 @@ module _ (script : Script) (honest : ℕ → Bool) (w : World) (v act : ℕ) (x 
   then_gives : {A : Type 0} (P : Vat Name → Type 0) (d : Done Name (Unit {0})) (y : A) → IfGives P d → IfGives P (and_then d (λ _. give y))
   unfolding and_then give
   then_gives P (Gives b t) y h = h
-  then_gives P (Throws p t) y h = tt
-  then_gives P (Ejects i z t) y h = tt
-  then_gives P (Stops c t) y h = tt
+  then_gives P other y h = tt
 
   abbrev New : ℕ → Name
   New h = Answer h (record { sender = v; number = s.messages })

@@ -16,25 +16,14 @@ use Rattle.law_order.proofs.Named.{passes_here, passes_other, passes_queue, pass
 
 abbrev IsData : Value Name → Type 0
 IsData (Ref n) = ⊥
-IsData Null = Unit {0}
-IsData (Flag b) = Unit {0}
-IsData (Number z) = Unit {0}
-IsData (Letter c) = Unit {0}
-IsData (Text p) = Unit {0}
-IsData (Prim k) = Unit {0}
-IsData (Broken p) = Unit {0}
-IsData (Items k) = Unit {0}
+IsData other = Unit {0}
 
 pub ref_same : (n m : Name) → Ref n ≡ Ref m → n ≡ m
 ref_same n m e = ap (λ y. elim y [ Ref k ↦ k | _ ↦ n ]) e
 
 pub is_object : (m : Name) → IsObject m ⊎ (IsObject m → ⊥)
 is_object (Object h i) = inl tt
-is_object (Root h) = inr (λ e. e)
-is_object (Promise h i) = inr (λ e. e)
-is_object (Answer h a) = inr (λ e. e)
-is_object (Gift h i) = inr (λ e. e)
-is_object (Sent a) = inr (λ e. e)
+is_object other = inr (λ e. e)
 
 module _ (K : Naming Name Name) (s t : Vat Name) (p : Name) (y : Value Name) (o : OnlySettles K s t p y) (plain : IsObject p → ⊥) (ended : IsEnded y) (g : FollowsEnd K t) where
   standing_alike : (n : Name) (a b : Option (Known Name)) → StandsAlike n a b → refs.standing_in b ≡ refs.standing_in a
@@ -58,10 +47,9 @@ module _ (K : Naming Name Name) (s t : Vat Name) (p : Name) (y : Value Name) (o 
 
   waits_here : (f : Value Name → Value Name) (n : Name) (q : Standing Name) → IsWaiting q → refs.led K f n q ≡ Ref n
   unfolding refs.led
-  waits_here f n Unsettled h = refl
-  waits_here f n (WaitsOn q) h = refl
   waits_here f n (Viewed q) h = absurd h
   waits_here f n (Settled z) h = absurd h
+  waits_here f n other h = refl
 
   object_waits : (m : Name) → IsObject m → IsWaiting (refs.standing_of K t.known m)
   unfolding refs.standing_of refs.standing_in
@@ -75,22 +63,8 @@ module _ (K : Naming Name Name) (s t : Vat Name) (p : Name) (y : Value Name) (o 
   ended_there : (d : ℕ) (z : Value Name) → IsEnded z → refs.follow_at K d t.known z ≡ z
   unfolding refs.follow_at
   ended_there d (Ref m) i = object_there d m i
-  ended_there zero Null i = refl
-  ended_there zero (Flag b) i = refl
-  ended_there zero (Number z) i = refl
-  ended_there zero (Letter c) i = refl
-  ended_there zero (Text w) i = refl
-  ended_there zero (Prim k) i = refl
-  ended_there zero (Broken w) i = refl
-  ended_there zero (Items k) i = refl
-  ended_there (suc d) Null i = refl
-  ended_there (suc d) (Flag b) i = refl
-  ended_there (suc d) (Number z) i = refl
-  ended_there (suc d) (Letter c) i = refl
-  ended_there (suc d) (Text w) i = refl
-  ended_there (suc d) (Prim k) i = refl
-  ended_there (suc d) (Broken w) i = refl
-  ended_there (suc d) (Items k) i = refl
+  ended_there zero other i = refl
+  ended_there (suc d) other i = refl
 
   -- what is followed in s and in t: not far enough, to p and on to y, or past p
   data Meets : Value Name → Value Name → Type 0 where
@@ -106,8 +80,7 @@ module _ (K : Naming Name Name) (s t : Vat Name) (p : Name) (y : Value Name) (o 
   unfolding refs.led
   other_met f h i n away (Settled z) = i z
   other_met f h i n away (Viewed q) = i (Ref q)
-  other_met f h i n away (WaitsOn q) = missed (λ e. away (ref_same n p e))
-  other_met f h i n away Unsettled = missed (λ e. away (ref_same n p e))
+  other_met f h i n away other = missed (λ e. away (ref_same n p e))
 
   data_met : (x : Value Name) → IsData x → Meets x x
   data_met x i = missed (λ e. subst IsData e i)
@@ -184,14 +157,7 @@ module _ (K : Naming Name Name) (v : ℕ) (p : Name) (e : Place) (u : ℕ) (r : 
   value_stays : (z : Value Name) → (u ≡ v → z ≡ Ref p → ⊥) → Stays (aimed u z (refs.place K r z))
   unfolding aimed refs.place
   value_stays (Ref n) away = spot_stays n (λ i j. away i (ap (λ m. Ref m) j)) (K.spot n)
-  value_stays Null away = passes_nowhere v p e
-  value_stays (Flag b) away = passes_nowhere v p e
-  value_stays (Number z) away = passes_nowhere v p e
-  value_stays (Letter c) away = passes_nowhere v p e
-  value_stays (Text w) away = passes_nowhere v p e
-  value_stays (Prim k) away = passes_nowhere v p e
-  value_stays (Broken w) away = passes_nowhere v p e
-  value_stays (Items k) away = passes_nowhere v p e
+  value_stays other away = passes_nowhere v p e
 
   broken_or : (n : Name) → (u ≡ v → Ref n ≡ Ref p → ⊥) → (c : Bool) → Stays (aimed u (elim c [ true ↦ Broken (codes "partition") | false ↦ Ref n ]) (refs.place K r (elim c [ true ↦ Broken (codes "partition") | false ↦ Ref n ])))
   broken_or n away true = value_stays (Broken (codes "partition")) (λ i j. subst IsData j tt)
@@ -301,32 +267,17 @@ module _ (script : Script) (honest : ℕ → Bool) (v : ℕ) (s t : Vat Name) (p
   severed_same : (z : Value Name) → refs.severed K t z ≡ refs.severed K s z
   unfolding refs.severed
   severed_same (Ref n) = severed_spot n (K.spot n)
-  severed_same Null = refl
-  severed_same (Flag b) = refl
-  severed_same (Number z) = refl
-  severed_same (Letter c) = refl
-  severed_same (Text w) = refl
-  severed_same (Prim k) = refl
-  severed_same (Broken w) = refl
-  severed_same (Items k) = refl
+  severed_same other = refl
 
   spotted_same : (n : Name) (q : Spot) → refs.spotted K t n q ≡ refs.spotted K s n q
   unfolding refs.spotted
-  spotted_same n (Own i) = refl
-  spotted_same n (Foreign h) = refl
   spotted_same n NoObject = ap (λ w. refs.hosted K w n (refs.host_at K t.number t.known n)) g.only.number ∙ ap (λ h. refs.hosted K s.number n h) (hosts n)
+  spotted_same n other = refl
 
   place_same : (z : Value Name) → refs.place K t z ≡ refs.place K s z
   unfolding refs.place
   place_same (Ref n) = spotted_same n (K.spot n)
-  place_same Null = refl
-  place_same (Flag b) = refl
-  place_same (Number z) = refl
-  place_same (Letter c) = refl
-  place_same (Text w) = refl
-  place_same (Prim k) = refl
-  place_same (Broken w) = refl
-  place_same (Items k) = refl
+  place_same other = refl
 
   abbrev Aim : Vat Name → Value Name → Place
   Aim r z = aimed v z (refs.place K r z)
@@ -337,11 +288,7 @@ module _ (script : Script) (honest : ℕ → Bool) (v : ℕ) (s t : Vat Name) (p
   spot_plain : (m : Name) → (IsObject m → ⊥) → K.spot m ≡ NoObject
   unfolding names naming spot_of
   spot_plain (Object h i) e = absurd (e tt)
-  spot_plain (Root h) e = refl
-  spot_plain (Promise h i) e = refl
-  spot_plain (Answer h a) e = refl
-  spot_plain (Gift h i) e = refl
-  spot_plain (Sent a) e = refl
+  spot_plain other e = refl
 
   not_severed : refs.severed K s (Ref p) ≡ Ref p
   unfolding refs.severed refs.severed_at refs.severed_by
@@ -375,29 +322,17 @@ module _ (script : Script) (honest : ℕ → Bool) (v : ℕ) (s t : Vat Name) (p
   of_some : (r : Vat Name) (m : Name) (k : Known Name) → of_name script honest v r m (Some k) ≡ by_follow script honest v r (Ref m)
   unfolding of_name
   of_some r (Root h) k = refl
-  of_some r (Object h i) k = refl
-  of_some r (Promise h i) k = refl
-  of_some r (Answer h a) k = refl
-  of_some r (Gift h i) k = refl
-  of_some r (Sent a) k = refl
+  of_some r other k = refl
 
   of_object : (r : Vat Name) (m : Name) (o : Option (Known Name)) → IsObject m → of_name script honest v r m o ≡ by_follow script honest v r (Ref m)
   unfolding of_name
   of_object r (Object h i) o e = refl
-  of_object r (Root h) o e = absurd e
-  of_object r (Promise h i) o e = absurd e
-  of_object r (Answer h a) o e = absurd e
-  of_object r (Gift h i) o e = absurd e
-  of_object r (Sent a) o e = absurd e
+  of_object r other o e = absurd e
 
   of_none : (r : Vat Name) (m : Name) → (IsObject m → ⊥) → of_name script honest v r m None ≡ by_host v r m (host_of m)
   unfolding of_name
   of_none r (Object h i) e = absurd (e tt)
-  of_none r (Root h) e = refl
-  of_none r (Promise h i) e = refl
-  of_none r (Answer h a) e = refl
-  of_none r (Gift h i) e = refl
-  of_none r (Sent a) e = refl
+  of_none r other e = refl
 
   -- known in both, or in neither
   abbrev Paired : Name → Option (Known Name) → Option (Known Name) → Type 0
@@ -457,14 +392,7 @@ module _ (script : Script) (honest : ℕ → Bool) (v : ℕ) (s t : Vat Name) (p
   ended_leads : (x : Value Name) → IsEnded x → leads_in script honest v t x ≡ aimed_at script v t x
   unfolding leads_in aimed_at by_follow refs.follow refs.follow_at
   ended_leads (Ref n) i = of_object t n (refs.entry_of K t.known n) i ∙ ap (λ z. Aim t (refs.severed K t z)) (ended_there K s t p y g.only g.plain g.ended g.follows (suc (length t.known)) (Ref n) i)
-  ended_leads Null i = refl
-  ended_leads (Flag b) i = refl
-  ended_leads (Number z) i = refl
-  ended_leads (Letter c) i = refl
-  ended_leads (Text w) i = refl
-  ended_leads (Prim k) i = refl
-  ended_leads (Broken w) i = refl
-  ended_leads (Items k) i = refl
+  ended_leads other i = refl
 
   -- and so does what it settled to
   pub settled_leads : leads_in script honest v t y ≡ E
@@ -486,17 +414,14 @@ module _ (script : Script) (honest : ℕ → Bool) (v : ℕ) (s t : Vat Name) (p
 
   -- nowhere, or the end of a queue or of a link
   abbrev Outside : Place → Type 0
-  Outside Nowhere = Unit {0}
   Outside Free = ⊥
-  Outside (End (Queue u) n) = Unit {0}
   Outside (End (Held u q) n) = ⊥
-  Outside (End (Way a b) n) = Unit {0}
   Outside (Mid l b n) = ⊥
+  Outside other = Unit {0}
 
   abbrev IsThing : Spot → Type 0
-  IsThing (Own i) = Unit {0}
-  IsThing (Foreign h) = Unit {0}
   IsThing NoObject = ⊥
+  IsThing other = Unit {0}
 
   thing_spot : (m : Name) → IsObject m → IsThing (K.spot m)
   unfolding names naming spot_of
@@ -505,29 +430,17 @@ module _ (script : Script) (honest : ℕ → Bool) (v : ℕ) (s t : Vat Name) (p
       go : (c : Bool) → IsThing (elim c [ true ↦ Own i | false ↦ Foreign h ])
       go true = tt
       go false = tt
-  thing_spot (Root h) e = absurd e
-  thing_spot (Promise h i) e = absurd e
-  thing_spot (Answer h a) e = absurd e
-  thing_spot (Gift h i) e = absurd e
-  thing_spot (Sent a) e = absurd e
+  thing_spot other e = absurd e
 
   spot_outside : (m : Name) (q : Spot) → IsThing q → Outside (aimed v (Ref m) (refs.spotted K t m q))
   unfolding aimed refs.spotted
-  spot_outside m (Own i) h = tt
-  spot_outside m (Foreign w) h = tt
   spot_outside m NoObject h = absurd h
+  spot_outside m other h = tt
 
   value_outside : (z : Value Name) → IsEnded z → Outside (Aim t z)
   unfolding aimed refs.place
   value_outside (Ref m) i = spot_outside m (K.spot m) (thing_spot m i)
-  value_outside Null i = tt
-  value_outside (Flag b) i = tt
-  value_outside (Number z) i = tt
-  value_outside (Letter c) i = tt
-  value_outside (Text w) i = tt
-  value_outside (Prim k) i = tt
-  value_outside (Broken w) i = tt
-  value_outside (Items k) i = tt
+  value_outside other i = tt
 
   broken_ended : (m : Name) → IsObject m → (c : Bool) → IsEnded (elim c [ true ↦ Broken (codes "partition") | false ↦ Ref m ])
   broken_ended m i true = tt
@@ -542,34 +455,23 @@ module _ (script : Script) (honest : ℕ → Bool) (v : ℕ) (s t : Vat Name) (p
   severed_ended : (z : Value Name) → IsEnded z → IsEnded (refs.severed K t z)
   unfolding refs.severed
   severed_ended (Ref m) i = spot_ended m i (K.spot m)
-  severed_ended Null i = tt
-  severed_ended (Flag b) i = tt
-  severed_ended (Number z) i = tt
-  severed_ended (Letter c) i = tt
-  severed_ended (Text w) i = tt
-  severed_ended (Prim k) i = tt
-  severed_ended (Broken w) i = tt
-  severed_ended (Items k) i = tt
+  severed_ended other i = tt
 
   settled_outside : Outside E
   unfolding aimed_at
   settled_outside = value_outside (refs.severed K t y) (severed_ended y g.ended)
 
   outside_definite : (c : Place) → Outside c → IsDefinite c
-  outside_definite Nowhere h = tt
   outside_definite Free h = h
-  outside_definite (End (Queue u) n) h = tt
   outside_definite (End (Held u q) n) h = absurd h
-  outside_definite (End (Way a b) n) h = tt
   outside_definite (Mid l b n) h = h
+  outside_definite other h = tt
 
   outside_stays : (e c : Place) → Outside c → passed_by v p e c ≡ c
   outside_stays e Nowhere h = passes_nowhere v p e
-  outside_stays e Free h = absurd h
   outside_stays e (End (Queue u) n) h = passes_queue v p e u n
-  outside_stays e (End (Held u q) n) h = absurd h
   outside_stays e (End (Way a b) n) h = passes_way v p e a b n
-  outside_stays e (Mid l b n) h = absurd h
+  outside_stays e other h = absurd h
 
   pub settled_definite : IsDefinite E
   settled_definite = outside_definite E settled_outside

@@ -15,10 +15,8 @@ use Rattle.law_order.proofs.OrderPassing.{settled_is_passed}
 use Rattle.law_order.proofs.Messages.{behind_then, comes_behind}
 
 abbrev IsNotFree : Place → Type 0
-IsNotFree Nowhere = Unit {0}
 IsNotFree Free = ⊥
-IsNotFree (End l n) = Unit {0}
-IsNotFree (Mid l b n) = Unit {0}
+IsNotFree other = Unit {0}
 
 module _ (w u : Ways) (v : ℕ) (p : Name) (e : Place) (g : SentOn w u v p e) where
   doom_not_free : (c : Place) → Doom u c → IsNotFree c
@@ -43,9 +41,8 @@ module _ (w u : Ways) (v : ℕ) (p : Name) (e : Place) (g : SentOn w u v p e) wh
   link_on a b n (inr q) = absurd q.0
 
   beside_on : (l : Lane) (m n : Name) → Follows u (w.onward l m) (w.onward l n) → Follows u (End l m) (End l n)
-  beside_on (Queue a) m n h = one_way tt
-  beside_on (Held a q) m n h = one_way tt
   beside_on (Way a b) m n h = beside (subst (λ c. Follows u c (u.onward (Way a b) n)) (sym (link_on a b m (g.lanes (Way a b) m))) (subst (λ c. Follows u (w.onward (Way a b) m) c) (sym (link_on a b n (g.lanes (Way a b) n))) h))
+  beside_on other m n h = one_way tt
 
   follows_on : (c d : Place) → Follows w c d → Follows u c d
   follows_on c d (doomed h) = doomed (doom_on d h)
@@ -104,9 +101,8 @@ module _ (w : Ways) (v : ℕ) (p : Name) (e : Place) (ready : IsReady w v p e) w
 
   lane_turned : (l : Lane) (n : Name) → Rerouted (w.onward l n) (onward_to w.onward v p e l n)
   unfolding onward_to
-  lane_turned (Queue u) n = stays_so
   lane_turned (Held u q) n = held_turned u q n
-  lane_turned (Way a b) n = stays_so
+  lane_turned other n = stays_so
 
   pub turned : IsTurned w Led
   unfolding led_to onward_to

@@ -33,11 +33,7 @@ delivered_split : (n : Note Name) (ns : List (Note Name)) (x : Item) → IsIn x 
 unfolding delivered
 delivered_split (Deliver m o verb ys) ns x (inl e) = inr (inl e)
 delivered_split (Deliver m o verb ys) ns x (inr h) = inl h
-delivered_split (Open j o) ns x h = inl h
-delivered_split (Ask p j o) ns x h = inl h
-delivered_split (SettledTo o y) ns x h = inl h
-delivered_split (Elsewhere o c) ns x h = inl h
-delivered_split (Shorten o c j) ns x h = inl h
+delivered_split other ns x h = inl h
 
 -- ---- where a note is that is put
 
@@ -280,9 +276,8 @@ module _ (script : Script) (honest : ℕ → Bool) (w : World) (a b c : ℕ) (r 
 
   stands_then : (l : Lane) (x : Item) → IsIn x (stands_at script honest Vats Links l) → IsIn x (stands_at script honest Vats Then l)
   unfolding stands_at
-  stands_then (Queue u) x h = h
-  stands_then (Held u p) x h = h
   stands_then (Way y z) x h = stands_at_link y z Links x h
+  stands_then other x h = h
 
   stands_left : (l : Lane) (x : Item) → IsIn x (stands_at script honest Vats Links l) ⊎ ((l ≡ Way a b) × IsIn x (delivered (Asks ∷ []))) → IsIn x (stands_at script honest Vats Links l)
   unfolding delivered
@@ -366,11 +361,7 @@ module _ (script : Script) (honest : ℕ → Bool) (w : World) (a b c : ℕ) (r 
     unsettled_turns : (u : ℕ) (p : Name) (gs : List (GiftEntry Name)) → Turn (unsettled script honest Vats Kept u p gs) (unsettled script honest Vats Then u p gs)
     unfolding unsettled
     unsettled_turns u (Gift h j) gs = unsettled_if ((h == u) && not (opened_there (Gift h j) gs)) h j
-    unsettled_turns u (Root h) gs = stays_so
-    unsettled_turns u (Object h j) gs = stays_so
-    unsettled_turns u (Promise h j) gs = stays_so
-    unsettled_turns u (Answer h m) gs = stays_so
-    unsettled_turns u (Sent m) gs = stays_so
+    unsettled_turns u other gs = stays_so
 
     leads_turns : (u : ℕ) (x : Value Name) → Turn (leads script honest Vats Kept u x) (leads script honest Vats Then u x)
     unfolding leads

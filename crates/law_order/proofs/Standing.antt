@@ -22,14 +22,7 @@ Queueing x m js = elim x [ Ref n ↦ item m n ∷ js | _ ↦ js ]
 
 queueing_more : (x : Value Name) (m : Name) (js is : List Item) → Queueing x m (js ++ is) ≡ Queueing x m js ++ is
 queueing_more (Ref n) m js is = refl
-queueing_more Null m js is = refl
-queueing_more (Flag b) m js is = refl
-queueing_more (Number z) m js is = refl
-queueing_more (Letter c) m js is = refl
-queueing_more (Text t) m js is = refl
-queueing_more (Prim k) m js is = refl
-queueing_more (Broken p) m js is = refl
-queueing_more (Items k) m js is = refl
+queueing_more other m js is = refl
 
 pub queued_append : (q ms : List (Message Name)) → queued (q ++ ms) ≡ queued q ++ queued ms
 unfolding queued
@@ -48,11 +41,7 @@ held_end n (o ∷ q) m = ap (λ js. item o.id n ∷ js) (held_end n q m)
 delivered_behind : (m : Note Name) (ns ms : List (Note Name)) → delivered (ns ++ ms) ≡ delivered ns ++ delivered ms → delivered (m ∷ (ns ++ ms)) ≡ delivered (m ∷ ns) ++ delivered ms
 unfolding delivered
 delivered_behind (Deliver a b c d) ns ms e = ap (λ js. item a.message b ∷ js) e
-delivered_behind (Open j a) ns ms e = e
-delivered_behind (Ask p j a) ns ms e = e
-delivered_behind (SettledTo a y) ns ms e = e
-delivered_behind (Elsewhere a c) ns ms e = e
-delivered_behind (Shorten a c j) ns ms e = e
+delivered_behind other ns ms e = e
 
 pub delivered_append : (ns ms : List (Note Name)) → delivered (ns ++ ms) ≡ delivered ns ++ delivered ms
 unfolding delivered

@@ -73,9 +73,7 @@ module _ (script : Script) (honest : ℕ → Bool) (w : World) (v : ℕ) (p : Na
   unfolding and_then send_out
   passed_told s h f (Gives z t) a b = let m : Put Name = record { to = h; note = SettledTo p z } in let u : Vat Name = record t { outbox = t.outbox ++ m ∷ [] } in
       (stays_then script honest w v {s = s} {t = t} {u = u} a (stays_quiet script honest w v t u (adds_note N t m tt, refl, refl, refl)), note_follows s t h z b f)
-  passed_told s h f (Throws z t) a b = tt
-  passed_told s h f (Ejects i z t) a b = tt
-  passed_told s h f (Stops c t) a b = tt
+  passed_told s h f other a b = tt
 
   told_near : (s : Vat Name) (h : ℕ) → Follows s → IfGives (Told s) (refs.inform_of N p h y Near s)
   unfolding refs.inform_of ◌>>=◌

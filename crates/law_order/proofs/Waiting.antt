@@ -42,10 +42,8 @@ still_waits p n (Some x) (Some k) h j e i = (k, refl, go h.0)
 
 on_by : (q p n : Name) (k : Known Name) (z : Standing Name) → n ≡ p → z ≡ Unsettled → k.standing ≡ Unsettled → StandsNear p n (Some k) (Some (state.unless_settled z k (record k { standing = WaitsOn q })))
 unfolding state.unless_settled
-on_by q p n k Unsettled e f g = (inr (e, g, tt), refl, refl)
-on_by q p n k (WaitsOn o) e f g = (inr (e, g, tt), refl, refl)
-on_by q p n k (Viewed o) e f g = (inr (e, g, tt), refl, refl)
 on_by q p n k (Settled y) e f g = (inl refl, refl, refl)
+on_by q p n k other e f g = (inr (e, g, tt), refl, refl)
 
 on_near : (q p n : Name) (k : Known Name) → n ≡ p → k.standing ≡ Unsettled → StandsNear p n (Some k) (Some (state.changed (WaitOn q) k))
 unfolding state.changed state.changed_to
@@ -82,14 +80,7 @@ module _ (script : Script) (honest : ℕ → Bool) (w : World) (v : ℕ) (s : Va
 
   fixed_near : (y : Value Name) → IsFixed N s y → IsFixed N Mid y
   fixed_near (Ref m) i = fixed_ref m i
-  fixed_near Null i = tt
-  fixed_near (Flag b) i = tt
-  fixed_near (Number z) i = tt
-  fixed_near (Letter c) i = tt
-  fixed_near (Text t) i = tt
-  fixed_near (Prim j) i = tt
-  fixed_near (Broken t) i = tt
-  fixed_near (Items j) i = tt
+  fixed_near other i = tt
 
   followed_near : (x : Value Name) → refs.follow_at N (suc (length Mid.known)) Mid.known x ≡ refs.follow_at N (suc (length s.known)) s.known x
   followed_near x = follows_alike N p s Mid only_waits (suc (length Mid.known)) x ∙ ap (λ d. refs.follow_at N (suc d) s.known x) only_waits.names_known

@@ -52,14 +52,8 @@ module _ (K : Naming Name Name) (s : Vat Name) where
 -- an object of the vat, broken, or other data but a list
 abbrev IsPassed : Naming Name Name → Value Name → Type 0
 IsPassed K (Ref n) = IsOwnSpot (K.spot n)
-IsPassed K Null = Unit {0}
-IsPassed K (Flag b) = Unit {0}
-IsPassed K (Number z) = Unit {0}
-IsPassed K (Letter c) = Unit {0}
-IsPassed K (Text x) = Unit {0}
-IsPassed K (Prim k) = Unit {0}
-IsPassed K (Broken x) = Unit {0}
 IsPassed K (Items k) = ⊥
+IsPassed K other = Unit {0}
 
 module _ (K : Naming Name Name) (p : Name) (y : Value Name) where
   abbrev Follows : Vat Name → Type 0
@@ -97,48 +91,32 @@ module _ (K : Naming Name Name) (p : Name) (y : Value Name) where
 
 module _ (K : Naming Name Name) (p : Name) (y : Value Name) (plain : IsPassed K y) where
   abbrev IsPlainPlace : refs.Place Name → Type 0
-  IsPlainPlace Near = Unit {0}
   IsPlainPlace (Mine n) = ⊥
   IsPlainPlace (Away h n o) = ⊥
-  IsPlainPlace (Gone x) = Unit {0}
+  IsPlainPlace other = Unit {0}
 
   spot_place : (s : Vat Name) (n : Name) (q : Spot) → IsOwnSpot q → IsPlainPlace (refs.spotted K s n q)
   unfolding refs.spotted
   spot_place s n (Own i) h = tt
-  spot_place s n (Foreign g) h = absurd h
-  spot_place s n NoObject h = absurd h
+  spot_place s n other h = absurd h
 
   plain_place : (s : Vat Name) (z : Value Name) → IsPassed K z → IsPlainPlace (refs.place K s z)
   unfolding refs.place
   plain_place s (Ref n) h = spot_place s n (K.spot n) h
-  plain_place s Null h = tt
-  plain_place s (Flag b) h = tt
-  plain_place s (Number z) h = tt
-  plain_place s (Letter c) h = tt
-  plain_place s (Text x) h = tt
-  plain_place s (Prim k) h = tt
-  plain_place s (Broken x) h = tt
   plain_place s (Items k) h = absurd h
+  plain_place s other h = tt
 
   -- what passes for it
   plain_parcel : (s : Vat Name) (z : Value Name) → IsPassed K z → refs.parcel_at K s z ≡ record { weight = refs.own_weight z; value = Plain z }
   unfolding refs.parcel_at
-  plain_parcel s (Ref n) h = refl
-  plain_parcel s Null h = refl
-  plain_parcel s (Flag b) h = refl
-  plain_parcel s (Number z) h = refl
-  plain_parcel s (Letter c) h = refl
-  plain_parcel s (Text x) h = refl
-  plain_parcel s (Prim k) h = refl
-  plain_parcel s (Broken x) h = refl
   plain_parcel s (Items k) h = absurd h
+  plain_parcel s other h = refl
 
   plain_address : (s : Vat Name) (h : ℕ) (q : refs.Place Name) → IsPlainPlace q → refs.address_plain K h y q s ≡ Gives (Plain y) s
   unfolding refs.address_plain state.give
-  plain_address s h Near i = refl
   plain_address s h (Mine n) i = absurd i
   plain_address s h (Away g n o) i = absurd i
-  plain_address s h (Gone x) i = refl
+  plain_address s h other i = refl
 
   addressed : (s : Vat Name) (h : ℕ) → refs.address K h (Plain y) s ≡ Gives (Plain y) s
   unfolding refs.address state.◌>>=◌ state.and_then state.look
@@ -160,10 +138,9 @@ module _ (K : Naming Name Name) (p : Name) (y : Value Name) (plain : IsPassed K 
 
   informed_of : (s : Vat Name) (h : ℕ) (q : refs.Place Name) → IsPlainPlace q → Follows K p y s → IfGives (Told K p y s) (refs.inform_of K p h y q s)
   unfolding refs.inform_of
-  informed_of s h Near i f = told_of s h f
   informed_of s h (Mine n) i f = absurd i
   informed_of s h (Away g n o) i f = absurd i
-  informed_of s h (Gone x) i f = told_of s h f
+  informed_of s h other i f = told_of s h f
 
   informed_if : (s : Vat Name) (h : ℕ) (c : Bool) → Follows K p y s → IfGives (Told K p y s) ((if c then state.give tt else refs.inform_of K p h y (refs.place K s y)) s)
   unfolding state.give
@@ -179,14 +156,7 @@ module _ (K : Naming Name Name) (p : Name) (y : Value Name) (plain : IsPassed K 
 
 abbrev IsUnlisted : Value Name → Type 0
 IsUnlisted (Items k) = ⊥
-IsUnlisted (Ref n) = Unit {0}
-IsUnlisted Null = Unit {0}
-IsUnlisted (Flag b) = Unit {0}
-IsUnlisted (Number z) = Unit {0}
-IsUnlisted (Letter c) = Unit {0}
-IsUnlisted (Text x) = Unit {0}
-IsUnlisted (Prim k) = Unit {0}
-IsUnlisted (Broken x) = Unit {0}
+IsUnlisted other = Unit {0}
 
 module _ (K : Naming Name Name) (p : Name) (y : Value Name) where
   informed_spot : (n : Name) (q : Spot) → y ≡ Ref n → K.spot n ≡ q → IsObjectSpot q → (s : Vat Name) (h : ℕ) → Follows K p y s → IfGives (Told K p y s) (refs.inform K p h s)
@@ -196,14 +166,8 @@ module _ (K : Naming Name Name) (p : Name) (y : Value Name) where
 
   informed_by : (z : Value Name) → y ≡ z → IsUnlisted z → IsPlain K z → (s : Vat Name) (h : ℕ) → Follows K p y s → IfGives (Told K p y s) (refs.inform K p h s)
   informed_by (Ref n) e l i = informed_spot n (K.spot n) e refl i
-  informed_by Null e l i = λ s h f. informed K p y (subst (λ z. IsPassed K z) (sym e) tt) s h f
-  informed_by (Flag b) e l i = λ s h f. informed K p y (subst (λ z. IsPassed K z) (sym e) tt) s h f
-  informed_by (Number j) e l i = λ s h f. informed K p y (subst (λ z. IsPassed K z) (sym e) tt) s h f
-  informed_by (Letter c) e l i = λ s h f. informed K p y (subst (λ z. IsPassed K z) (sym e) tt) s h f
-  informed_by (Text x) e l i = λ s h f. informed K p y (subst (λ z. IsPassed K z) (sym e) tt) s h f
-  informed_by (Prim k) e l i = λ s h f. informed K p y (subst (λ z. IsPassed K z) (sym e) tt) s h f
-  informed_by (Broken x) e l i = λ s h f. informed K p y (subst (λ z. IsPassed K z) (sym e) tt) s h f
   informed_by (Items k) e l i = absurd l
+  informed_by other e l i = λ s h f. informed K p y (subst (λ z. IsPassed K z) (sym e) tt) s h f
 
 -- ---- the whole
 
@@ -335,36 +299,15 @@ module _ (script : Script) (honest : ℕ → Bool) (w : World) (v : ℕ) where
 
       abbrev Needs : Value Name → Vat Name → Type 0
       Needs (Items j) s = Ready script honest w v s
-      Needs (Ref n) s = Unit {0}
-      Needs Null s = Unit {0}
-      Needs (Flag b) s = Unit {0}
-      Needs (Number j) s = Unit {0}
-      Needs (Letter c) s = Unit {0}
-      Needs (Text x) s = Unit {0}
-      Needs (Prim j) s = Unit {0}
-      Needs (Broken x) s = Unit {0}
+      Needs other s = Unit {0}
 
       needs : (x : Value Name) (s t : Vat Name) → ReadyFor script honest w v s x → (Ready script honest w v s → Ready script honest w v t) → Needs x t
       needs (Items j) s t q f = f q
-      needs (Ref n) s t q f = tt
-      needs Null s t q f = tt
-      needs (Flag b) s t q f = tt
-      needs (Number j) s t q f = tt
-      needs (Letter c) s t q f = tt
-      needs (Text x) s t q f = tt
-      needs (Prim j) s t q f = tt
-      needs (Broken x) s t q f = tt
+      needs other s t q f = tt
 
       tells_of : (x : Value Name) → y ≡ x → (p : Name) (hs : List ℕ) (s : Vat Name) → Needs x s → Follows K p y s → IfGives (λ t. Kept s t) (state.each (refs.inform K p) hs s)
       tells_of (Items j) e p hs s q h = tells_list j e p hs s q h
-      tells_of (Ref n) e p hs s q h = tells (subst IsUnlisted (sym e) tt) p hs s h
-      tells_of Null e p hs s q h = tells (subst IsUnlisted (sym e) tt) p hs s h
-      tells_of (Flag b) e p hs s q h = tells (subst IsUnlisted (sym e) tt) p hs s h
-      tells_of (Number j) e p hs s q h = tells (subst IsUnlisted (sym e) tt) p hs s h
-      tells_of (Letter c) e p hs s q h = tells (subst IsUnlisted (sym e) tt) p hs s h
-      tells_of (Text x) e p hs s q h = tells (subst IsUnlisted (sym e) tt) p hs s h
-      tells_of (Prim j) e p hs s q h = tells (subst IsUnlisted (sym e) tt) p hs s h
-      tells_of (Broken x) e p hs s q h = tells (subst IsUnlisted (sym e) tt) p hs s h
+      tells_of other e p hs s q h = tells (subst IsUnlisted (sym e) tt) p hs s h
 
       pub known_kept : (p : Name) (k : Known Name) (s : Vat Name) → refs.entry_of K s.known p ≡ Some k → KnownWell script honest w v y R settle p k s → IfGives (λ t. Kept s t) (refs.settle_known K settle p y k s)
       unfolding refs.settle_known state.◌>>◌ state.and_then state.tell state.alter
@@ -381,9 +324,7 @@ module _ (script : Script) (honest : ℕ → Bool) (w : World) (v : ℕ) where
       stands_kept : (p : Name) (k : Known Name) (s : Vat Name) (q : Standing Name) → refs.entry_of K s.known p ≡ Some k → StandsWell script honest w v y R settle p k q s → IfGives (λ t. Kept s t) (refs.settle_standing K settle p y k q s)
       unfolding refs.settle_standing state.give
       stands_kept p k s (Settled z) e h = kept_self s
-      stands_kept p k s Unsettled e h = known_kept p k s e h
-      stands_kept p k s (WaitsOn q) e h = known_kept p k s e h
-      stands_kept p k s (Viewed q) e h = known_kept p k s e h
+      stands_kept p k s other e h = known_kept p k s e h
 
       entry_kept : (p : Name) (s : Vat Name) (o : Option (Known Name)) → refs.entry_of K s.known p ≡ o → EntryWell script honest w v y R settle p o s → IfGives (λ t. Kept s t) (refs.settle_entry K settle p y o s)
       unfolding refs.settle_entry state.give
@@ -397,14 +338,7 @@ module _ (script : Script) (honest : ℕ → Bool) (w : World) (v : ℕ) where
         go : (c : Bool) → IsPlain K (refs.cut_cycle K c (Items j))
         go true = tt
         go false = tt
-    target_plain s p (Ref n) h = h
-    target_plain s p Null h = h
-    target_plain s p (Flag b) h = h
-    target_plain s p (Number j) h = h
-    target_plain s p (Letter c) h = h
-    target_plain s p (Text x) h = h
-    target_plain s p (Prim j) h = h
-    target_plain s p (Broken x) h = h
+    target_plain s p other h = h
 
     pub target_honest : (s : Vat Name) (p : Name) (z : Value Name) → IsHonestTo script honest v z → IsHonestTo script honest v (refs.target_of K s p z)
     unfolding refs.target_of refs.cut_cycle
@@ -413,14 +347,7 @@ module _ (script : Script) (honest : ℕ → Bool) (w : World) (v : ℕ) where
         go : (c : Bool) → IsHonestTo script honest v (refs.cut_cycle K c (Items j))
         go true = tt
         go false = tt
-    target_honest s p (Ref n) h = h
-    target_honest s p Null h = h
-    target_honest s p (Flag b) h = h
-    target_honest s p (Number j) h = h
-    target_honest s p (Letter c) h = h
-    target_honest s p (Text x) h = h
-    target_honest s p (Prim j) h = h
-    target_honest s p (Broken x) h = h
+    target_honest s p other h = h
 
     settlings : (y : Value Name) → IsPlain K y → IsHonestTo script honest v y → (d : ℕ) (p : Name) (s : Vat Name) → SettlesWell script honest w v y d p s → IfGives (λ t. Kept s t) (refs.settle_at K d p y s)
     unfolding refs.settle_at refs.settle_one state.stop state.◌>>=◌ state.and_then state.look

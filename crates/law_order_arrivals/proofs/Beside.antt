@@ -124,11 +124,10 @@ module _ (script : Script) (honest : ℕ → Bool) (w : World) (v h : ℕ) (r s 
 
   lane_behind : (l : Lane) (k m : Name) → owned l k ≡ true → Follows W (W.onward l k) (W.onward l m) → Follows U (End l k) (End l m)
   unfolding owned
-  lane_behind (Queue u) k m e f = one_way tt
-  lane_behind (Held u q) k m e f = one_way tt
   lane_behind (Way a b) k m e f = let l = Way a b in
       beside (subst (λ c. Follows U c (U.onward l m)) (sym (is_now l k)) (subst (λ d. Follows U (onward_at script honest Vats' Links l k) d) (sym (is_now l m))
       (links_behind a b k m (eqb-true (host_of k) b e) (subst (λ c. Follows W c (onward_at script honest Vats Links l m)) (was l k) (subst (λ d. Follows W (W.onward l k) d) (was l m) f)))))
+  lane_behind other k m e f = one_way tt
 
   onward_kept : (l : Lane) (m : Name) → StaysBehind W U (W.onward l m) (U.onward l m)
   onward_kept l m = subst (λ c. StaysBehind W U c (U.onward l m)) (sym (was l m)) (subst (λ d. StaysBehind W U (onward_at script honest Vats Links l m) d) (sym (is_now l m))

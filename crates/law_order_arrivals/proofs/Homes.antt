@@ -48,21 +48,13 @@ module _ (script : Script) (honest : ℕ → Bool) (h i : ℕ) (s : Vat Name) (n
 pub object_leads : (script : Script) (honest : ℕ → Bool) (h : ℕ) (s : Vat Name) (o : Name) → IsObject o → host_of o ≡ h → refs.entry_of (names script h) s.known o ≡ None → leads_in script honest h s (Ref o) ≡ End (Queue h) o
 unfolding host_of
 object_leads script honest h s (Object a i) j e none = subst (λ z. refs.entry_of (names script h) s.known (Object z i) ≡ None → leads_in script honest h s (Ref (Object z i)) ≡ End (Queue h) (Object z i)) (sym e) (λ q. home_leads script honest h i s q) none
-object_leads script honest h s (Root a) j e none = absurd j
-object_leads script honest h s (Promise a i) j e none = absurd j
-object_leads script honest h s (Answer a m) j e none = absurd j
-object_leads script honest h s (Gift a i) j e none = absurd j
-object_leads script honest h s (Sent m) j e none = absurd j
+object_leads script honest h s other j e none = absurd j
 
 -- it is an object of another vat there
 pub object_far : (script : Script) (v h : ℕ) (o : Name) → IsObject o → host_of o ≡ h → (v == h) ≡ false → (names script v).spot o ≡ Foreign h
 unfolding names naming spot_of host_of
 object_far script v h (Object a i) j e f = subst (λ z. elim (v == z) [ true ↦ Own i | false ↦ Foreign z ] ≡ Foreign h) (sym e) (ap (λ c. elim c [ true ↦ Own i | false ↦ Foreign h ]) f)
-object_far script v h (Root a) j e f = absurd j
-object_far script v h (Promise a i) j e f = absurd j
-object_far script v h (Answer a m) j e f = absurd j
-object_far script v h (Gift a i) j e f = absurd j
-object_far script v h (Sent m) j e f = absurd j
+object_far script v h other j e f = absurd j
 
 -- ---- where a link between honest vats leads: nowhere by any name, or to where the receiver has the name
 

@@ -11,14 +11,12 @@ use Rattle.law_order.specs.Places.{aimed, by_host, by_follow, of_name, leads_in}
 use Rattle.law_order_arrivals.specs.Tellings.{HostsAreTold}
 
 abbrev IsForeign : Spot → Type 0
-IsForeign (Own i) = ⊥
 IsForeign (Foreign h) = Unit {0}
-IsForeign NoObject = ⊥
+IsForeign other = ⊥
 
 abbrev vat_of : ℕ → Spot → ℕ
-vat_of d (Own i) = d
 vat_of d (Foreign h) = h
-vat_of d NoObject = d
+vat_of d other = d
 
 object_host : (u w i h : ℕ) (c : Bool) → elim c [ true ↦ Own i | false ↦ Foreign w ] ≡ Foreign h → w ≡ h
 object_host u w i h true e = absurd (subst IsForeign (sym e) tt)
@@ -28,11 +26,7 @@ object_host u w i h false e = ap (λ q. vat_of w q) e
 foreign_host : (script : Script) (u : ℕ) (m : Name) (h : ℕ) → (names script u).spot m ≡ Foreign h → host_of m ≡ h
 unfolding names naming spot_of host_of
 foreign_host script u (Object w i) h e = object_host u w i h (u == w) e
-foreign_host script u (Root w) h e = absurd (subst IsForeign (sym e) tt)
-foreign_host script u (Promise w i) h e = absurd (subst IsForeign (sym e) tt)
-foreign_host script u (Answer w a) h e = absurd (subst IsForeign (sym e) tt)
-foreign_host script u (Gift w i) h e = absurd (subst IsForeign (sym e) tt)
-foreign_host script u (Sent a) h e = absurd (subst IsForeign (sym e) tt)
+foreign_host script u other h e = absurd (subst IsForeign (sym e) tt)
 
 -- P is to hold of the places of vat u, where what goes out does so on names of which Q holds, to their hosts.
 module _ (script : Script) (honest : ℕ → Bool) (u : ℕ) (s : Vat Name) (told : HostsAreTold (names script u) s) (P : Place → Type 0) (Q : Name → Type 0)
@@ -69,14 +63,7 @@ module _ (script : Script) (honest : ℕ → Bool) (u : ℕ) (s : Vat Name) (tol
   value_has : (z : Value Name) → Fine z → P (aimed u z (refs.place K s z))
   unfolding aimed refs.place
   value_has (Ref m) f = spot_has m (f m refl) (K.spot m) refl
-  value_has Null f = nowhere_has
-  value_has (Flag b) f = nowhere_has
-  value_has (Number z) f = nowhere_has
-  value_has (Letter c) f = nowhere_has
-  value_has (Text w) f = nowhere_has
-  value_has (Prim k) f = nowhere_has
-  value_has (Broken w) f = nowhere_has
-  value_has (Items k) f = nowhere_has
+  value_has other f = nowhere_has
 
   broken_has : P (aimed u (Broken (codes "partition")) (refs.place K s (Broken (codes "partition"))))
   unfolding aimed refs.place

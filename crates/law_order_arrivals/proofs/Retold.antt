@@ -82,9 +82,8 @@ module _ (Good : Lane → Name → Bool) (w u : Ways) (g : IsRetold Good w u) wh
   -- ---- what follows
 
   pub aside : (l : Lane) (m n : Name) → Good l m ≡ true → Good l n ≡ true → Follows u (w.onward l m) (w.onward l n) → Follows u (End l m) (End l n)
-  aside (Queue v) m n i j f = one_way tt
-  aside (Held v p) m n i j f = one_way tt
   aside (Way a b) m n i j f = beside (subst (λ c. Follows u c (u.onward (Way a b) n)) (sym (g.links a b m i)) (subst (λ d. Follows u (w.onward (Way a b) m) d) (sym (g.links a b n j)) f))
+  aside other m n i j f = one_way tt
 
   pub follows_kept : (c d : Place) → IsGoodPlace Good c → IsGoodPlace Good d → Follows w c d → Follows u c d
   follows_kept c d i j (doomed h) = doomed ((kept d d j j stays_so).0 h)

@@ -224,12 +224,8 @@ module _ (script : Script) (honest : ℕ → Bool) (w : World) (v h : ℕ) (r s 
 
     place_turns : (c : Place) → IsGood c → Reroutes W U c (F c)
     unfolding told_by
-    place_turns Nowhere i = stays_so
-    place_turns Free i = stays_so
-    place_turns (Mid l b m) i = stays_so
-    place_turns (End (Queue u) m) i = stays_so
-    place_turns (End (Held u q) m) i = stays_so
     place_turns (End (Way a b) m) i = way_turns a b m (Test v n a m) refl i
+    place_turns other i = stays_so
 
     pub leads_turn : (u : ℕ) (x : Value Name) → Reroutes W U (leads script honest Vats Links u x) (leads script honest Vats' Links u x)
     leads_turn u x = subst (λ d. Reroutes W U (leads script honest Vats Links u x) d) (sym (leads_told u x)) (place_turns (leads script honest Vats Links u x) (leads_good script honest Vats Links hosts bring u x))
@@ -244,11 +240,7 @@ module _ (script : Script) (honest : ℕ → Bool) (w : World) (v h : ℕ) (r s 
     loose : (m : Name) → host_of m ≡ h → (gs : List (GiftEntry Name)) → unsettled script honest Vats Links v m gs ≡ Free
     unfolding unsettled host_of
     loose (Gift d i) e gs = ap (λ c. elim (c && not (opened_there (Gift d i) gs)) [ true ↦ gift_place script honest d i Links | false ↦ Free ]) (ne_eqb d v (λ q. g.other (sym e ∙ q)))
-    loose (Root d) e gs = refl
-    loose (Object d i) e gs = refl
-    loose (Promise d i) e gs = refl
-    loose (Answer d a) e gs = refl
-    loose (Sent a) e gs = refl
+    loose other e gs = refl
 
     loose_there : released script honest Vats Links v n s.gifts (refs.standing_of K s.known n) ≡ Free
     unfolding released
@@ -293,9 +285,8 @@ module _ (script : Script) (honest : ℕ → Bool) (w : World) (v h : ℕ) (r s 
 
     one_owned : (l : Lane) (m : Name) → IsOneWay l → owned l m ≡ true
     unfolding owned
-    one_owned (Queue u) m i = refl
-    one_owned (Held u q) m i = refl
     one_owned (Way a b) m i = absurd i
+    one_owned other m i = refl
 
     way_is : (a b : ℕ) (m : Name) → owned (Way a b) m ≡ true → host_of m ≡ b
     unfolding owned

@@ -56,11 +56,7 @@ one_good l j e i (inr k) = absurd k
 delivered_one : (a b : ℕ) (n : Note Name) → IsNoteFor b n → AllGood (Way a b) (delivered (n ∷ []))
 unfolding delivered
 delivered_one a b (Deliver m n verb ys) e = one_good (Way a b) (record { mail = m.message; aim = n }) (owned_way a b n e)
-delivered_one a b (Open j n) e = λ i h. absurd h
-delivered_one a b (Ask p j n) e = λ i h. absurd h
-delivered_one a b (SettledTo n y) e = λ i h. absurd h
-delivered_one a b (Elsewhere n c) e = λ i h. absurd h
-delivered_one a b (Shorten n c j) e = λ i h. absurd h
+delivered_one a b other e = λ i h. absurd h
 
 delivered_good : (a b : ℕ) (ns : List (Note Name)) → AreNotesFor b ns → AllGood (Way a b) (delivered ns)
 unfolding delivered
@@ -78,12 +74,9 @@ IsGoodOption None = Unit {0}
 
 lane_good : (a b : ℕ) (js : List Item) (n : Note Name) → IsNoteFor b n → AllGood (Way a b) js → IsGoodOption (in_lane (Way a b) js (subject n))
 unfolding in_lane subject
-lane_good a b js (Deliver m n verb ys) e f = tt
 lane_good a b js (Open j n) e f = (owned_way a b n e, f)
-lane_good a b js (Ask p j n) e f = tt
-lane_good a b js (SettledTo n y) e f = tt
-lane_good a b js (Elsewhere n c) e f = tt
 lane_good a b js (Shorten n c j) e f = (owned_way a b n e, f)
+lane_good a b js other e f = tt
 
 note_good : (f : Note Name → Bool) (a b : ℕ) (js : List Item) (ns : List (Note Name)) → AreNotesFor b ns → AllGood (Way a b) js → IsGoodOption (note_place f (Way a b) js ns)
 unfolding note_place
@@ -155,11 +148,7 @@ module _ (script : Script) (honest : ℕ → Bool) where
     unsettled_good : (u : ℕ) (p : Name) (gs : List (GiftEntry Name)) → IsGood (unsettled script honest vats links u p gs)
     unfolding unsettled
     unsettled_good u (Gift h i) gs = unsettled_if ((h == u) && not (opened_there (Gift h i) gs)) h i
-    unsettled_good u (Root h) gs = tt
-    unsettled_good u (Object h i) gs = tt
-    unsettled_good u (Promise h i) gs = tt
-    unsettled_good u (Answer h m) gs = tt
-    unsettled_good u (Sent m) gs = tt
+    unsettled_good u other gs = tt
 
     released_good : (u : ℕ) (p : Name) (gs : List (GiftEntry Name)) (q : Standing Name) → IsGood (released script honest vats links u p gs q)
     unfolding released

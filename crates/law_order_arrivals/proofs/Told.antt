@@ -54,14 +54,7 @@ module _ (v : ℕ) (n : Name) (e : Place) where
 
 abbrev IsRef : Value Name → Type 0
 IsRef (Ref n) = Unit {0}
-IsRef Null = ⊥
-IsRef (Flag b) = ⊥
-IsRef (Number z) = ⊥
-IsRef (Letter c) = ⊥
-IsRef (Text p) = ⊥
-IsRef (Prim k) = ⊥
-IsRef (Broken p) = ⊥
-IsRef (Items k) = ⊥
+IsRef other = ⊥
 
 no_ref : (x : Value Name) (n : Name) → (IsRef x → ⊥) → x ≡ Ref n → ⊥
 no_ref x n f e = f (subst IsRef (sym e) tt)
@@ -69,11 +62,7 @@ no_ref x n f e = f (subst IsRef (sym e) tt)
 pub spot_plain : (script : Script) (u : ℕ) (m : Name) → (IsObject m → ⊥) → (names script u).spot m ≡ NoObject
 unfolding names naming spot_of
 spot_plain script u (Object h i) e = absurd (e tt)
-spot_plain script u (Root h) e = refl
-spot_plain script u (Promise h i) e = refl
-spot_plain script u (Answer h a) e = refl
-spot_plain script u (Gift h i) e = refl
-spot_plain script u (Sent a) e = refl
+spot_plain script u other e = refl
 
 -- whether it is that name
 pub is_name : (m n : Name) → (m ≡ n) ⊎ (m ≡ n → ⊥)
@@ -110,10 +99,9 @@ module _ (script : Script) (honest : ℕ → Bool) (v h : ℕ) (s t : Vat Name) 
 
   led_on : (f : Value Name → Value Name) (q : Standing Name) → LeadsOnTo y q → refs.led K f n q ≡ f y
   unfolding refs.led
-  led_on f (Settled z) i = ap f i
-  led_on f (Viewed z) i = ap f i
   led_on f (WaitsOn z) i = absurd i
   led_on f Unsettled i = absurd i
+  led_on f other i = ap f i
 
   -- what is followed in s and in t: not far enough, to n and on to y, or past n
   data Meets : Value Name → Value Name → Type 0 where
@@ -130,8 +118,7 @@ module _ (script : Script) (honest : ℕ → Bool) (v h : ℕ) (s t : Vat Name) 
   unfolding refs.led
   other_met f j i m away (Settled z) = i z
   other_met f j i m away (Viewed q) = i (Ref q)
-  other_met f j i m away (WaitsOn q) = missed (λ e. away (ref_same m n e))
-  other_met f j i m away Unsettled = missed (λ e. away (ref_same m n e))
+  other_met f j i m away other = missed (λ e. away (ref_same m n e))
 
   data_met : (x : Value Name) → (IsRef x → ⊥) → Meets x x
   data_met x i = missed (λ e. no_ref x n i e)
@@ -167,10 +154,9 @@ module _ (script : Script) (honest : ℕ → Bool) (v h : ℕ) (s t : Vat Name) 
 
   -- n is no end any more
   not_led : (q : Standing Name) → LeadsOnTo y q → IsWaiting q → ⊥
-  not_led (Settled z) i j = j
-  not_led (Viewed z) i j = j
   not_led (WaitsOn z) i j = i
   not_led Unsettled i j = i
+  not_led other i j = j
 
   not_fixed : IsFixed K t (Ref n) → ⊥
   not_fixed (inl i) = g.plain i
@@ -218,32 +204,17 @@ module _ (script : Script) (honest : ℕ → Bool) (v h : ℕ) (s t : Vat Name) 
   severed_same : (z : Value Name) → refs.severed K t z ≡ refs.severed K s z
   unfolding refs.severed
   severed_same (Ref m) = severed_spot m (K.spot m)
-  severed_same Null = refl
-  severed_same (Flag b) = refl
-  severed_same (Number z) = refl
-  severed_same (Letter c) = refl
-  severed_same (Text w) = refl
-  severed_same (Prim k) = refl
-  severed_same (Broken w) = refl
-  severed_same (Items k) = refl
+  severed_same other = refl
 
   spotted_same : (m : Name) (q : Spot) → refs.spotted K t m q ≡ refs.spotted K s m q
   unfolding refs.spotted
-  spotted_same m (Own i) = refl
-  spotted_same m (Foreign d) = refl
   spotted_same m NoObject = ap (λ w. refs.hosted K w m (refs.host_at K t.number t.known m)) g.only.number ∙ ap (λ d. refs.hosted K s.number m d) (hosts_same m)
+  spotted_same m other = refl
 
   place_same : (z : Value Name) → refs.place K t z ≡ refs.place K s z
   unfolding refs.place
   place_same (Ref m) = spotted_same m (K.spot m)
-  place_same Null = refl
-  place_same (Flag b) = refl
-  place_same (Number z) = refl
-  place_same (Letter c) = refl
-  place_same (Text w) = refl
-  place_same (Prim k) = refl
-  place_same (Broken w) = refl
-  place_same (Items k) = refl
+  place_same other = refl
 
   abbrev E : Place
   E = aimed_at script v t y
@@ -304,29 +275,17 @@ module _ (script : Script) (honest : ℕ → Bool) (v h : ℕ) (s t : Vat Name) 
   pub of_some : (r : Vat Name) (m : Name) (k : Known Name) → of_name script honest v r m (Some k) ≡ by_follow script honest v r (Ref m)
   unfolding of_name
   of_some r (Root d) k = refl
-  of_some r (Object d i) k = refl
-  of_some r (Promise d i) k = refl
-  of_some r (Answer d a) k = refl
-  of_some r (Gift d i) k = refl
-  of_some r (Sent a) k = refl
+  of_some r other k = refl
 
   pub of_object : (r : Vat Name) (m : Name) (o : Option (Known Name)) → IsObject m → of_name script honest v r m o ≡ by_follow script honest v r (Ref m)
   unfolding of_name
   of_object r (Object d i) o e = refl
-  of_object r (Root d) o e = absurd e
-  of_object r (Promise d i) o e = absurd e
-  of_object r (Answer d a) o e = absurd e
-  of_object r (Gift d i) o e = absurd e
-  of_object r (Sent a) o e = absurd e
+  of_object r other o e = absurd e
 
   pub of_none : (r : Vat Name) (m : Name) → (IsObject m → ⊥) → of_name script honest v r m None ≡ by_host v r m (host_of m)
   unfolding of_name
   of_none r (Object d i) e = absurd (e tt)
-  of_none r (Root d) e = refl
-  of_none r (Promise d i) e = refl
-  of_none r (Answer d a) e = refl
-  of_none r (Gift d i) e = refl
-  of_none r (Sent a) e = refl
+  of_none r other e = refl
 
   -- known in both, or in neither
   abbrev Paired : Name → Option (Known Name) → Option (Known Name) → Type 0

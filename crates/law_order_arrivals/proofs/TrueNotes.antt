@@ -29,9 +29,7 @@ use Rattle.law_order_arrivals.proofs.Telling.{hosts, bring, mine, own_stays, lea
 
 abbrev IsEnd : Place → Type 0
 IsEnd (End l n) = Unit {0}
-IsEnd Nowhere = ⊥
-IsEnd Free = ⊥
-IsEnd (Mid l b n) = ⊥
+IsEnd other = ⊥
 
 -- behind what is in a queue nothing follows but what is in it
 queue_follows : (w : Ways) (h a b : ℕ) (k o : Name) → Follows w (End (Queue h) k) (End (Way a b) o) → Doom w (End (Way a b) o)
@@ -171,11 +169,7 @@ module _ (script : Script) (honest : ℕ → Bool) (w : World) (v h : ℕ) (r s 
     -- what a name of the vat's own leads to: at another vat an object
     abbrev IsAway : Place → Type 0
     IsAway (End (Way a b) k) = IsObject k ⊎ (b ≡ v)
-    IsAway (End (Queue u) k) = Unit {0}
-    IsAway (End (Held u q) k) = Unit {0}
-    IsAway Nowhere = Unit {0}
-    IsAway Free = Unit {0}
-    IsAway (Mid l b k) = Unit {0}
+    IsAway other = Unit {0}
 
     abbrev IsOwn : Name → Type 0
     IsOwn k = IsObject k ⊎ (host_of k ≡ v)

@@ -137,14 +137,7 @@ module _ (script : Script) (honest : ℕ → Bool) (w : World) (v h : ℕ) (r s 
   value_learnt : (z : Value Name) → arriving.learn_value (names script v) (known_value z) s ≡ state.Gives z s
   unfolding arriving.learn_value arriving.learn_name known_value state.◌>>=◌ state.and_then state.give
   value_learnt Null = refl
-  value_learnt (Flag b) = refl
-  value_learnt (Number z) = refl
-  value_learnt (Letter a) = refl
-  value_learnt (Text p) = refl
-  value_learnt (Prim j) = refl
-  value_learnt (Broken p) = refl
-  value_learnt (Items j) = refl
-  value_learnt (Ref m) = refl
+  value_learnt other = refl
 
   known_learnt : (from : ℕ) → arriving.learn (names script v) from (state.Plain (known_value x)) s ≡ state.Gives x s
   unfolding arriving.learn

@@ -44,15 +44,11 @@ module _ (script : Script) (honest : ℕ → Bool) (w : World) (a b p i : ℕ) (
 
   comes : (d : Done Name (Unit {0})) → After (StaysReady script honest w b) Start d → IfGives Comes d
   comes (Gives x t) g = leaves_then t (firm_grown script honest w b Start t (g ready).1)
-  comes (Throws x t) g = tt
-  comes (Ejects j x t) g = tt
-  comes (Stops q t) g = tt
+  comes other g = tt
 
   kept_comes : (d : Done Name (Unit {0})) → IfGives (λ t. Ready script honest w b t × Firm (WaysAmid script honest w b Start) (WaysAmid script honest w b t) (LeadsAmid script honest w b Start) (LeadsAmid script honest w b t)) d → IfGives Comes d
   kept_comes (Gives x t) g = leaves_then t g.1
-  kept_comes (Throws x t) g = tt
-  kept_comes (Ejects j x t) g = tt
-  kept_comes (Stops q t) g = tt
+  kept_comes other g = tt
 
   -- the same gifts stand as the step begins
   spared : NoOldBreaks script b h.borne.vat p i → NoOldBreaks script b Start p i

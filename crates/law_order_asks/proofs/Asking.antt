@@ -39,9 +39,7 @@ module _ (script : Script) (honest : ℕ → Bool) (w : World) (v : ℕ) where
   tells_asker : (n : Name) (to : ℕ) (t : Standing Name) → Keeps R (arrive.tell_asker K n to t)
   unfolding arrive.tell_asker
   tells_asker n to (Settled y) = informs K R (stays script honest w v) (stays_pass script honest w v) puts n to
-  tells_asker n to Unsettled = to_tell to n
-  tells_asker n to (WaitsOn q) = to_tell to n
-  tells_asker n to (Viewed q) = to_tell to n
+  tells_asker n to other = to_tell to n
 
   pub tell_now : (n : Name) (to : ℕ) → Keeps R (look (λ s. refs.standing_of K s.known n) >>= (λ t. arrive.tell_asker K n to t))
   tell_now n to = let base = stays script honest w v in keeps_bind R base (keeps_look R base _) (λ t. tells_asker n to t)
@@ -66,9 +64,7 @@ module _ (script : Script) (honest : ℕ → Bool) (w : World) (v : ℕ) where
 
   abbrev pub Gave : Vat Name → Done Name Name → Type 0
   Gave s (Gives n t) = Has s t
-  Gave s (Throws p t) = ⊥
-  Gave s (Ejects i y t) = ⊥
-  Gave s (Stops c t) = ⊥
+  Gave s other = ⊥
 
   pub makes : (s : Vat Name) (p i : ℕ) → Gave s (arrive.gift_or_new K v p i None s)
   unfolding arrive.gift_or_new ◌>>=◌ ◌>>◌ and_then come new_gift give names naming name_of host_of
@@ -99,9 +95,7 @@ module _ (script : Script) (honest : ℕ → Bool) (w : World) (v : ℕ) where
   asked_then : (from p i : ℕ) (s : Vat Name) (d : Done Name Name) → is_in p s.noticed ≡ false → Gave s d → After R s (and_then d (λ n. arrive.break_orphan K p i n >> (look (λ t. refs.standing_of K t.known n) >>= (λ t. arrive.tell_asker K n from t))))
   unfolding and_then
   asked_then from p i s (Gives n t) e h = widen R (stays script honest w v) h.0 _ (no_orphan p i n t _ (ap (λ ws. is_in p ws) h.1 ∙ e) ((tell_now n from).after t))
-  asked_then from p i s (Throws x t) e h = absurd h
-  asked_then from p i s (Ejects j y t) e h = absurd h
-  asked_then from p i s (Stops c t) e h = absurd h
+  asked_then from p i s other e h = absurd h
 
   pub asks : (from p i : ℕ) (s : Vat Name) → s.number ≡ v → is_in p s.noticed ≡ false → After R s (arrive.arrive_ask K from p i s)
   unfolding arrive.arrive_ask ◌>>=◌

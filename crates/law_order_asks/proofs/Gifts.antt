@@ -39,18 +39,12 @@ module _ (script : Script) (honest : ℕ → Bool) (w : World) (v : ℕ) (s : Va
     unsettled_same : (q : Name) → unsettled script honest vs ls v q Given.gifts ≡ unsettled script honest vs ls v q s.gifts
     unfolding unsettled
     unsettled_same (Gift h j) = ap (λ c. elim ((h == v) && not c) [ true ↦ gift_place script honest h j ls | false ↦ Free ]) (opened_same (Gift h j) s.gifts)
-    unsettled_same (Root h) = refl
-    unsettled_same (Object h j) = refl
-    unsettled_same (Promise h j) = refl
-    unsettled_same (Answer h m) = refl
-    unsettled_same (Sent m) = refl
+    unsettled_same other = refl
 
     released_same : (q : Name) (z : Standing Name) → released script honest vs ls v q Given.gifts z ≡ released script honest vs ls v q s.gifts z
     unfolding released
     released_same q Unsettled = unsettled_same q
-    released_same q (WaitsOn z) = refl
-    released_same q (Viewed z) = refl
-    released_same q (Settled z) = refl
+    released_same q other = refl
 
     mine : (q : Name) → released_at script honest vs ls v q (Some Given) ≡ released_at script honest vs ls v q (Some s)
     unfolding released_at

@@ -68,9 +68,7 @@ module _ (script : Script) (honest : ℕ → Bool) (w : World) (v : ℕ) (r : Va
 
   kept_then : (t : Vat Name) (d : Done Name (Unit {0})) → Kept t → After R t d → IfGives Kept d
   kept_then t (Gives x u) k g = let h = g k.0 in (h.0, firm_then (W s) (W t) (W u) (L s) (L t) (L u) k.1 (firm_grown script honest w v t u h.1))
-  kept_then t (Throws x u) k g = tt
-  kept_then t (Ejects j x u) k g = tt
-  kept_then t (Stops c u) k g = tt
+  kept_then t other k g = tt
 
   kept_self : Kept s
   kept_self = let h = stays_self script honest w v s ready in (h.0, firm_grown script honest w v s s h.1)

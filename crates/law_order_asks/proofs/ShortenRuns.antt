@@ -48,11 +48,7 @@ module _ (script : Script) (b : ℕ) (s : Vat Name) where
   far_host : (o : Name) → IsObject o → (h : ℕ) (q : Name) (c : Bool) → place K s (severed K s (Ref o)) ≡ Away h q c → h ≡ host_of o
   unfolding severed names naming spot_of host_of
   far_host (Object g i) p h q c e = severed_host g i h q c (b == g) e
-  far_host (Root g) p h q c e = absurd p
-  far_host (Promise g i) p h q c e = absurd p
-  far_host (Answer g m) p h q c e = absurd p
-  far_host (Gift g i) p h q c e = absurd p
-  far_host (Sent m) p h q c e = absurd p
+  far_host other p h q c e = absurd p
 
   module _ (objects : (o : Name) → IsObject o → entry_of K s.known o ≡ None) where
     object_ends : (d : ℕ) (o : Name) → IsObject o → follow_at K d s.known (Ref o) ≡ Ref o

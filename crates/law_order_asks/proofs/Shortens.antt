@@ -152,14 +152,11 @@ module _ (script : Script) (honest : ℕ → Bool) (w : World) (a b c i : ℕ) (
 
     answers : (p : refs.Place Name) → refs.place K t (refs.follow K t (Ref n)) ≡ p → IfGives Comes (arrive.shorten_to K i p t)
     unfolding arrive.shorten_to send_out give aimed
-    answers Near e = shut
-    answers (Mine m) e = shut
-    answers (Away g q false) e = shut
-    answers (Gone x) e = shut
     answers (Away g q true) e =
         let lead : leads_in script honest b t (Ref n) ≡ End (Way b g) q = learnt_leads script honest b t n known ∙ ap (λ z. aimed b (refs.follow K t (Ref n)) z) e in
         let to : g ≡ c = h.bears.onward g q (sym lead_was ∙ lead) in
         subst (λ z. Comes (record t { outbox = t.outbox ++ record { to = z; note = Open i q } ∷ [] })) (sym to) (opened q (subst (λ z. leads_in script honest b t (Ref n) ≡ End (Way b z) q) to lead))
+    answers other e = shut
 
   -- ---- the whole arrival
 
@@ -168,9 +165,7 @@ module _ (script : Script) (honest : ℕ → Bool) (w : World) (a b c i : ℕ) (
   unfolding and_then ◌>>=◌ look
   after (Gives x t) g e = subst (λ m. IfGives Comes (arrive.shorten_to K i (refs.place K t (refs.follow K t (Ref m))) t)) (sym g.0)
       (answers t (g.1.0 h.ready) e (learnt_in script b t Ns n h.message g.1.1.0) (refs.place K t (refs.follow K t (Ref n))) refl)
-  after (Throws x t) g e = tt
-  after (Ejects j x t) g e = tt
-  after (Stops q t) g e = tt
+  after other g e = tt
 
   pub shortens : IfGives Comes (steps.Arrival script honest w a b Asks h.bears.borne)
   unfolding arrive.arrive arrive.arrive_shorten read_note ◌>>=◌ world.read_name

@@ -67,9 +67,8 @@ module _ (script : Script) (honest : ℕ → Bool) (a b : ℕ) (m : Note Name) (
 
   stands_on : (w : World) (t : Vat Name) (l : Lane) → (ways script honest (amid b t (keeping a b m w))).stands l ≡ (ways script honest (amid b t w)).stands l
   unfolding ways ways_of stands_at amid keeping
-  stands_on w t (Queue u) = refl
-  stands_on w t (Held u p) = refl
   stands_on w t (Way x y) = ap (λ ls. Stands (world.link_at x y ls)) (all_put_on a b b m t.outbox w.links) ∙ stands_without x y (world.push_all b t.outbox w.links)
+  stands_on w t other = refl
 
 -- ---- the step
 
@@ -166,9 +165,7 @@ module _ (script : Script) (honest : ℕ → Bool) (w : World) (a b : ℕ) (m : 
   ended : (y : World) (head : List Event) (k : ℕ) (d : Done Name (Unit {0})) → IfGives Comes d → world.put_back b Bare head k d ≡ Goes y → StepKeeps script honest w y
   unfolding world.put_back
   ended y head k (Gives x t) g e = subst (λ z. StepKeeps script honest w z) (goes_is (Then head t) y e) (after head t g)
-  ended y head k (Throws x t) g e = cc
-  ended y head k (Ejects j x t) g e = cc
-  ended y head k (Stops q t) g e = cc
+  ended y head k other g e = cc
 
   abbrev head_of : ℕ → List Event
   head_of k = Carried k a b m (world.next_frame a b Bare.connections) ∷ []

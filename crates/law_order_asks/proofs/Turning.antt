@@ -17,18 +17,12 @@ module _ (script : Script) (honest : ℕ → Bool) (vs : List (Vat Name)) (ks ls
   unsettled_turns : (v : ℕ) (p : Name) (gs : List (GiftEntry Name)) → Reroutes w u (unsettled script honest vs ks v p gs) (unsettled script honest vs ls v p gs)
   unfolding unsettled
   unsettled_turns v (Gift g j) gs = unsettled_if ((g == v) && not (opened_there (Gift g j) gs)) g j
-  unsettled_turns v (Root g) gs = stays_so
-  unsettled_turns v (Object g j) gs = stays_so
-  unsettled_turns v (Promise g j) gs = stays_so
-  unsettled_turns v (Answer g m) gs = stays_so
-  unsettled_turns v (Sent m) gs = stays_so
+  unsettled_turns v other gs = stays_so
 
   released_turns : (v : ℕ) (p : Name) (gs : List (GiftEntry Name)) (x : Standing Name) → Reroutes w u (released script honest vs ks v p gs x) (released script honest vs ls v p gs x)
   unfolding released leads
   released_turns v p gs Unsettled = unsettled_turns v p gs
-  released_turns v p gs (WaitsOn z) = stays_so
-  released_turns v p gs (Viewed z) = stays_so
-  released_turns v p gs (Settled y) = stays_so
+  released_turns v p gs other = stays_so
 
   held_turns : (v : ℕ) (p : Name) (o : Option (Vat Name)) → Reroutes w u (released_at script honest vs ks v p o) (released_at script honest vs ls v p o)
   unfolding released_at

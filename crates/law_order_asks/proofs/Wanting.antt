@@ -18,11 +18,7 @@ use Rattle.law_order_cuts.proofs.Counts.{letting_put, counts_one}
 -- Of a note from v to w that asks w so, P holds, or w is v itself.
 abbrev pub Asked : (ℕ → Note Name → Type 0) → ℕ → ℕ → Note Name → Type 0
 Asked P v w (Shorten n c i) = (v ≡ w) ⊎ P w (Shorten n c i)
-Asked P v w (Deliver m n verb ys) = Unit {0}
-Asked P v w (Open i n) = Unit {0}
-Asked P v w (Ask p i n) = Unit {0}
-Asked P v w (SettledTo n y) = Unit {0}
-Asked P v w (Elsewhere n c) = Unit {0}
+Asked P v w other = Unit {0}
 
 abbrev pub AllAsked : (ℕ → Note Name → Type 0) → ℕ → List (Put Name) → Type 0
 AllAsked P v ps = AllOf (λ (p : Put Name). Asked P v p.to p.note) ps
@@ -40,11 +36,7 @@ module _ (P : ℕ → Note Name → Type 0) (v : ℕ) where
 
   asked_by : (F : ℕ → ℕ) (d e : List ℕ) (w : ℕ) (m : Note Name) → ((x : ℕ) → (IsAmong x d → ⊥) → F x ≡ v) → ((i : ℕ) → 1 ≤ once (lets_go i m) → IsAmong (word_of i) d → ⊥) → Provides F e v w m → Asked P v w m
   asked_by F d e w (Shorten n c i) new words h = inl (sym (new (word_of i) (words i (let one = counts_one (lets_go i (Shorten n c i)) (shorten_lets n c i) in omega arith))) ∙ h.1)
-  asked_by F d e w (Deliver m n verb ys) new words h = tt
-  asked_by F d e w (Open i n) new words h = tt
-  asked_by F d e w (Ask p i n) new words h = tt
-  asked_by F d e w (SettledTo n y) new words h = tt
-  asked_by F d e w (Elsewhere n c) new words h = tt
+  asked_by F d e w other new words h = tt
 
   pub all_asked : (F : ℕ → ℕ) (d e : List ℕ) (ps : List (Put Name)) → ((x : ℕ) → (IsAmong x d → ⊥) → F x ≡ v) → NewWords d ps → Each (λ (p : Put Name). Provides F e v p.to p.note) ps → AllAsked P v ps
   unfolding letting_put
@@ -102,10 +94,7 @@ module _ (P : ℕ → Note Name → Type 0) (v : ℕ) where
     shorten_after : (i : ℕ) (p : refs.Place Name) (s : Vat Name) → After V s (arrive.shorten_to K i p s)
     unfolding arrive.shorten_to send_out give
     shorten_after i (Away h n true) s = λ k. all_end (λ (q : Put Name). Asked P v q.to q.note) s.outbox (record { to = h; note = Open i n }) k tt
-    shorten_after i (Away h n false) s = λ k. k
-    shorten_after i Near s = λ k. k
-    shorten_after i (Mine n) s = λ k. k
-    shorten_after i (Gone x) s = λ k. k
+    shorten_after i other s = λ k. k
 
     pub wish_after : (z : Incoming Name Name) (i : ℕ) (s : Vat Name) → After V s (arrive.arrive_shorten K z i s)
     unfolding arrive.arrive_shorten arrive.learn_name ◌>>=◌ and_then look give come naming name_of

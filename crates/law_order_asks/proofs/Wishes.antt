@@ -52,11 +52,7 @@ module _ (script : Script) where
   -- its name settled at w, to an object of that vat
   abbrev pub IsTrue : List (Vat Name) → ℕ → Note Name → Type 0
   IsTrue vats w (Shorten n c i) = NoteTrue script vats w (Elsewhere n c)
-  IsTrue vats w (Deliver m n verb ys) = Unit {0}
-  IsTrue vats w (Open i n) = Unit {0}
-  IsTrue vats w (Ask p i n) = Unit {0}
-  IsTrue vats w (SettledTo n y) = Unit {0}
-  IsTrue vats w (Elsewhere n c) = Unit {0}
+  IsTrue vats w other = Unit {0}
 
   -- and no link leads from a vat to itself
   abbrev LinkTrue : List (Vat Name) → Link → Type 0
@@ -116,11 +112,7 @@ module _ (script : Script) where
     asked_on : (u x : ℕ) (m : Note Name) → Asked (IsTrue w.vats) u x m → Asked (IsTrue Vats) u x m
     asked_on u x (Shorten n c i) (inl e) = inl e
     asked_on u x (Shorten n c i) (inr h) = inr (note_on script w.vats v s t d.there lasts x (Elsewhere n c) h)
-    asked_on u x (Deliver m n verb ys) h = tt
-    asked_on u x (Open i n) h = tt
-    asked_on u x (Ask p i n) h = tt
-    asked_on u x (SettledTo n y) h = tt
-    asked_on u x (Elsewhere n c) h = tt
+    asked_on u x other h = tt
 
     stepped : (ls : List Link) → AllAsked (IsTrue Vats) v t.outbox → AllOf (LinkTrue w.vats) ls → AllOf (LinkTrue Vats) (world.push_all v t.outbox ls)
     stepped ls out h = pushes_true Vats v t.outbox ls out (all_map (λ l i. (i.0, all_map (λ m j. asked_on l.from l.to m j) l.notes i.1)) ls h)

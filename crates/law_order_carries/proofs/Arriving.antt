@@ -17,14 +17,7 @@ use Rattle.law_order_carries.specs.Carries.{IsNoName}
 -- a name, or none
 pub name_or : (y : Value Name) → ((o : Name) × (y ≡ Ref o)) ⊎ IsNoName y
 name_or (Ref o) = inl (o, refl)
-name_or Null = inr tt
-name_or (Flag c) = inr tt
-name_or (Number z) = inr tt
-name_or (Letter c) = inr tt
-name_or (Text t) = inr tt
-name_or (Prim k) = inr tt
-name_or (Broken t) = inr tt
-name_or (Items k) = inr tt
+name_or other = inr tt
 
 pub end_nowhere : (l : Lane) (o : Name) → End l o ≡ Nowhere → ⊥
 end_nowhere l o e = cc
@@ -49,17 +42,10 @@ nowhere_way v h q e = cc
 pub aimed_back : (v h : ℕ) (q : Name) (y : Value Name) (p : refs.Place Name) → aimed v y p ≡ End (Way v h) q → (o : Bool) × (p ≡ Away h q o)
 unfolding aimed
 aimed_back v h q (Ref o) Near e = absurd (queue_way v h o q e)
-aimed_back v h q Null Near e = absurd (nowhere_way v h q e)
-aimed_back v h q (Flag c) Near e = absurd (nowhere_way v h q e)
-aimed_back v h q (Number z) Near e = absurd (nowhere_way v h q e)
-aimed_back v h q (Letter c) Near e = absurd (nowhere_way v h q e)
-aimed_back v h q (Text t) Near e = absurd (nowhere_way v h q e)
-aimed_back v h q (Prim k) Near e = absurd (nowhere_way v h q e)
-aimed_back v h q (Broken t) Near e = absurd (nowhere_way v h q e)
-aimed_back v h q (Items k) Near e = absurd (nowhere_way v h q e)
 aimed_back v h q y (Mine o) e = absurd (held_way v h o q e)
 aimed_back v h q y (Away g o c) e = let i = same_end v h g q o e in (c, ap (λ z. Away z o c) i.0 ∙ ap (λ z. Away h z c) i.1)
 aimed_back v h q y (Gone t) e = absurd (nowhere_way v h q e)
+aimed_back v h q other Near e = absurd (nowhere_way v h q e)
 
 -- who hosts what is away is another
 module _ (script : Script) (b : ℕ) (s : Vat Name) (own : s.number ≡ b) where
@@ -68,9 +54,7 @@ module _ (script : Script) (b : ℕ) (s : Vat Name) (own : s.number ≡ b) where
 
   abbrev IsOther : refs.Place Name → Type 0
   IsOther (Away h q o) = h ≡ b → ⊥
-  IsOther Near = Unit {0}
-  IsOther (Mine q) = Unit {0}
-  IsOther (Gone t) = Unit {0}
+  IsOther other = Unit {0}
 
   false_true : false ≡ true → ⊥
   false_true e = cc
@@ -103,14 +87,7 @@ module _ (script : Script) (b : ℕ) (s : Vat Name) (own : s.number ≡ b) where
   place_other : (y : Value Name) → IsOther (refs.place N s y)
   unfolding refs.place
   place_other (Ref m) = spot_other m
-  place_other Null = tt
-  place_other (Flag c) = tt
-  place_other (Number z) = tt
-  place_other (Letter c) = tt
-  place_other (Text t) = tt
-  place_other (Prim k) = tt
-  place_other (Broken t) = tt
-  place_other (Items k) = tt
+  place_other other = tt
 
   pub away_other : (y : Value Name) (h : ℕ) (q : Name) (o : Bool) → refs.place N s y ≡ Away h q o → h ≡ b → ⊥
   away_other y h q o e = subst IsOther e (place_other y)

@@ -203,15 +203,11 @@ module _ (script : Script) (honest : ℕ → Bool) (w : World) (a b : ℕ) (r : 
 
     to_ends : (e : Done Name (Unit {0})) → Yields (λ x u. Ends s u) e → IfGives (Ends s) e
     to_ends (Gives x u) h = h
-    to_ends (Throws p u) h = tt
-    to_ends (Ejects i x u) h = tt
-    to_ends (Stops c u) h = tt
+    to_ends other h = tt
 
     from_ends : (e : Done Name (Unit {0})) → IfGives (Ends s) e → Yields (λ x u. Ends s u) e
     from_ends (Gives x u) h = h
-    from_ends (Throws p u) h = tt
-    from_ends (Ejects i x u) h = tt
-    from_ends (Stops c u) h = tt
+    from_ends other h = tt
 
     abbrev Learn : Vat Name → List Name → Vat Name → Type 0
     Learn t ns u = Learns script honest Full b r b msg t ns u

@@ -14,10 +14,7 @@ module _ (K : Naming Name Name) (R : Vat Name → Vat Name → Type 0) (base : I
   informs_of : (p : Name) (to : ℕ) (y : Value Name) (q : Place Name) → Keeps R (refs.inform_of K p to y q)
   unfolding refs.inform_of
   informs_of p to y (Away h n true) = puts to (Elsewhere p h) tt
-  informs_of p to y (Away h n false) = tells p to y
-  informs_of p to y (Mine n) = tells p to y
-  informs_of p to y Near = tells p to y
-  informs_of p to y (Gone t) = tells p to y
+  informs_of p to y other = tells p to y
 
   pub informs : (p : Name) (to : ℕ) → Keeps R (refs.inform K p to)
   unfolding refs.inform

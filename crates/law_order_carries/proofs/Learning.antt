@@ -32,16 +32,12 @@ use Rattle.law_order_carries.specs.Carries.{IsNotNext, ValueNotNext, PassedNotNe
 -- what holds of what it gives and of the state then, where it gives
 abbrev pub Yields : {A : Type 0} → (A → Vat Name → Type 0) → Done Name A → Type 0
 Yields P (Gives a t) = P a t
-Yields P (Throws p t) = Unit {0}
-Yields P (Ejects n y t) = Unit {0}
-Yields P (Stops c t) = Unit {0}
+Yields P other = Unit {0}
 
 pub yields_bind : {A B : Type 0} (P : A → Vat Name → Type 0) (Q : B → Vat Name → Type 0) (d : Done Name A) (f : A → Act Name B) → Yields P d → ((a : A) (t : Vat Name) → P a t → Yields Q (f a t)) → Yields Q (and_then d f)
 unfolding and_then
 yields_bind P Q (Gives a t) f h k = k a t h
-yields_bind P Q (Throws p t) f h k = tt
-yields_bind P Q (Ejects n y t) f h k = tt
-yields_bind P Q (Stops c t) f h k = tt
+yields_bind P Q other f h k = tt
 
 pub differs : (a b : Name) → (a ≡ b → ⊥) → same_reference a b ≡ false
 differs a b f = go (same_reference a b) refl
@@ -66,11 +62,7 @@ gift_is_new v s g x h i = (λ e. gift_answer h i g x e, λ m e. gift_sent h i m 
 unknown_plain : (ns : List Name) (n : Name) → world.is_old ns n ≡ false → IsObject n → ⊥
 unfolding world.is_old
 unknown_plain ns (Object w i) e o = cc
-unknown_plain ns (Root w) e o = o
-unknown_plain ns (Promise w i) e o = o
-unknown_plain ns (Answer w m) e o = o
-unknown_plain ns (Gift w i) e o = o
-unknown_plain ns (Sent m) e o = o
+unknown_plain ns other e o = o
 
 module _ (script : Script) (v : ℕ) where
   abbrev N : Naming Name Name
@@ -173,14 +165,7 @@ module _ (script : Script) (honest : ℕ → Bool) (w : World) (v : ℕ) where
     learn_value : (s : Vat Name) (ns : List Name) (y : Value Name) → ValueNotNext v r Bar y → IsAt ns s → Yields (λ x t. Learns s (world.read_value ns y).known t) (arrive.learn_value K (world.read_value ns y).read s)
     unfolding world.read_value arrive.learn_value give ◌>>=◌
     learn_value s ns (Ref n) new at = yields_bind (λ x t. (x ≡ n) × Learns s (world.known_after ns n) t) (λ x t. Learns s (world.known_after ns n) t) (arrive.learn_name K (world.read_name ns n) s) (λ m. give (Ref m)) (learn_name s ns n new at) (λ x t h. h.1)
-    learn_value s ns Null new at = (stays_self script honest w v s, at)
-    learn_value s ns (Flag b) new at = (stays_self script honest w v s, at)
-    learn_value s ns (Number z) new at = (stays_self script honest w v s, at)
-    learn_value s ns (Letter c) new at = (stays_self script honest w v s, at)
-    learn_value s ns (Text t) new at = (stays_self script honest w v s, at)
-    learn_value s ns (Prim k) new at = (stays_self script honest w v s, at)
-    learn_value s ns (Broken p) new at = (stays_self script honest w v s, at)
-    learn_value s ns (Items k) new at = (stays_self script honest w v s, at)
+    learn_value s ns other new at = (stays_self script honest w v s, at)
 
     -- a gift of a host that was not noticed is asked for
     asks_gift : (s : Vat Name) (ns : List Name) (p h i : ℕ) → is_in h r.noticed ≡ false → IsAt ns s → Yields (λ x t. Learns s (ns ++ Gift h i ∷ []) t) (arrive.learn_gift K p h i s)
@@ -299,9 +284,7 @@ module _ (script : Script) (honest : ℕ → Bool) (w : World) (v : ℕ) where
 
     yields_more : {A : Type 0} (s t : Vat Name) (ms : List Name) (d : Done Name A) → R s t → Yields (λ x u. Learns t ms u) d → Yields (λ x u. Learns s ms u) d
     yields_more s t ms (Gives a u) g h = learns_then s t ms u g h
-    yields_more s t ms (Throws p u) g h = tt
-    yields_more s t ms (Ejects n y u) g h = tt
-    yields_more s t ms (Stops c u) g h = tt
+    yields_more s t ms other g h = tt
 
     learn_list : (s : Vat Name) (ns : List Name) (ys : List (Value Name)) → IsAt ns s → Yields (λ x t. Learns s ns t) (arrive.make_list K ys s)
     unfolding arrive.make_list new_list tell give ◌>>=◌ ◌>>◌ and_then

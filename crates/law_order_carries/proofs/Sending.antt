@@ -174,8 +174,7 @@ module _ (script : Script) (honest : ℕ → Bool) (w : World) (a b : ℕ) (r : 
   ends_by : (s t : Vat Name) (c : Place) → GoesTo (W s) (Y t) From I c → MovesLast (W s) (Y t) From I c → FirstLeft (W s) (Y t) From I → ((z : ℕ) (x : Value Name) → L t z x ≡ L s z x) → (c ≡ Nowhere → IsOut t) → Ends s t
   ends_by s t (End l o) g m f same out = inl (leaves_carries (W s) (Y t) (L s) (L t) From I (goes_on_leaves (W s) (Y t) a b l I o g f) same (lacks s), (l, (W s).stands l, o, record { behind = []; found = m.0 }, m.1))
   ends_by s t Nowhere g m f same out = inr (inl (out refl, λ h. leaves_carries (W s) (Y t) (L s) (L t) From I (lost_leaves (W s) (Y t) a b I (g h) f) same (lacks s)))
-  ends_by s t Free g m f same out = absurd g
-  ends_by s t (Mid l c o) g m f same out = absurd g
+  ends_by s t other g m f same out = absurd g
 
   -- ---- passing
 
@@ -338,9 +337,6 @@ module _ (script : Script) (honest : ℕ → Bool) (w : World) (a b : ℕ) (r : 
     delivers on s ready known lead = go (refs.pass_all K h x.args s) ((passes_all h x.args).after s)
       where
         go : (e : Done Name (Passeds Name)) → After Passes s e → IfGives (GoesOut s) (and_then e (λ zs. tell (Posted h x.id) >> send_out h (Deliver (refs.delivery_of K x) q x.verb zs)))
-        go (Throws p t) f = tt
-        go (Ejects i z t) f = tt
-        go (Stops c t) f = tt
         go (Gives zs t) f =
             let u : Vat Name = record t { happened = t.happened ++ Posted h x.id ∷ [] } in
             let g : Passes s u = passes.trans {s = s} {t = t} {u = u} f (passes.happened t (Posted h x.id)) in
@@ -349,6 +345,7 @@ module _ (script : Script) (honest : ℕ → Bool) (w : World) (a b : ℕ) (r : 
             let out = puts_out u both.0 (learnt_on s u g.1 known) (grown_leads s u both.1 b (Ref n) ∙ lead) zs on line in
             let v : Vat Name = record u { outbox = u.outbox ++ record { to = h; note = Deliver (refs.delivery_of K x) q x.verb zs } ∷ [] } in
             (ends_before s u v both.1 out.0, refers_then K s u v g.1 out.1)
+        go other f = tt
 
   -- ---- its answer waits
 
@@ -392,9 +389,7 @@ module _ (script : Script) (honest : ℕ → Bool) (w : World) (a b : ℕ) (r : 
 
   pub ends_map : (s t : Vat Name) (e : Done Name (Unit {0})) → Grown script honest Full b s t → IfGives (Ends t) e → IfGives (Ends s) e
   ends_map s t (Gives x u) g h = ends_before s t u g h
-  ends_map s t (Throws p u) g h = tt
-  ends_map s t (Ejects i y u) g h = tt
-  ends_map s t (Stops c u) g h = tt
+  ends_map s t other g h = tt
 
   -- ---- a message with an answer is put on
 
@@ -445,9 +440,7 @@ module _ (script : Script) (honest : ℕ → Bool) (w : World) (a b : ℕ) (r : 
         where
           go : (e : Done Name (Unit {0})) → IfGives (GoesOut h q (record x { answer = Some z }) id s) e → IfGives (Ends s) (and_then e (λ _. refs.wait_on K Own z))
           go (Gives y t) g = let k = entry_on s t g.1 asked in waits_out s t b msg z k.0 k.1 k.2 g.0
-          go (Throws p t) g = tt
-          go (Ejects i y t) g = tt
-          go (Stops c t) g = tt
+          go other g = tt
 
       next_known : (s : Vat Name) → Ready script honest Full b s → IsBefore s → IsLearnt b script s n → IsAsked s → L s b (Ref n) ≡ End (Way b h) q
           → IfGives (Ends s) (and_then (refs.deliver K (record x { answer = Some (Answer h msg) }) h q (record s { known = s.known ++ begun (Answer h msg) h ∷ [] })) (λ _. refs.wait_on K Own (Answer h msg)))
@@ -478,9 +471,7 @@ module _ (script : Script) (honest : ℕ → Bool) (w : World) (a b : ℕ) (r : 
         where
           less : (e : Done Name (Unit {0})) → IfGives (GoesOut h q x id s) e → IfGives (Ends s) e
           less (Gives y t) g = g.0
-          less (Throws p t) g = tt
-          less (Ejects i y t) g = tt
-          less (Stops c t) g = tt
+          less other g = tt
 
     -- ---- it is sent on
 
@@ -572,9 +563,7 @@ module _ (script : Script) (honest : ℕ → Bool) (w : World) (a b : ℕ) (r : 
 
         informed_ends : (e : Done Name (Unit {0})) → After Passes Broke0 e → IfGives (Ends s) e
         informed_ends (Gives x u) g = lost_then u g
-        informed_ends (Throws q u) g = tt
-        informed_ends (Ejects i y u) g = tt
-        informed_ends (Stops c u) g = tt
+        informed_ends other g = tt
 
         broken_ends : IfGives (Ends s) (refs.settle K Own (Broken p) Told)
         broken_ends = subst (λ e. IfGives (Ends s) e) (sym (settles_so K b Told Own p fresh_told)) (informed_ends (each (refs.inform K Own) entry.told Broke0) ((passes_informs Own entry.told).after Broke0))

@@ -229,9 +229,7 @@ module _ (script : Script) (honest : ℕ → Bool) (w : World) (a b : ℕ) (d : 
   ended : (y : World) (head : List Event) (k : ℕ) (e : Done Name (Unit {0})) → IfGives Ends e → world.put_back b Bare head k e ≡ Goes y → CarryEnds script honest w y a b I
   unfolding world.put_back
   ended y head k (Gives x u) h e = subst (λ z. CarryEnds script honest w z a b I) (goes_is (Then head u) y e) (ends head u h)
-  ended y head k (Throws p u) h e = cc
-  ended y head k (Ejects i x u) h e = cc
-  ended y head k (Stops q u) h e = cc
+  ended y head k other h e = cc
 
   abbrev head_of : ℕ → List Event
   head_of k = Carried k a b Note0 (world.next_frame a b Bare.connections) ∷ []

@@ -24,22 +24,16 @@ module _ (i : ℕ) (K : Naming Name Name) where
 
   extra_less : (e : ℕ) {A : Type 0} (s : Vat Name) (d : Done Name A) → After R s d → After (Pays i e) s d
   extra_less e s (Gives a t) h = record { count = let a = h.count in omega arith }
-  extra_less e s (Throws p t) h = record { count = let a = h.count in omega arith }
-  extra_less e s (Ejects n v t) h = record { count = let a = h.count in omega arith }
-  extra_less e s (Stops c t) h = record { count = let a = h.count in omega arith }
+  extra_less e s other h = record { count = let a = h.count in omega arith }
 
   extra_later : (e : ℕ) {A : Type 0} (s t : Vat Name) → R s t → (d : Done Name A) → After (Pays i e) t d → After (Pays i e) s d
   extra_later e s t h (Gives a u) k = record { count = let x = h.count in let y = k.count in omega arith }
-  extra_later e s t h (Throws p u) k = record { count = let x = h.count in let y = k.count in omega arith }
-  extra_later e s t h (Ejects n v u) k = record { count = let x = h.count in let y = k.count in omega arith }
-  extra_later e s t h (Stops c u) k = record { count = let x = h.count in let y = k.count in omega arith }
+  extra_later e s t h other k = record { count = let x = h.count in let y = k.count in omega arith }
 
   bind_extra : {A B : Type 0} (e : ℕ) (s : Vat Name) (d : Done Name A) (f : A → Act Name B) → After R s d → ((a : A) (t : Vat Name) → After (Pays i e) t (f a t)) → After (Pays i e) s (and_then d f)
   unfolding and_then
   bind_extra e s (Gives a t) f h k = extra_later e s t h (f a t) (k a t)
-  bind_extra e s (Throws p t) f h k = record { count = let a = h.count in omega arith }
-  bind_extra e s (Ejects n v t) f h k = record { count = let a = h.count in omega arith }
-  bind_extra e s (Stops c t) f h k = record { count = let a = h.count in omega arith }
+  bind_extra e s other f h k = record { count = let a = h.count in omega arith }
 
   opens_as : (j : ℕ) (n : Name) → lets_go i (Open j n) ≡ (j == i)
   unfolding lets_go
@@ -48,10 +42,7 @@ module _ (i : ℕ) (K : Naming Name Name) where
   shorten_extra : (j : ℕ) (p : Place Name) (s : Vat Name) → After (Pays i (once (j == i))) s (arrive.shorten_to K j p s)
   unfolding arrive.shorten_to send_out give
   shorten_extra j (Away h n true) s = record { count = let more = more_put i s.outbox (record { to = h; note = Open j n }) in let same : once (lets_go i (Open j n)) ≡ once (j == i) = ap once (opens_as j n) in omega arith }
-  shorten_extra j (Away h n false) s = record { count = omega arith }
-  shorten_extra j Near s = record { count = omega arith }
-  shorten_extra j (Mine n) s = record { count = omega arith }
-  shorten_extra j (Gone p) s = record { count = omega arith }
+  shorten_extra j other s = record { count = omega arith }
 
   arrive_shorten_extra : (z : Incoming Name Name) (j : ℕ) (s : Vat Name) → After (Pays i (once (j == i))) s (arrive.arrive_shorten K z j s)
   unfolding arrive.arrive_shorten ◌>>=◌ and_then look

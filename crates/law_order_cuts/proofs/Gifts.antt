@@ -23,21 +23,13 @@ second false b e = cc
 
 pub opens_test : (i : ℕ) → IsTest i (opens i)
 unfolding opens lets_go
-opens_test i (Deliver m n verb ys) e = cc
 opens_test i (Open j n) e = e
-opens_test i (Ask p j n) e = cc
-opens_test i (SettledTo n y) e = cc
-opens_test i (Elsewhere n c) e = cc
-opens_test i (Shorten n c j) e = cc
+opens_test i other e = cc
 
 pub shortens_test : (h i : ℕ) → IsTest i (shortens h i)
 unfolding shortens lets_go
-shortens_test h i (Deliver m n verb ys) e = cc
-shortens_test h i (Open j n) e = cc
-shortens_test h i (Ask p j n) e = cc
-shortens_test h i (SettledTo n y) e = cc
-shortens_test h i (Elsewhere n c) e = cc
 shortens_test h i (Shorten n c j) e = second (c == h) (j == i) e
+shortens_test h i other e = cc
 
 -- where none of the notes lets it go
 pub none_placed : (i : ℕ) (f : Note Name → Bool) → IsTest i f → (l : Lane) (b : List Item) (ns : List (Note Name)) → letting_in i ns ≤ 0 → note_place f l b ns ≡ None

@@ -12,12 +12,9 @@ use Rattle.law_order_cuts.proofs.Counts.{sum_of, changed_sum, taken_sum, letting
 -- what lets a gift go does one of the two
 pub one_of_both : (i : ℕ) (n : Note Name) → once (lets_go i n) ≡ once (opens i n) + once (asks_to_open i n)
 unfolding lets_go opens asks_to_open once
-one_of_both i (Deliver m n verb ys) = refl
 one_of_both i (Open j n) = omega arith
-one_of_both i (Ask p j n) = refl
-one_of_both i (SettledTo n y) = refl
-one_of_both i (Elsewhere n c) = refl
 one_of_both i (Shorten n c j) = omega arith
+one_of_both i other = refl
 
 more_opens : (i : ℕ) (ns : List (Note Name)) (n : Note Name) → opens_in i (ns ++ n ∷ []) ≡ opens_in i ns + once (opens i n)
 unfolding opens_in

@@ -67,12 +67,9 @@ pub record Pays (i extra : ℕ) (s t : Vat Name) : Type 0 where
 
 lets_none : (i : ℕ) (n : Note Name) → LetsNothingGo n → once (lets_go i n) ≡ 0
 unfolding lets_go once
-lets_none i (Deliver m n verb ys) h = refl
 lets_none i (Open j n) h = absurd h
-lets_none i (Ask p j n) h = refl
-lets_none i (SettledTo n y) h = refl
-lets_none i (Elsewhere n c) h = refl
 lets_none i (Shorten n c j) h = absurd h
+lets_none i other h = refl
 
 pub base : (i : ℕ) → IsKept (Pays i 0)
 base i = record {
@@ -171,10 +168,7 @@ module _ (i : ℕ) where
     pays_inform_of : (p : Name) (w : ℕ) (y : Value Name) (q : Place Name) → Keeps R (refs.inform_of K p w y q)
     unfolding refs.inform_of
     pays_inform_of p w y (Away h n true) = pays_out w (Elsewhere p h) tt
-    pays_inform_of p w y (Away h n false) = settled_out p w y
-    pays_inform_of p w y (Mine n) = settled_out p w y
-    pays_inform_of p w y Near = settled_out p w y
-    pays_inform_of p w y (Gone t) = settled_out p w y
+    pays_inform_of p w y other = settled_out p w y
 
     pays_inform : (p : Name) (w : ℕ) → Keeps R (refs.inform K p w)
     unfolding refs.inform

@@ -36,11 +36,7 @@ gives_after P s t d a e h = subst (After P s) e h
 read_asks : (i : ℕ) (ks : List Name) (n : Note Name) → asks_to_open i (read_note ks n) ≡ asks_to_open i n
 unfolding asks_to_open read_note
 read_asks i ks (Deliver d n verb ys) = refl
-read_asks i ks (Open j n) = refl
-read_asks i ks (Ask p j n) = refl
-read_asks i ks (SettledTo n y) = refl
-read_asks i ks (Elsewhere n c) = refl
-read_asks i ks (Shorten n c j) = refl
+read_asks i ks other = refl
 
 abbrev Anyone : Name → Vat Name → Type 0
 Anyone p s = Unit {0}

@@ -239,9 +239,8 @@ module _ (a b : ℕ) where
 
       stands_or : (l : Lane) (i : Item) → IsIn i (W.stands l) → StandsOr l i
       unfolding ways_of stands_at
-      stands_or (Queue v) i h = inl h
-      stands_or (Held v p) i h = inl h
       stands_or (Way c d) i h = stands_way c d i (comes c d ls) h
+      stands_or other i h = inl h
 
       module _ (most : OneLetsGo ls) (logged : AllLogged ls) where
         abbrev Leads : Place → Place → Type 0
@@ -256,18 +255,12 @@ module _ (a b : ℕ) where
         unsettled_or : (v : ℕ) (p : Name) (gs : List (GiftEntry Name)) → Leads (unsettled script honest vats ls v p gs) (unsettled script honest vats (Cut ls) v p gs)
         unfolding unsettled
         unsettled_or v (Gift h i) gs = by_gift h i (gift_or h i ls (most i) logged) ((h == v) && not (opened_there (Gift h i) gs))
-        unsettled_or v (Root h) gs = inl refl
-        unsettled_or v (Object h i) gs = inl refl
-        unsettled_or v (Promise h i) gs = inl refl
-        unsettled_or v (Answer h m) gs = inl refl
-        unsettled_or v (Sent m) gs = inl refl
+        unsettled_or v other gs = inl refl
 
         released_or : (v : ℕ) (p : Name) (gs : List (GiftEntry Name)) (x : Standing Name) → Leads (released script honest vats ls v p gs x) (released script honest vats (Cut ls) v p gs x)
         unfolding released leads
         released_or v p gs Unsettled = unsettled_or v p gs
-        released_or v p gs (WaitsOn q) = inl refl
-        released_or v p gs (Viewed q) = inl refl
-        released_or v p gs (Settled y) = inl refl
+        released_or v p gs other = inl refl
 
         held_or : (v : ℕ) (p : Name) (o : Option (Vat Name)) → Leads (released_at script honest vats ls v p o) (released_at script honest vats (Cut ls) v p o)
         unfolding released_at
@@ -312,9 +305,8 @@ module _ (a b : ℕ) where
 
       pub apart_same : (l : Lane) → (l ≡ Way a b → ⊥) → U.stands l ≡ W.stands l
       unfolding ways_of stands_at
-      apart_same (Queue v) f = refl
-      apart_same (Held v p) f = refl
       apart_same (Way c d) f = ap (λ o. Stands o) (elsewhere c d ls f)
+      apart_same other f = refl
 
       -- what stood where nothing stands any more is doomed
       pub lost_there : (l : Lane) (i : Item) (c : List Item) (n : Name) → IsIn i (W.stands l) → U.stands l ≡ [] → Doom U (Mid l c n)

@@ -52,9 +52,7 @@ module _ (K : Naming Name Name) (R : Vat Name → Vat Name → Type 0) (May : Na
   told_bind : (p : Name) (s : Vat Name) (d : Done Name (Unit {0})) (n : Act Name (Unit {0})) → May p s → After R s d → Told p n → After R s (and_then d (λ _. n))
   unfolding and_then
   told_bind p s (Gives a t) n may h k = widen R law.base h (n t) (k t (law.may_stay p s t h may))
-  told_bind p s (Throws x t) n may h k = h
-  told_bind p s (Ejects i y t) n may h k = h
-  told_bind p s (Stops c t) n may h k = h
+  told_bind p s other n may h k = h
 
   told_then : (p : Name) (m n : Act Name (Unit {0})) → Keeps R m → Told p n → Told p (m >> n)
   unfolding ◌>>◌
@@ -118,9 +116,7 @@ module _ (K : Naming Name Name) (R : Vat Name → Vat Name → Type 0) (May : Na
   telling_asker : (n : Name) (w : ℕ) (s : Vat Name) (t : Standing Name) → refs.standing_of K s.known n ≡ t → After R s (arrive.tell_asker K n w t s)
   unfolding arrive.tell_asker
   telling_asker n w s (Settled y) e = law.informs n w s (law.may_settled n y s e)
-  telling_asker n w s Unsettled e = (law.alters (ToTell w) n).after s
-  telling_asker n w s (WaitsOn q) e = (law.alters (ToTell w) n).after s
-  telling_asker n w s (Viewed q) e = (law.alters (ToTell w) n).after s
+  telling_asker n w s other e = (law.alters (ToTell w) n).after s
 
   tell_now : (n : Name) (w : ℕ) → Keeps R (look (λ s. refs.standing_of K s.known n) >>= (λ t. arrive.tell_asker K n w t))
   unfolding ◌>>=◌ and_then look
@@ -133,11 +129,7 @@ module _ (K : Naming Name Name) (R : Vat Name → Vat Name → Type 0) (May : Na
   -- any note but one that asks for a gift of the vat as its provider
   abbrev pub AsksNoProvider : Note (Incoming Name Name) → Type 0
   AsksNoProvider (Shorten z c j) = ⊥
-  AsksNoProvider (Deliver d z verb ys) = Unit {0}
-  AsksNoProvider (Open j z) = Unit {0}
-  AsksNoProvider (Ask p j z) = Unit {0}
-  AsksNoProvider (SettledTo z y) = Unit {0}
-  AsksNoProvider (Elsewhere z c) = Unit {0}
+  AsksNoProvider other = Unit {0}
 
   pub walked_arrive : (from : ℕ) (n : Note (Incoming Name Name)) → AsksNoProvider n → Keeps R (arrive.arrive K from n)
   unfolding arrive.arrive

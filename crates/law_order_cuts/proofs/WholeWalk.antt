@@ -169,9 +169,7 @@ module _ (K : Naming Name Name) (R : Vat Name → Vat Name → Type 0) (law : Is
   unfolding refs.react_at
   reacting_at m (Mine n) = changes _ n
   reacting_at m (Away h n false) = changes _ n
-  reacting_at m (Away h n true) = queue m
-  reacting_at m Near = queue m
-  reacting_at m (Gone p) = queue m
+  reacting_at m other = queue m
 
   reacting : (act : ℕ) (y o near : Value Name) → Keeps R (refs.react K act y o near)
   unfolding refs.react
@@ -212,15 +210,8 @@ module _ (K : Naming Name Name) (R : Vat Name → Vat Name → Type 0) (law : Is
 
   learning_value : (y : Value (Incoming Name Name)) → Keeps R (arrive.learn_value K y)
   unfolding arrive.learn_value
-  learning_value Null = search (walks, base) depth 14
-  learning_value (Flag b) = search (walks, base) depth 14
-  learning_value (Number z) = search (walks, base) depth 14
-  learning_value (Letter c) = search (walks, base) depth 14
-  learning_value (Text t) = search (walks, base) depth 14
-  learning_value (Prim n) = search (walks, base) depth 14
-  learning_value (Broken p) = search (walks, base) depth 14
-  learning_value (Items k) = search (walks, base) depth 14
   learning_value (Ref z) = search (walks, base, whole_learn_name) depth 14
+  learning_value other = search (walks, base) depth 14
 
   asking_for : (p h j : ℕ) (n : Name) → Keeps R (arrive.ask_for K p h j n)
   unfolding arrive.ask_for
@@ -316,28 +307,23 @@ module _ (K : Naming Name Name) (R : Vat Name → Vat Name → Type 0) (law : Is
   abbrev pub AsksNothing : Note (Incoming Name Name) → Type 0
   AsksNothing (Ask p j z) = ⊥
   AsksNothing (Shorten z c j) = ⊥
-  AsksNothing (Deliver d z verb ys) = Unit {0}
-  AsksNothing (Open j z) = Unit {0}
-  AsksNothing (SettledTo z y) = Unit {0}
-  AsksNothing (Elsewhere z c) = Unit {0}
+  AsksNothing other = Unit {0}
 
   pub whole_arrive : (from : ℕ) (n : Note (Incoming Name Name)) → AsksNothing n → Keeps R (arrive.arrive K from n)
   unfolding arrive.arrive
   whole_arrive from (Deliver d z verb ys) h = arriving_deliver from d z verb ys
   whole_arrive from (Open j z) h = arriving_open from j z
-  whole_arrive from (Ask p j z) h = absurd h
   whole_arrive from (SettledTo z y) h = arriving_settled from z y
   whole_arrive from (Elsewhere z c) h = arriving_elsewhere z c
-  whole_arrive from (Shorten z c j) h = absurd h
+  whole_arrive from other h = absurd h
 
   -- ---- what is noticed
 
   breaking_hosted : (w : ℕ) (n : Name) (p : Words) (t : Standing Name) → Keeps R (arrive.break_hosted K w n p t)
   unfolding arrive.break_hosted
-  breaking_hosted w n p Unsettled = settling n (Broken p)
-  breaking_hosted w n p (WaitsOn q) = settling n (Broken p)
   breaking_hosted w n p (Viewed q) = search (walks, base) depth 14
   breaking_hosted w n p (Settled y) = search (walks, base) depth 14
+  breaking_hosted w n p other = settling n (Broken p)
 
   noticing_name : (w : ℕ) (k : Known Name) → Keeps R (arrive.notice_name K w k)
   unfolding arrive.notice_name

@@ -77,11 +77,7 @@ module _ (P : Place → Type 0) (mids : (l : Lane) (b : List Item) (n : Name) �
         go : (c : Bool) → P (elim c [ true ↦ gift_place script honest h i ls | false ↦ Free ])
         go true = gift_is h i ls
         go false = free
-    waiting_is vs ls z (Root h) gs = free
-    waiting_is vs ls z (Object h i) gs = free
-    waiting_is vs ls z (Promise h i) gs = free
-    waiting_is vs ls z (Answer h m) gs = free
-    waiting_is vs ls z (Sent m) gs = free
+    waiting_is vs ls z other gs = free
 
 -- ---- places
 
@@ -184,8 +180,7 @@ module _ (script : Script) (honest : ℕ → Bool) (v u : ℕ) (s : Vat Name) (o
   spotted_same : (n : Name) (q : Spot) → refs.spotted K T n q ≡ refs.spotted K s n q
   unfolding refs.spotted refs.hosted
   spotted_same n (Own i) = refl
-  spotted_same n (Foreign h) = refl
-  spotted_same n NoObject = refl
+  spotted_same n other = refl
 
   named_same : (n : Name) → Aim T (Ref n) ≡ Aim s (Ref n)
   unfolding refs.place
@@ -251,14 +246,7 @@ module _ (script : Script) (honest : ℕ → Bool) (v u : ℕ) (s : Vat Name) (o
   severed_marks : (z : Value Name) → Aim T (refs.severed K T z) ≡ G (Aim s (refs.severed K s z))
   unfolding refs.severed aimed refs.place
   severed_marks (Ref n) = spot_marks n (K.spot n) refl
-  severed_marks Null = sym (at_nowhere v u)
-  severed_marks (Flag b) = sym (at_nowhere v u)
-  severed_marks (Number z) = sym (at_nowhere v u)
-  severed_marks (Letter c) = sym (at_nowhere v u)
-  severed_marks (Text w) = sym (at_nowhere v u)
-  severed_marks (Prim k) = sym (at_nowhere v u)
-  severed_marks (Broken w) = sym (at_nowhere v u)
-  severed_marks (Items k) = sym (at_nowhere v u)
+  severed_marks other = sym (at_nowhere v u)
 
   follows_marks : (x : Value Name) → by_follow script honest v T x ≡ G (by_follow script honest v s x)
   unfolding by_follow refs.follow
@@ -313,17 +301,10 @@ module _ (script : Script) (honest : ℕ → Bool) (v u z : ℕ) (r : Vat Name) 
   aimed_stays : (y : Value Name) (p : refs.Place Name) → Stays (aimed z y p)
   unfolding aimed
   aimed_stays (Ref n) Near = at_queue v u z n
-  aimed_stays Null Near = at_nowhere v u
-  aimed_stays (Flag b) Near = at_nowhere v u
-  aimed_stays (Number i) Near = at_nowhere v u
-  aimed_stays (Letter c) Near = at_nowhere v u
-  aimed_stays (Text w) Near = at_nowhere v u
-  aimed_stays (Prim k) Near = at_nowhere v u
-  aimed_stays (Broken w) Near = at_nowhere v u
-  aimed_stays (Items k) Near = at_nowhere v u
   aimed_stays y (Mine n) = at_held v u z n n
   aimed_stays y (Away h n o) = from_other v u z h n far
   aimed_stays y (Gone p) = at_nowhere v u
+  aimed_stays other Near = at_nowhere v u
 
   follow_stays : (x : Value Name) → Stays (by_follow script honest z r x)
   unfolding by_follow

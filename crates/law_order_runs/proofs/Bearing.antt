@@ -48,11 +48,7 @@ module _ (script : Script) (once : KnowsOnce script) (w x : World) (es : List En
 
   message_of : (z : Name) → d.message ≡ z → IsMessageMade x.vats z → (m : Msg) × (d.message ≡ Sent m) × IsMessageMade x.vats (Sent m)
   message_of (Sent m) f h = (m, f, h)
-  message_of (Root u) f h = absurd h
-  message_of (Object u i) f h = absurd h
-  message_of (Promise u i) f h = absurd h
-  message_of (Answer u i) f h = absurd h
-  message_of (Gift u i) f h = absurd h
+  message_of other f h = absurd h
 
   module _ (m : Msg) (named : d.message ≡ Sent m) (sent : IsMessageMade x.vats (Sent m)) where
     bears : 1 ≤ on_link (Sent m) c.link
@@ -87,14 +83,7 @@ module _ (script : Script) (once : KnowsOnce script) (w x : World) (es : List En
 
     value_next : (y : Value Name) → ValueOk (IsMade x.vats x.drawn) y → ValueOk (IsKnownTo Sender) y → (IsAmong (Answer b m) (names_in Sender.known) → ValueOk (Avoids (Answer b m)) y) → ValueNotNext b c.vat (Answer b m) y
     value_next (Ref z) p q f = name_next z p q f
-    value_next Null p q f = tt
-    value_next (Flag t) p q f = tt
-    value_next (Number z) p q f = tt
-    value_next (Letter l) p q f = tt
-    value_next (Text t) p q f = tt
-    value_next (Prim i) p q f = tt
-    value_next (Broken t) p q f = tt
-    value_next (Items i) p q f = tt
+    value_next other p q f = tt
 
     mutual
       passed_next : (y : Passed Name) (ns : List Name) → PassedOk (IsMade x.vats x.drawn) y → PassedOk (IsKnownTo Sender) y → (IsAmong (Answer b m) (names_in Sender.known) → PassedOk (Avoids (Answer b m)) y) → IsNew b ns y → PassedNotNext b c.vat (Answer b m) ns y

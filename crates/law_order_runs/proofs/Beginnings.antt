@@ -42,12 +42,9 @@ each_all P (x ∷ xs) h = (h.0, each_all P xs h.1)
 -- ---- draws
 
 note_drawn : (P : ℕ → ℕ) (d : List ℕ) (a b : ℕ) (n : Note Name) → Provides P d a b n → LetsDrawn d n
-note_drawn P d a b (Deliver m n verb ys) h = tt
 note_drawn P d a b (Open i n) h = among_in (word_of i) d h.0
-note_drawn P d a b (Ask p i n) h = tt
-note_drawn P d a b (SettledTo n y) h = tt
-note_drawn P d a b (Elsewhere n c) h = tt
 note_drawn P d a b (Shorten n c i) h = among_in (word_of i) d h.0
+note_drawn P d a b other h = tt
 
 notes_drawn : (P : ℕ → ℕ) (d : List ℕ) (a b : ℕ) (ns : List (Note Name)) → Each (Provides P d a b) ns → NotesDrawn d ns
 notes_drawn P d a b [] h = tt
@@ -64,11 +61,7 @@ drawn_in w h = links_drawn h.0 w.drawn w.links h.1
 
 pub object_apart : (n : Name) → IsObject n → IsEventual n → ⊥
 object_apart (Object w i) o e = e
-object_apart (Root w) o e = o
-object_apart (Promise w i) o e = o
-object_apart (Answer h m) o e = o
-object_apart (Gift h i) o e = o
-object_apart (Sent m) o e = o
+object_apart other o e = o
 
 pub all_eventual : (ks : List (Known Name)) (n : Name) → AllOf IsEventual (names_in ks) → IsAmong n (names_in ks) → IsEventual n
 all_eventual [] n h a = absurd a
@@ -103,33 +96,15 @@ module _ (script : Script) (v : ℕ) where
   -- data, an object, or a name that is known
   abbrev Had : List (Known Name) → Value Name → Type 0
   Had ks (Ref n) = IsObject n ⊎ ((k : Known Name) × (entry_of K ks n ≡ Some k))
-  Had ks Null = Unit {0}
-  Had ks (Flag b) = Unit {0}
-  Had ks (Number z) = Unit {0}
-  Had ks (Letter c) = Unit {0}
-  Had ks (Text t) = Unit {0}
-  Had ks (Prim k) = Unit {0}
-  Had ks (Broken p) = Unit {0}
-  Had ks (Items k) = Unit {0}
+  Had ks other = Unit {0}
 
   pub named_object : (n : Name) → NamesObject n → IsObject n
   named_object (Object w i) h = tt
-  named_object (Root w) h = h
-  named_object (Promise w i) h = h
-  named_object (Answer g m) h = h
-  named_object (Gift g i) h = h
-  named_object (Sent m) h = h
+  named_object other h = h
 
   settled_had : (ks : List (Known Name)) (y : Value Name) → NoPromise y → Had ks y
   settled_had ks (Ref n) h = inl (named_object n h)
-  settled_had ks Null h = tt
-  settled_had ks (Flag b) h = tt
-  settled_had ks (Number z) h = tt
-  settled_had ks (Letter c) h = tt
-  settled_had ks (Text t) h = tt
-  settled_had ks (Prim k) h = tt
-  settled_had ks (Broken p) h = tt
-  settled_had ks (Items k) h = tt
+  settled_had ks other h = tt
 
   module _ (ks : List (Known Name)) (well : Each KnownWell ks) (views : (n g : Name) → standing_of K ks n ≡ Viewed g → (k : Known Name) × (entry_of K ks g ≡ Some k)) where
     found_well : (n : Name) (k : Known Name) → entry_of K ks n ≡ Some k → KnownWell k
@@ -151,35 +126,20 @@ module _ (script : Script) (v : ℕ) where
         go r (Viewed q) e = r (Ref q) (inr (views n q e))
         go r (WaitsOn q) e = h
         go r Unsettled e = h
-    follow_had (suc d) Null h = tt
-    follow_had (suc d) (Flag b) h = tt
-    follow_had (suc d) (Number z) h = tt
-    follow_had (suc d) (Letter c) h = tt
-    follow_had (suc d) (Text t) h = tt
-    follow_had (suc d) (Prim k) h = tt
-    follow_had (suc d) (Broken p) h = tt
-    follow_had (suc d) (Items k) h = tt
+    follow_had (suc d) other h = tt
 
   waits_so : (t : Standing Name) → still_waits t ≡ true → IsWaiting t
   unfolding still_waits
-  waits_so Unsettled e = tt
-  waits_so (WaitsOn q) e = tt
   waits_so (Viewed q) e = cc
   waits_so (Settled y) e = cc
+  waits_so other e = tt
 
   module _ (s : Vat Name) where
     had_fixed : (y : Value Name) → Had s.known y → ((n : Name) → y ≡ Ref n → still_waits (standing_of K s.known n) ≡ true) → IsFixed K s y
     unfolding standing_of standing_in
     had_fixed (Ref n) (inl o) f = inl o
     had_fixed (Ref n) (inr h) f = inr (h.0, h.1, waits_so h.0.standing (ap (λ o. still_waits (standing_in o)) (sym h.1) ∙ f n refl))
-    had_fixed Null h f = tt
-    had_fixed (Flag b) h f = tt
-    had_fixed (Number z) h f = tt
-    had_fixed (Letter c) h f = tt
-    had_fixed (Text t) h f = tt
-    had_fixed (Prim k) h f = tt
-    had_fixed (Broken p) h f = tt
-    had_fixed (Items k) h f = tt
+    had_fixed other h f = tt
 
     follows_end : AllOf IsEventual (names_in s.known) → Each KnownWell s.known → ReferencesRest K s → FollowsEnd K s
     follows_end eventual well rests = record {

@@ -30,14 +30,12 @@ use Rattle.law_order_runs.proofs.CarryRuns.{message_carries_keep_in_runs}
 -- ---- names
 
 inside_bare : (count : ℕ) (b : Bit Name) → IsInside count (bare b) → IsInside count b
-inside_bare count (Named n) h = h
 inside_bare count (Mail n) h = tt
 inside_bare count (Drew i) h = tt
 inside_bare count (At h) i = i
 inside_bare count (Off h) i = i
-inside_bare count (Entered n) h = h
-inside_bare count (Owns n i) h = h
 inside_bare count (Gave i) h = tt
+inside_bare count other h = h
 
 module _ (script : Script) (knows : KnowsVats script) (w : World) (stands : Stands script w) where
   abbrev count : ℕ
@@ -62,10 +60,8 @@ module _ (script : Script) (v : ℕ) (s : Vat Name) (own : s.number ≡ v) (host
   IsOther h = (v ≡ h → ⊥) × h < length script.vats
 
   abbrev PlaceIs : refs.Place Name → Type 0
-  PlaceIs Near = Unit {0}
-  PlaceIs (Mine n) = Unit {0}
   PlaceIs (Away h n o) = IsOther h
-  PlaceIs (Gone p) = Unit {0}
+  PlaceIs other = Unit {0}
 
   false_true : false ≡ true → ⊥
   false_true e = cc
@@ -101,14 +97,7 @@ module _ (script : Script) (v : ℕ) (s : Vat Name) (own : s.number ≡ v) (host
   value_other : (y : Value Name) → ValueOk (IsInside (length script.vats)) y → PlaceIs (place (names script v) s y)
   unfolding place names naming
   value_other (Ref n) h = spot_other n h
-  value_other Null h = tt
-  value_other (Flag b) h = tt
-  value_other (Number z) h = tt
-  value_other (Letter c) h = tt
-  value_other (Text t) h = tt
-  value_other (Prim i) h = tt
-  value_other (Broken p) h = tt
-  value_other (Items k) h = tt
+  value_other other h = tt
 
   -- the place of what is aimed at, over a link
   abbrev LeadsTo : Place → ℕ → Name → Type 0
@@ -117,17 +106,9 @@ module _ (script : Script) (v : ℕ) (s : Vat Name) (own : s.number ≡ v) (host
   aimed_other : (y : Value Name) (p : refs.Place Name) → PlaceIs p → (h : ℕ) (q : Name) → LeadsTo (aimed v y p) h q → IsOther h
   unfolding aimed
   aimed_other (Ref n) Near i h q e = cc
-  aimed_other Null Near i h q e = cc
-  aimed_other (Flag b) Near i h q e = cc
-  aimed_other (Number z) Near i h q e = cc
-  aimed_other (Letter c) Near i h q e = cc
-  aimed_other (Text t) Near i h q e = cc
-  aimed_other (Prim k) Near i h q e = cc
-  aimed_other (Broken p) Near i h q e = cc
-  aimed_other (Items k) Near i h q e = cc
-  aimed_other y (Mine n) i h q e = cc
   aimed_other y (Away g n o) i h q e = let same : g ≡ h = cc in subst IsOther same i
-  aimed_other y (Gone p) i h q e = cc
+  aimed_other other Near i h q e = cc
+  aimed_other y other i h q e = cc
 
   module _ (honest : ℕ → Bool) where
     followed_other : (n : Name) → IsOfVat script n → (h : ℕ) (q : Name) → LeadsTo (by_follow script honest v s (Ref n)) h q → IsOther h

@@ -46,14 +46,7 @@ known_name ns n h i f a = known_if ns n h i f (is_old ns n) a
 known_value : (ns : List Name) (y : Value Name) (h i : ℕ) → ValueOk (Spares i) y → IsAmong (Gift h i) (read_value ns y).known → IsAmong (Gift h i) ns
 unfolding read_value
 known_value ns (Ref n) h i f a = known_name ns n h i f a
-known_value ns Null h i f a = a
-known_value ns (Flag b) h i f a = a
-known_value ns (Number z) h i f a = a
-known_value ns (Letter c) h i f a = a
-known_value ns (Text t) h i f a = a
-known_value ns (Prim k) h i f a = a
-known_value ns (Broken p) h i f a = a
-known_value ns (Items k) h i f a = a
+known_value ns other h i f a = a
 
 once_true : (c : Bool) → c ≡ true → once c ≤ 0 → ⊥
 unfolding once

@@ -94,11 +94,7 @@ module _ (m : Name) where
       waits : (v : ℕ) (n : Name) (gs : List (GiftEntry Name)) → LacksAt m (unsettled script honest w.vats w.links v n gs)
       unfolding unsettled
       waits v (Gift h i) gs = if_gift ((h == v) && not (opened_there (Gift h i) gs)) h i
-      waits v (Root h) gs = tt
-      waits v (Object h i) gs = tt
-      waits v (Promise h i) gs = tt
-      waits v (Answer h x) gs = tt
-      waits v (Sent x) gs = tt
+      waits v other gs = tt
 
       goes : (v : ℕ) (n : Name) (gs : List (GiftEntry Name)) (t : Standing Name) → LacksAt m (released script honest w.vats w.links v n gs t)
       unfolding released
@@ -138,14 +134,7 @@ module _ (m : Name) where
   no_name : (y : Value Name) (n : Name) → IsNoName y → tally m (elim y [ Ref x ↦ record { mail = n; aim = x } ∷ [] | _ ↦ [] ]) ≤ 0
   unfolding tally
   no_name (Ref x) n h = absurd h
-  no_name Null n h = omega arith
-  no_name (Flag b) n h = omega arith
-  no_name (Number z) n h = omega arith
-  no_name (Letter c) n h = omega arith
-  no_name (Text t) n h = omega arith
-  no_name (Prim k) n h = omega arith
-  no_name (Broken p) n h = omega arith
-  no_name (Items k) n h = omega arith
+  no_name other n h = omega arith
 
   last_data : (q : List (Message Name)) (x : Message Name) → x.id ≡ m → IsNoName x.target → tally m (queued (q ++ x ∷ [])) + 1 ≤ among m (q ++ x ∷ [])
   unfolding queued among

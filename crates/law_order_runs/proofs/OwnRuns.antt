@@ -58,10 +58,9 @@ module _ (script : Script) (v : ℕ) where
 
   standing_end : (ks : List (Known Name)) (n : Name) (t : Standing Name) → SettledWell t → ViewsAnother v n t → host_of n ≡ v → NoObjects ks → IsOwnEnd v (refs.led K (λ y. follow_at K (length ks) ks y) n t)
   unfolding refs.led
-  standing_end ks n Unsettled well another own f = inr own
-  standing_end ks n (WaitsOn q) well another own f = inr own
   standing_end ks n (Viewed q) well another own f = absurd (another own)
   standing_end ks n (Settled y) well another own f = settled_end (length ks) ks y well f
+  standing_end ks n other well another own f = inr own
 
   known_end : (ks : List (Known Name)) (n : Name) (k : Known Name) → entry_of K ks n ≡ Some k → KnownWell k → KnownSound v k → NoObjects ks → host_of n ≡ v → IsOwnEnd v (follow_at K (suc (length ks)) ks (Ref n))
   unfolding follow_at standing_of standing_in
@@ -210,11 +209,7 @@ module _ (script : Script) (w : World) (v : ℕ) (s : Vat Name) (there : slice_g
     where
       go : (id : Name) → m.id ≡ id → IsMessageMade w.vats id → Held w script v s m
       go (Sent x) i made_it = (x, i, numbered x made_it, λ h apart. none_found script v s.known (Answer h x) (λ b. let none = f h x apart b in let once = held_once script v s.known n k m x e i a in absurd (omega arith)))
-      go (Root u) i made_it = absurd made_it
-      go (Object u j) i made_it = absurd made_it
-      go (Promise u j) i made_it = absurd made_it
-      go (Answer u j) i made_it = absurd made_it
-      go (Gift u j) i made_it = absurd made_it
+      go other i made_it = absurd made_it
 
 pub held_answers_are_new : HeldAnswersAreNew
 held_answers_are_new script once = (

@@ -116,10 +116,7 @@ module _ (script : Script) where
   shortening_to : (v j : ℕ) (p : Place Name) → Keeps (R v) (arrive.shorten_to (names script v) j p)
   unfolding arrive.shorten_to
   shortening_to v j (Away h n true) = quiet_out script v h (Open j n) (λ ks. tt)
-  shortening_to v j (Away h n false) = keeps_give (R v) (base script v) tt
-  shortening_to v j Near = keeps_give (R v) (base script v) tt
-  shortening_to v j (Mine n) = keeps_give (R v) (base script v) tt
-  shortening_to v j (Gone t) = keeps_give (R v) (base script v) tt
+  shortening_to v j other = keeps_give (R v) (base script v) tt
 
   arriving_shorten : (v j : ℕ) (z : Incoming Name Name) → Keeps (R v) (arrive.arrive_shorten (names script v) z j)
   unfolding arrive.arrive_shorten
@@ -142,10 +139,9 @@ module _ (script : Script) where
   steps_tell v (Notices w) s = (walked_notice (names script v) (R v) (HasSettled script v) (tells_walked script v) w).after s
 
   same_known : (w : World) (v : ℕ) (s q : Vat Name) (what : Step Name Name) → Begins script w v s q what → q.known ≡ s.known
-  same_known w v s q (Opens tree depth root given) h = ap (λ (x : Vat Name). x.known) h.2
-  same_known w v s q (Takes tree depth n) h = ap (λ (x : Vat Name). x.known) h.2
   same_known w v s q (Receives from n) h = ap (λ (x : Vat Name). x.known) h
   same_known w v s q (Notices u) h = ap (λ (x : Vat Name). x.known) h
+  same_known w v s q other h = ap (λ (x : Vat Name). x.known) h.2
 
   -- from the state that is readied
   lasts_from : (w : World) (v : ℕ) (s q t : Vat Name) → q.known ≡ s.known → Lasts script v (readied w q) t → Lasts script v s t
@@ -240,22 +236,11 @@ module _ (script : Script) where
   spot_host : (u : ℕ) (o : Name) (c : ℕ) → spot_of u o ≡ Foreign c → IsObject o × (host_of o ≡ c)
   unfolding spot_of host_of
   spot_host u (Object w i) c e = (tt, spot_if (u == w) w i c e)
-  spot_host u (Root w) c e = absurd (none_foreign c e)
-  spot_host u (Promise w i) c e = absurd (none_foreign c e)
-  spot_host u (Answer h m) c e = absurd (none_foreign c e)
-  spot_host u (Gift h i) c e = absurd (none_foreign c e)
-  spot_host u (Sent m) c e = absurd (none_foreign c e)
+  spot_host u other c e = absurd (none_foreign c e)
 
   ended : (u : ℕ) (z : Value Name) → NoPromise z → IsEnded z
   ended u (Ref n) h = named_object script u n h
-  ended u Null h = tt
-  ended u (Flag b) h = tt
-  ended u (Number x) h = tt
-  ended u (Letter c) h = tt
-  ended u (Text t) h = tt
-  ended u (Prim k) h = tt
-  ended u (Broken t) h = tt
-  ended u (Items k) h = tt
+  ended u other h = tt
 
   settled_well : (u : ℕ) (s : Vat Name) (n : Name) (z : Value Name) (o : Option (Known Name)) → Each KnownWell s.known → entry_of (names script u) s.known n ≡ o → standing_in o ≡ Settled z → NoPromise z
   unfolding standing_in names

@@ -31,10 +31,7 @@ module _ (script : Script) (v : ℕ) where
   abbrev pub TellsTruly : List (Known Name) → Note Name → Type 0
   TellsTruly ks (Elsewhere n c) = (z : Value Name) × (standing_of K ks n ≡ Settled z) × IsElsewhere ks c z
   TellsTruly ks (SettledTo n y) = (z : Value Name) × (standing_of K ks n ≡ Settled z)
-  TellsTruly ks (Deliver m n verb ys) = Unit {0}
-  TellsTruly ks (Open i n) = Unit {0}
-  TellsTruly ks (Ask p i n) = Unit {0}
-  TellsTruly ks (Shorten n c i) = Unit {0}
+  TellsTruly ks other = Unit {0}
 
   abbrev pub AllTell : Vat Name → Type 0
   AllTell s = AllOf (λ (p : Put Name). TellsTruly s.known p.note) s.outbox
@@ -55,10 +52,7 @@ module _ (script : Script) (v : ℕ) where
   pub truly_still : (s t : Vat Name) → Lasts s t → (n : Note Name) → TellsTruly s.known n → TellsTruly t.known n
   truly_still s t h (Elsewhere n c) k = (k.0, settled_still s t h.stays n k.0 k.1, λ ended none. k.2 ended (λ o e. h.known o (none o e)))
   truly_still s t h (SettledTo n y) k = (k.0, settled_still s t h.stays n k.0 k.1)
-  truly_still s t h (Deliver m n verb ys) k = tt
-  truly_still s t h (Open i n) k = tt
-  truly_still s t h (Ask p i n) k = tt
-  truly_still s t h (Shorten n c i) k = tt
+  truly_still s t h other k = tt
 
   all_still : (s t : Vat Name) → Lasts s t → (ps : List (Put Name)) → AllOf (λ (p : Put Name). TellsTruly s.known p.note) ps → AllOf (λ (p : Put Name). TellsTruly t.known p.note) ps
   all_still s t h [] k = tt
@@ -217,39 +211,19 @@ module _ (script : Script) (v : ℕ) where
 
   abbrev pub IsData : Value Name → Type 0
   IsData (Ref n) = ⊥
-  IsData Null = Unit {0}
-  IsData (Flag b) = Unit {0}
-  IsData (Number x) = Unit {0}
-  IsData (Letter c) = Unit {0}
-  IsData (Text t) = Unit {0}
-  IsData (Prim k) = Unit {0}
-  IsData (Broken t) = Unit {0}
-  IsData (Items k) = Unit {0}
+  IsData other = Unit {0}
 
   pub data_self : (d : ℕ) (ks : List (Known Name)) (z : Value Name) → IsData z → follow_at K d ks z ≡ z
   unfolding follow_at
   data_self zero ks z h = refl
   data_self (suc d) ks (Ref n) h = absurd h
-  data_self (suc d) ks Null h = refl
-  data_self (suc d) ks (Flag b) h = refl
-  data_self (suc d) ks (Number x) h = refl
-  data_self (suc d) ks (Letter c) h = refl
-  data_self (suc d) ks (Text t) h = refl
-  data_self (suc d) ks (Prim k) h = refl
-  data_self (suc d) ks (Broken t) h = refl
-  data_self (suc d) ks (Items k) h = refl
+  data_self (suc d) ks other h = refl
 
   data_near : (s : Vat Name) (h : ℕ) (n : Name) (z : Value Name) → IsData z → refs.place K s (refs.severed K s z) ≡ Away h n true → ⊥
   unfolding refs.place refs.severed
   data_near s h n (Ref m) i e = i
-  data_near s h n Null i e = away_apart h n e
-  data_near s h n (Flag b) i e = away_apart h n e
-  data_near s h n (Number x) i e = away_apart h n e
-  data_near s h n (Letter c) i e = away_apart h n e
-  data_near s h n (Text t) i e = away_apart h n e
-  data_near s h n (Prim k) i e = away_apart h n e
   data_near s h n (Broken t) i e = gone_apart t h n e
-  data_near s h n (Items k) i e = away_apart h n e
+  data_near s h n other i e = away_apart h n e
 
   data_apart : (s : Vat Name) (h : ℕ) (n : Name) (z : Value Name) (d : ℕ) → IsData z → refs.place K s (refs.severed K s (follow_at K d s.known z)) ≡ Away h n true → ⊥
   data_apart s h n z d i e = data_near s h n z i (sym (ap (λ y. refs.place K s (refs.severed K s y)) (data_self d s.known z i)) ∙ e)
@@ -278,9 +252,7 @@ module _ (script : Script) (v : ℕ) where
   settled_then : (p : Name) (w : ℕ) (s : Vat Name) → HasSettled p s → (d : Done Name (Passed Name)) → After Tells s d → After Tells s (and_then d (λ z. send_out w (SettledTo p z)))
   unfolding and_then send_out
   settled_then p w s has (Gives z t) h = base.trans h (after_out t w (SettledTo p z) (has.0, settled_still s t h.lasts.stays p has.0 has.1))
-  settled_then p w s has (Throws x t) h = h
-  settled_then p w s has (Ejects i y t) h = h
-  settled_then p w s has (Stops c t) h = h
+  settled_then p w s has other h = h
 
   settled_out : (p : Name) (w : ℕ) (y : Value Name) (s : Vat Name) → HasSettled p s → After Tells s ((refs.pass K w y >>= (λ z. send_out w (SettledTo p z))) s)
   unfolding ◌>>=◌
@@ -289,10 +261,7 @@ module _ (script : Script) (v : ℕ) where
   informs_of : (p : Name) (w : ℕ) (y : Value Name) (q : Place Name) (s : Vat Name) → refs.place K s (refs.follow K s (Ref p)) ≡ q → HasSettled p s → After Tells s (refs.inform_of K p w y q s)
   unfolding refs.inform_of send_out
   informs_of p w y (Away h n true) s e has = after_out s w (Elsewhere p h) (has.0, has.1, followed_away s p h n has.0 has.1 e)
-  informs_of p w y (Away h n false) s e has = settled_out p w y s has
-  informs_of p w y (Mine n) s e has = settled_out p w y s has
-  informs_of p w y Near s e has = settled_out p w y s has
-  informs_of p w y (Gone t) s e has = settled_out p w y s has
+  informs_of p w y other s e has = settled_out p w y s has
 
   informs_if : (b : Bool) (m : Act Name (Unit {0})) (s : Vat Name) → After Tells s (m s) → After Tells s ((if b then give tt else m) s)
   unfolding give
@@ -306,9 +275,7 @@ module _ (script : Script) (v : ℕ) where
   unless_so : (x : Standing Name) (k new : Known Name) → ((z : Value Name) → x ≡ Settled z → ⊥) → unless_settled x k new ≡ new
   unfolding unless_settled
   unless_so (Settled z) k new f = absurd (f z refl)
-  unless_so Unsettled k new f = refl
-  unless_so (WaitsOn q) k new f = refl
-  unless_so (Viewed q) k new f = refl
+  unless_so other k new f = refl
 
   settles_to : (y : Value Name) (k : Known Name) → ((z : Value Name) → k.standing ≡ Settled z → ⊥) → (changed (Settle y) k).standing ≡ Settled y
   unfolding changed changed_to

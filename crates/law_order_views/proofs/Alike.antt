@@ -44,11 +44,7 @@ module _ (script : Script) (honest : ℕ → Bool) (v : ℕ) (s t : Vat Name) (l
     unsettled_same : (u : ℕ) (q : Name) (gs : List (GiftEntry Name)) → unsettled script honest After ls u q gs ≡ unsettled script honest Before ls u q gs
     unfolding unsettled
     unsettled_same u (Gift h i) gs = refl
-    unsettled_same u (Root h) gs = refl
-    unsettled_same u (Object h i) gs = refl
-    unsettled_same u (Promise h i) gs = refl
-    unsettled_same u (Answer h m) gs = refl
-    unsettled_same u (Sent m) gs = refl
+    unsettled_same u other gs = refl
 
     released_same : (u : ℕ) (q : Name) (gs : List (GiftEntry Name)) (z : Standing Name) → released script honest After ls u q gs z ≡ released script honest Before ls u q gs z
     unfolding released

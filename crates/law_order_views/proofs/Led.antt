@@ -57,10 +57,9 @@ module _ (script : Script) (honest : ℕ → Bool) (v : ℕ) (s t : Vat Name) (p
 
   at_standing : (d : ℕ) (n : Name) (q : Standing Name) → ((z : Value Name) → IsFixed K s (In d z) → Then d z ≡ In d z) → IsFixed K s (refs.led K (λ z. In d z) n q) → refs.led K (λ z. Then d z) n q ≡ refs.led K (λ z. In d z) n q
   unfolding refs.led
-  at_standing d n Unsettled f h = refl
-  at_standing d n (WaitsOn q) f h = refl
   at_standing d n (Viewed q) f h = f (Ref q) h
   at_standing d n (Settled z) f h = f z h
+  at_standing d n other f h = refl
 
   at_p : (d : ℕ) → IsFixed K s (refs.led K (λ z. In d z) p (standing_of K s.known p)) → refs.led K (λ z. Then d z) p (standing_of K t.known p) ≡ refs.led K (λ z. In d z) p (standing_of K s.known p)
   unfolding refs.led
@@ -77,14 +76,7 @@ module _ (script : Script) (honest : ℕ → Bool) (v : ℕ) (s t : Vat Name) (p
   unfolding follow_at
   agrees zero x h = refl
   agrees (suc d) (Ref n) h = at_name d n (λ z i. agrees d z i) h
-  agrees (suc d) Null h = refl
-  agrees (suc d) (Flag b) h = refl
-  agrees (suc d) (Number z) h = refl
-  agrees (suc d) (Letter c) h = refl
-  agrees (suc d) (Text w) h = refl
-  agrees (suc d) (Prim k) h = refl
-  agrees (suc d) (Broken w) h = refl
-  agrees (suc d) (Items k) h = refl
+  agrees (suc d) other h = refl
 
   abbrev Long : ℕ
   Long = suc (length s.known)
@@ -100,14 +92,7 @@ module _ (script : Script) (honest : ℕ → Bool) (v : ℕ) (s t : Vat Name) (p
   all_agree : (x : Value Name) → Then Long x ≡ In Long x
   unfolding follow_at
   all_agree (Ref n) = name_agrees n (entry_of K s.known n) refl
-  all_agree Null = refl
-  all_agree (Flag b) = refl
-  all_agree (Number z) = refl
-  all_agree (Letter c) = refl
-  all_agree (Text w) = refl
-  all_agree (Prim k) = refl
-  all_agree (Broken w) = refl
-  all_agree (Items k) = refl
+  all_agree other = refl
 
   follows_on : (x : Value Name) → by_follow script honest v t x ≡ by_follow script honest v s x
   unfolding by_follow refs.follow
@@ -121,20 +106,12 @@ module _ (script : Script) (honest : ℕ → Bool) (v : ℕ) (s t : Vat Name) (p
   -- what is data or an object leads as it is followed
   of_ended : (z : Value Name) → IsEnded z → leads_in script honest v s z ≡ by_follow script honest v s z
   unfolding leads_in of_name
-  of_ended (Ref (Object h i)) e = refl
   of_ended (Ref (Root h)) e = absurd e
   of_ended (Ref (Promise h i)) e = absurd e
   of_ended (Ref (Answer h m)) e = absurd e
   of_ended (Ref (Gift h i)) e = absurd e
   of_ended (Ref (Sent m)) e = absurd e
-  of_ended Null e = refl
-  of_ended (Flag b) e = refl
-  of_ended (Number z) e = refl
-  of_ended (Letter c) e = refl
-  of_ended (Text w) e = refl
-  of_ended (Prim k) e = refl
-  of_ended (Broken w) e = refl
-  of_ended (Items k) e = refl
+  of_ended other e = refl
 
   view_known : (o : Option (Known Name)) → entry_of K s.known g.view ≡ o → (k : Known Name) × (entry_of K s.known g.view ≡ Some k)
   unfolding standing_of standing_in

@@ -47,14 +47,7 @@ module _ (script : Script) (honest : ℕ → Bool) (v : ℕ) (s t : Vat Name) (p
   pub fixed_then : (z : Value Name) → IsFixed K s z → (z ≡ Ref p → ⊥) → IsFixed K t z
   fixed_then (Ref n) (inl o) f = inl o
   fixed_then (Ref n) (inr h) f = inr (h.0, g.others n (λ e. f (ref_is n e)) ∙ h.1, h.2)
-  fixed_then Null h f = tt
-  fixed_then (Flag b) h f = tt
-  fixed_then (Number z) h f = tt
-  fixed_then (Letter c) h f = tt
-  fixed_then (Text q) h f = tt
-  fixed_then (Prim k) h f = tt
-  fixed_then (Broken q) h f = tt
-  fixed_then (Items k) h f = tt
+  fixed_then other h f = tt
 
   hosts_same : (n : Name) → refs.host_at K t.number t.known n ≡ refs.host_at K s.number s.known n
   unfolding refs.host_at refs.host_in
@@ -77,32 +70,17 @@ module _ (script : Script) (honest : ℕ → Bool) (v : ℕ) (s t : Vat Name) (p
   severed_same : (z : Value Name) → refs.severed K t z ≡ refs.severed K s z
   unfolding refs.severed
   severed_same (Ref n) = severed_spot n (K.spot n)
-  severed_same Null = refl
-  severed_same (Flag b) = refl
-  severed_same (Number z) = refl
-  severed_same (Letter c) = refl
-  severed_same (Text w) = refl
-  severed_same (Prim k) = refl
-  severed_same (Broken w) = refl
-  severed_same (Items k) = refl
+  severed_same other = refl
 
   spotted_same : (n : Name) (q : Spot) → refs.spotted K t n q ≡ refs.spotted K s n q
   unfolding refs.spotted
-  spotted_same n (Own i) = refl
-  spotted_same n (Foreign h) = refl
   spotted_same n NoObject = ap (λ u. refs.hosted K u n (refs.host_at K t.number t.known n)) g.number ∙ ap (λ h. refs.hosted K s.number n h) (hosts_same n)
+  spotted_same n other = refl
 
   place_same : (z : Value Name) → refs.place K t z ≡ refs.place K s z
   unfolding refs.place
   place_same (Ref n) = spotted_same n (K.spot n)
-  place_same Null = refl
-  place_same (Flag b) = refl
-  place_same (Number z) = refl
-  place_same (Letter c) = refl
-  place_same (Text w) = refl
-  place_same (Prim k) = refl
-  place_same (Broken w) = refl
-  place_same (Items k) = refl
+  place_same other = refl
 
   -- the same value, as it is followed no further, is aimed at one place
   pub aims_same : (z : Value Name) → aimed v (refs.severed K t z) (refs.place K t (refs.severed K t z)) ≡ aimed v (refs.severed K s z) (refs.place K s (refs.severed K s z))
@@ -115,11 +93,7 @@ module _ (script : Script) (honest : ℕ → Bool) (v : ℕ) (s t : Vat Name) (p
   pub of_known : (r : Vat Name) (n : Name) (k : Known Name) → of_name script honest v r n (Some k) ≡ by_follow script honest v r (Ref n)
   unfolding of_name
   of_known r (Object h i) k = refl
-  of_known r (Root h) k = refl
-  of_known r (Promise h i) k = refl
-  of_known r (Answer h m) k = refl
-  of_known r (Gift h i) k = refl
-  of_known r (Sent m) k = refl
+  of_known r other k = refl
 
   -- ---- where references lead
 

@@ -22,33 +22,22 @@ module _ (K : Naming Name Name) (ks : List (Known Name)) (objects : (o : Name) �
   unfolding follow_at
   ends d (Ref o) i = object_ends d o i
   ends zero y i = refl
-  ends (suc d) Null i = refl
-  ends (suc d) (Flag b) i = refl
-  ends (suc d) (Number z) i = refl
-  ends (suc d) (Letter c) i = refl
-  ends (suc d) (Text w) i = refl
-  ends (suc d) (Prim k) i = refl
-  ends (suc d) (Broken w) i = refl
-  ends (suc d) (Items k) i = refl
+  ends (suc d) other i = refl
 
 -- ---- a name settles
 
 -- it did not settle
 abbrev pub IsOpen : Standing Name → Type 0
-IsOpen Unsettled = Unit {0}
-IsOpen (WaitsOn q) = Unit {0}
-IsOpen (Viewed q) = Unit {0}
 IsOpen (Settled y) = ⊥
+IsOpen other = Unit {0}
 
 abbrev Settles : Value Name → Known Name → Known Name
 Settles y k = record k { standing = Settled y; held = []; waiting = []; reactions = []; told = [] }
 
 settles_from : (y : Value Name) (k : Known Name) (q : Standing Name) → IsOpen q → unless_settled q k (Settles y k) ≡ Settles y k
 unfolding unless_settled
-settles_from y k Unsettled h = refl
-settles_from y k (WaitsOn q) h = refl
-settles_from y k (Viewed q) h = refl
 settles_from y k (Settled z) h = absurd h
+settles_from y k other h = refl
 
 pub settles : (y : Value Name) (k : Known Name) → IsOpen k.standing → changed (Settle y) k ≡ Settles y k
 unfolding changed changed_to

@@ -100,10 +100,9 @@ module _ (script : Script) (honest : ℕ → Bool) (v : ℕ) (s t : Vat Name) (p
 
   at_standing : (d : ℕ) (n : Name) (q : Standing Name) → ((z : Value Name) → Meets (In d z) (Then d z)) → Meets (refs.led N (λ z. In d z) n q) (refs.led N (λ z. Then d z) n q)
   unfolding refs.led
-  at_standing d n Unsettled f = inl refl
-  at_standing d n (WaitsOn q) f = inl refl
   at_standing d n (Viewed q) f = f (Ref q)
   at_standing d n (Settled z) f = f z
+  at_standing d n other f = inl refl
 
   at_p : (d : ℕ) → Meets (refs.led N (λ z. In d z) p (standing_of N s.known p)) (refs.led N (λ z. Then d z) p (standing_of N t.known p))
   unfolding refs.led
@@ -120,14 +119,7 @@ module _ (script : Script) (honest : ℕ → Bool) (v : ℕ) (s t : Vat Name) (p
   unfolding follow_at
   meets zero x = inl refl
   meets (suc d) (Ref n) = at_name d n (λ z. meets d z)
-  meets (suc d) Null = inl refl
-  meets (suc d) (Flag b) = inl refl
-  meets (suc d) (Number z) = inl refl
-  meets (suc d) (Letter c) = inl refl
-  meets (suc d) (Text w) = inl refl
-  meets (suc d) (Prim k) = inl refl
-  meets (suc d) (Broken w) = inl refl
-  meets (suc d) (Items k) = inl refl
+  meets (suc d) other = inl refl
 
   -- ---- all is followed to an end
 
@@ -216,11 +208,7 @@ module _ (script : Script) (honest : ℕ → Bool) (v : ℕ) (s t : Vat Name) (p
         go : (b : Bool) → (h == v) ≡ b → elim (b && not (opened_there (Gift h i) gs)) [ true ↦ gift_place script honest h i ls | false ↦ Free ] ≡ Free
         go true e = absurd (f i (ap (λ z. Gift z i) (eqb-true h v e)))
         go false e = refl
-    unsettled_free (Root h) gs f = refl
-    unsettled_free (Object h i) gs f = refl
-    unsettled_free (Promise h i) gs f = refl
-    unsettled_free (Answer h m) gs f = refl
-    unsettled_free (Sent m) gs f = refl
+    unsettled_free other gs f = refl
 
     p_free : ((i : ℕ) → p ≡ Gift v i → ⊥) → Releases p s ≡ Free
     unfolding released_at released

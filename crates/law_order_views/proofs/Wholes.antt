@@ -78,9 +78,8 @@ module _ (script : Script) (honest : ℕ → Bool) (w : World) (v : ℕ) where
       stands_kept : (p : Name) (k : Known Name) (s : Vat Name) (q : Standing Name) → entry_of K s.known p ≡ Some k → k.standing ≡ q → StandsLed script honest w v y R settle p k q s → IfGives (λ t. Kept s t) (refs.settle_standing K settle p y k q s)
       unfolding refs.settle_standing state.give
       stands_kept p k s (Settled z) e i h = kept_self s
-      stands_kept p k s Unsettled e i h = known_kept script honest w v r at y plain near R settle each_kept p k s e h
-      stands_kept p k s (WaitsOn q) e i h = known_kept script honest w v r at y plain near R settle each_kept p k s e h
       stands_kept p k s (Viewed g) e i h = view_kept y R settle each_kept p g k s e i h
+      stands_kept p k s other e i h = known_kept script honest w v r at y plain near R settle each_kept p k s e h
 
       entry_kept : (p : Name) (s : Vat Name) (o : Option (Known Name)) → entry_of K s.known p ≡ o → EntryLed script honest w v y R settle p o s → IfGives (λ t. Kept s t) (refs.settle_entry K settle p y o s)
       unfolding refs.settle_entry state.give

@@ -28,28 +28,28 @@ use Rattle.law_order_waits.proofs.Settling.{moves}
 use Rattle.law_order_waits.proofs.Sends.{IsFit}
 use Rattle.law_order_waits.proofs.Sends as sends
 
-module _ (word : ℕ → ℕ) (v : ℕ) (x : Name) (owed care : Bool) (least : ℕ) (fit : IsFit v x owed) where
+module _ (word : ℕ → ℕ) (v : ℕ) (x : Name) (owed : Bool) (fit : IsFit v x owed) where
   abbrev N : Naming Name Name
   N = naming word v
 
   abbrev Costs : {A : Type 0} → ℕ → Act Name A → Type 0
-  Costs c m = costs.Costs word v x owed care least c m
+  Costs c m = costs.Costs word v x owed c m
 
   abbrev At : ℕ → Vat Name → Type 0
-  At c s = costs.At word v x owed care least c s
+  At c s = costs.At word v x owed c s
 
   abbrev Spares : Vat Name → Vat Name → Type 0
-  Spares s t = costs.Spares word v x owed care least s t
+  Spares s t = costs.Spares word v x owed s t
 
   base : IsKept Spares
-  base = costs.spares word v x owed care least
+  base = costs.spares word v x owed
 
   -- the name settles and takes nothing by that
   abbrev pub IsOther : Name → Type 0
   IsOther n = share owed (one n x) ≡ 0
 
   pub breaks : (n : Name) → IsOther n → (y : Value Name) → Keeps Spares (refs.settle N n y)
-  breaks n z y = costs.as_free word v x owed care least (costs.costs_more word v x owed care least (share owed (one n x)) 0 (omega arith) (settling.costs_settle word v x owed care least fit.eventual n y))
+  breaks n z y = costs.as_free word v x owed (costs.costs_more word v x owed (share owed (one n x)) 0 (omega arith) (settling.costs_settle word v x owed fit.eventual n y))
 
   other_by : (o : Bool) → owed ≡ o → (h i : ℕ) → IsOther (Gift h i)
   unfolding share
@@ -75,32 +75,28 @@ module _ (word : ℕ → ℕ) (v : ℕ) (x : Name) (owed care : Bool) (least : �
 
   spare_after : {A : Type 0} (e : ℕ) (s : Vat Name) (d : Done Name A) → At e s → After Spares s d → Ends (At e) d
   spare_after e s (Gives a t) g r = r.at e g
-  spare_after e s (Throws p t) g r = r.at e g
-  spare_after e s (Ejects n y t) g r = r.at e g
-  spare_after e s (Stops c t) g r = r.at e g
+  spare_after e s other g r = r.at e g
 
   bound_so : {A B : Type 0} (G : A → Type 0) (e : ℕ) (d : Done Name A) (f : A → Act Name B) → Leaves G e d → ((a : A) → G a → Keeps Spares (f a)) → Ends (At e) (and_then d f)
   unfolding and_then
   bound_so G e (Gives a t) f h k = let rest = k a h.1 in spare_after e t (f a t) h.0 (rest.after t)
-  bound_so G e (Throws p t) f h k = h
-  bound_so G e (Ejects n y t) f h k = h
-  bound_so G e (Stops c t) f h k = h
+  bound_so G e other f h k = h
 
   bind_so : {A B : Type 0} (G : A → Type 0) {m : Act Name A} {f : A → Act Name B} → Yields G m → ((a : A) → G a → Keeps Spares (f a)) → Keeps Spares (m >>= f)
   unfolding ◌>>=◌
-  bind_so G {m = m} {f = f} h k = costs.as_free word v x owed care least (record { after = λ e s g. bound_so G e (m s) f (h.after e s (costs.less word v x owed care least (0 + e) e (omega arith) s g)) k })
+  bind_so G {m = m} {f = f} h k = costs.as_free word v x owed (record { after = λ e s g. bound_so G e (m s) f (h.after e s (costs.less word v x owed (0 + e) e (omega arith) s g)) k })
 
   -- ---- learning
 
   comes : (c : Coming Name Name) (h : ℕ) → Yields (λ n. n ≡ name_of v c) (come N c h)
   unfolding come naming
-  comes c h = record { after = λ e s g. let n : Name = name_of v c in (costs.less word v x owed care least (2 * share owed (one n x) + e) e (omega arith) (record s { known = s.known ++ begun n h ∷ [] }) (costs.comes_good word v x owed care least e s n h g), refl) }
+  comes c h = record { after = λ e s g. let n : Name = name_of v c in (costs.less word v x owed (2 * share owed (one n x) + e) e (omega arith) (record s { known = s.known ++ begun n h ∷ [] }) (costs.comes_good word v x owed e s n h g), refl) }
 
   coming : (c : Coming Name Name) (h : ℕ) → Keeps Spares (come N c h)
-  coming c h = costs.spare_come word v x owed care least c h
+  coming c h = costs.spare_come word v x owed c h
 
   out : (to : ℕ) (n : Note Name) → Keeps Spares (send_out to n)
-  out to n = costs.spare_out word v x owed care least to n
+  out to n = costs.spare_out word v x owed to n
 
   mailing : (z : Incoming Name Name) → Yields (λ n. n ≡ told_name z) (arrive.learn_message N z)
   unfolding arrive.learn_message give mail naming mail_of
@@ -120,14 +116,7 @@ module _ (word : ℕ → ℕ) (v : ℕ) (x : Name) (owed care : Bool) (least : �
   learn_value : (y : Value (Incoming Name Name)) → Keeps Spares (arrive.learn_value N y)
   unfolding arrive.learn_value
   learn_value (Ref z) = search (moves, base, learn_name) depth 14
-  learn_value Null = keeps_give Spares base _
-  learn_value (Flag b) = keeps_give Spares base _
-  learn_value (Number z) = keeps_give Spares base _
-  learn_value (Letter c) = keeps_give Spares base _
-  learn_value (Text t) = keeps_give Spares base _
-  learn_value (Prim n) = keeps_give Spares base _
-  learn_value (Broken p) = keeps_give Spares base _
-  learn_value (Items k) = keeps_give Spares base _
+  learn_value other = keeps_give Spares base _
 
   ask_for : (p h i : ℕ) (n : Name) → n ≡ Gift h i → Keeps Spares (arrive.ask_for N p h i n)
   unfolding arrive.ask_for
@@ -156,11 +145,10 @@ module _ (word : ℕ → ℕ) (v : ℕ) (x : Name) (owed care : Bool) (least : �
   -- ---- gifts at their host
 
   new_good : (u p i : ℕ) → u ≡ v → (e : ℕ) (s : Vat Name) → At e s → At e (record s { known = s.known ++ begun (Gift u i) u ∷ []; gifts = s.gifts ++ record { name = Gift u i; provider = p; number = i; opened = false } ∷ [] })
-  new_good u p i own e s g = let more = costs.comes_good word v x owed care least e s (Gift u i) u g in let fits = more.fits in record {
+  new_good u p i own e s g = let more = costs.comes_good word v x owed e s (Gift u i) u g in let fits = more.fits in record {
     number = g.number;
     fits = omega arith;
     waiting = more.waiting;
-    known = more.known;
     gifts = all_end (IsNamed v) s.gifts (record { name = Gift u i; provider = p; number = i; opened = false }) g.gifts (ap (λ (w : ℕ). Gift w i) own);
   }
 
@@ -176,9 +164,7 @@ module _ (word : ℕ → ℕ) (v : ℕ) (x : Name) (owed care : Bool) (least : �
   break_at : (n : Name) → IsOther n → (t : Words) (st : Standing Name) → Keeps Spares (arrive.break_at N n t st)
   unfolding arrive.break_at
   break_at n z t (Settled y) = keeps_give Spares base tt
-  break_at n z t Unsettled = breaks n z (Broken t)
-  break_at n z t (WaitsOn q) = breaks n z (Broken t)
-  break_at n z t (Viewed q) = breaks n z (Broken t)
+  break_at n z t other = breaks n z (Broken t)
 
   break_unopened : (n : Name) → IsOther n → (b : Bool) → Keeps Spares (arrive.break_unopened N n b)
   unfolding arrive.break_unopened
@@ -190,17 +176,15 @@ module _ (word : ℕ → ℕ) (v : ℕ) (x : Name) (owed care : Bool) (least : �
   break_orphan p i n z = let broken = break_unopened n z in search (moves, base, broken) depth 14
 
   tells : (w : ℕ) (n : Name) → Keeps Spares (alter N (ToTell w) n)
-  tells w n = costs.spare_tells word v x owed care least w n
+  tells w n = costs.spare_tells word v x owed w n
 
   informs : (n : Name) (w : ℕ) → Keeps Spares (refs.inform N n w)
-  informs n w = settling.spare_inform word v x owed care least fit.eventual n w
+  informs n w = settling.spare_inform word v x owed fit.eventual n w
 
   tell_asker : (n : Name) (w : ℕ) (t : Standing Name) → Keeps Spares (arrive.tell_asker N n w t)
   unfolding arrive.tell_asker
   tell_asker n w (Settled y) = informs n w
-  tell_asker n w Unsettled = tells w n
-  tell_asker n w (WaitsOn q) = tells w n
-  tell_asker n w (Viewed q) = tells w n
+  tell_asker n w other = tells w n
 
   arrive_ask : (from p i : ℕ) → Keeps Spares (arrive.arrive_ask N from p i)
   unfolding arrive.arrive_ask
@@ -211,12 +195,12 @@ module _ (word : ℕ → ℕ) (v : ℕ) (x : Name) (owed care : Bool) (least : �
   -- the answer comes to be known, and makes room for the message
   asked_of : (from : ℕ) (m : Msg) (n : Name) (verb : Words) (args : List (Value Name)) → Keeps Spares (arrive.send_on_asked N from (Sent m) n verb args)
   unfolding arrive.send_on_asked ◌>>=◌ and_then look come naming name_of answer_of answers answered_by
-  asked_of from m n verb args = costs.as_free word v x owed care least (record {
-    after = λ e s h. let g : At e s = costs.less word v x owed care least (0 + e) e (omega arith) s h in let a : Name = Answer s.number m in let t : Vat Name = record s { known = s.known ++ begun a s.number ∷ [] } in
-        let pays = sends.answer_pays word v x owed care least fit s.number g.number m in
-        let rest : Costs (2 * one a x) (alter N (ToTell from) a >> refs.send_on N (refs.settle N) (record { id = Sent m; target = Ref n; verb = verb; args = args; answer = Some a })) = costs.free_then word v x owed care least (2 * one a x) (tells from a)
-        (settling.costs_send_on word v x owed care least fit.eventual (refs.settle N) (settling.costs_settle word v x owed care least fit.eventual) (record { id = Sent m; target = Ref n; verb = verb; args = args; answer = Some a })) in
-        rest.after e t (costs.less word v x owed care least (2 * share owed (one a x) + e) (2 * one a x + e) (omega arith) t (costs.comes_good word v x owed care least e s a s.number g));
+  asked_of from m n verb args = costs.as_free word v x owed (record {
+    after = λ e s h. let g : At e s = costs.less word v x owed (0 + e) e (omega arith) s h in let a : Name = Answer s.number m in let t : Vat Name = record s { known = s.known ++ begun a s.number ∷ [] } in
+        let pays = sends.answer_pays word v x owed fit s.number g.number m in
+        let rest : Costs (2 * one a x) (alter N (ToTell from) a >> refs.send_on N (refs.settle N) (record { id = Sent m; target = Ref n; verb = verb; args = args; answer = Some a })) = costs.free_then word v x owed (2 * one a x) (tells from a)
+        (settling.costs_send_on word v x owed fit.eventual (refs.settle N) (settling.costs_settle word v x owed fit.eventual) (record { id = Sent m; target = Ref n; verb = verb; args = args; answer = Some a })) in
+        rest.after e t (costs.less word v x owed (2 * share owed (one a x) + e) (2 * one a x + e) (omega arith) t (costs.comes_good word v x owed e s a s.number g));
   })
 
   send_on_asked : (from : ℕ) (id n : Name) (verb : Words) (args : List (Value Name)) → IsMessageName id → Keeps Spares (arrive.send_on_asked N from id n verb args)
@@ -224,7 +208,7 @@ module _ (word : ℕ → ℕ) (v : ℕ) (x : Name) (owed care : Bool) (least : �
 
   send_alone : (id n : Name) (verb : Words) (args : List (Value Name)) → Keeps Spares (refs.send_on N (refs.settle N) (record { id = id; target = Ref n; verb = verb; args = args; answer = None }))
   unfolding answers answered_by
-  send_alone id n verb args = costs.as_free word v x owed care least (costs.costs_more word v x owed care least (2 * 0) 0 (omega arith) (settling.costs_send_on word v x owed care least fit.eventual (refs.settle N) (settling.costs_settle word v x owed care least fit.eventual) (record { id = id; target = Ref n; verb = verb; args = args; answer = None })))
+  send_alone id n verb args = costs.as_free word v x owed (costs.costs_more word v x owed (2 * 0) 0 (omega arith) (settling.costs_send_on word v x owed fit.eventual (refs.settle N) (settling.costs_settle word v x owed fit.eventual) (record { id = id; target = Ref n; verb = verb; args = args; answer = None })))
 
   arrive_deliver : (from : ℕ) (d : Delivery (Incoming Name Name)) (z : Incoming Name Name) (verb : Words) (ys : Passeds (Incoming Name Name)) → IsMessageName (told_name d.message) → Keeps Spares (arrive.arrive_deliver N from d z verb ys)
   unfolding arrive.arrive_deliver
@@ -273,26 +257,26 @@ module _ (word : ℕ → ℕ) (v : ℕ) (x : Name) (owed care : Bool) (least : �
   -- ---- an opening
 
   abbrev Fits : Name → List (Known Name) → Type 0
-  Fits n ks = costs.Fits word v x owed care least n ks
+  Fits n ks = costs.Fits word v x owed n ks
 
   resolves_gift : (from i : ℕ) (n : Name) (y : Name) (e : ℕ) (s : Vat Name) → n ≡ Gift v i → Fits n s.known → At e s → Ends (At e) ((open_gift from i >> refs.resolve N n (Ref y)) s)
   unfolding ◌>>◌ and_then open_gift
   resolves_gift from i n y e s named fits g = let zero = named_other n i named in let t : Vat Name = record s { gifts = with_opened from i s.gifts } in
-      let opened : At e t = record { number = g.number; fits = g.fits; waiting = g.waiting; known = g.known; gifts = opened_named v from i s.gifts g.gifts } in
-      settling.resolves_so word v x owed care least fit.eventual n e t fits (costs.less word v x owed care least e (2 * share owed (one n x) + e) (omega arith) t opened) (Ref y)
+      let opened : At e t = record { number = g.number; fits = g.fits; waiting = g.waiting; gifts = opened_named v from i s.gifts g.gifts } in
+      settling.resolves_so word v x owed fit.eventual n e t fits (costs.less word v x owed e (2 * share owed (one n x) + e) (omega arith) t opened) (Ref y)
 
   -- what is asked of an opening: the gift is another name, or is open or settled, and known where it is there
   abbrev pub OpensWell : ℕ → ℕ → Vat Name → Type 0
-  OpensWell from i s = (one (Gift v i) x ≡ 0) ⊎ ((Gift v i ≡ x) × (N.same x x ≡ true) × (care ≡ true → IsOpenOrSettled s.known) × ((h : GiftEntry Name) → gift_at from i s.gifts ≡ Some h → (k : Known Name) × (entry_of N s.known x ≡ Some k)))
+  OpensWell from i s = (one (Gift v i) x ≡ 0) ⊎ ((Gift v i ≡ x) × (N.same x x ≡ true) × IsOpenOrSettled s.known × ((h : GiftEntry Name) → gift_at from i s.gifts ≡ Some h → (k : Known Name) × (entry_of N s.known x ≡ Some k)))
 
   fits_there : (from i : ℕ) (s : Vat Name) (h : GiftEntry Name) → gift_at from i s.gifts ≡ Some h → h.name ≡ Gift v i → OpensWell from i s → Fits h.name s.known
   fits_there from i s h found named (inl z) = inl (subst (λ (n : Name). one n x ≡ 0) (sym named) z)
-  fits_there from i s h found named (inr w) = let k = w.3 h found in inr (named ∙ w.0, λ o. calm_found s.known k.0 k.1 (w.2 o))
+  fits_there from i s h found named (inr w) = let k = w.3 h found in inr (named ∙ w.0, calm_found s.known k.0 k.1 w.2)
 
   fits_new : (from i u : ℕ) (s : Vat Name) → u ≡ v → OpensWell from i s → Fits (Gift u i) (s.known ++ begun (Gift u i) u ∷ [])
   fits_new from i u s own (inl z) = inl (subst (λ (w : ℕ). one (Gift w i) x ≡ 0) (sym own) z)
   fits_new from i u s own (inr w) = let same : Gift u i ≡ x = ap (λ (z : ℕ). Gift z i) own ∙ w.0 in
-      inr (same, λ o. subst (λ (n : Name). room.IsCalm word v x (s.known ++ begun n u ∷ [])) (sym same) (calm_comes u s.known w.1 (w.2 o)))
+      inr (same, subst (λ (n : Name). room.IsCalm word v x (s.known ++ begun n u ∷ [])) (sym same) (calm_comes u s.known w.1 w.2))
 
   opens_or : (from i : ℕ) (y : Name) (e : ℕ) (s : Vat Name) (o : Option (GiftEntry Name)) → gift_at from i s.gifts ≡ o → WhereSome (λ h. h.name ≡ Gift v i) o → OpensWell from i s → At e s
       → Ends (At e) (and_then (arrive.gift_or_new N s.number from i o s) (λ n. open_gift from i >> refs.resolve N n (Ref y)))
@@ -307,13 +291,13 @@ module _ (word : ℕ → ℕ) (v : ℕ) (x : Name) (owed care : Bool) (least : �
 
   opens_later : (from i : ℕ) (s : Vat Name) (n : Name) (h : ℕ) → OpensWell from i s → OpensWell from i (record s { known = s.known ++ begun n h ∷ [] })
   opens_later from i s n h (inl z) = inl z
-  opens_later from i s n h (inr w) = inr (w.0, w.1, λ o. still_so n h s.known (w.2 o), λ f found. let k = w.3 f found in (k.0, entry_append N x s.known (begun n h ∷ []) k.0 k.1))
+  opens_later from i s n h (inr w) = inr (w.0, w.1, still_so n h s.known w.2, λ f found. let k = w.3 f found in (k.0, entry_append N x s.known (begun n h ∷ []) k.0 k.1))
 
   arrive_open : (from i : ℕ) (z : Incoming Name Name) (e : ℕ) (s : Vat Name) → OpensWell from i s → At e s → Ends (At e) (arrive.arrive_open N from i z s)
   unfolding arrive.arrive_open arrive.learn_name ◌>>=◌ and_then give come naming name_of
   arrive_open from i (Old n) e s w g = opens_at from i n e s w g
   arrive_open from i (New n h) e s w g = let t : Vat Name = record s { known = s.known ++ begun n h ∷ [] } in
-      opens_at from i n e t (opens_later from i s n h w) (costs.less word v x owed care least (2 * share owed (one n x) + e) e (omega arith) t (costs.comes_good word v x owed care least e s n h g))
+      opens_at from i n e t (opens_later from i s n h w) (costs.less word v x owed (2 * share owed (one n x) + e) e (omega arith) t (costs.comes_good word v x owed e s n h g))
 
   -- ---- a view
 
@@ -352,7 +336,7 @@ module _ (word : ℕ → ℕ) (v : ℕ) (x : Name) (owed care : Bool) (least : �
   unfolding come naming
   carry_come c h = record {
     after = λ s. let n : Name = name_of v c in record {
-      at = λ e g. costs.less word v x owed care least (2 * share owed (one n x) + e) e (omega arith) (record s { known = s.known ++ begun n h ∷ [] }) (costs.comes_good word v x owed care least e s n h g);
+      at = λ e g. costs.less word v x owed (2 * share owed (one n x) + e) e (omega arith) (record s { known = s.known ++ begun n h ∷ [] }) (costs.comes_good word v x owed e s n h g);
       calm = λ k. calm_more s.known n h k;
     };
   }
@@ -376,14 +360,12 @@ module _ (word : ℕ → ℕ) (v : ℕ) (x : Name) (owed care : Bool) (least : �
     where
       later : Fits n s.known → Fits n t.known
       later (inl z) = inl z
-      later (inr i) = inr (i.0, λ o. r.calm (i.1 o))
-  bound_carried n e s (Throws p t) f r fits g k = r.at e g
-  bound_carried n e s (Ejects q y t) f r fits g k = r.at e g
-  bound_carried n e s (Stops c t) f r fits g k = r.at e g
+      later (inr i) = inr (i.0, r.calm i.1)
+  bound_carried n e s other f r fits g k = r.at e g
 
   sees_so : (n q : Name) (e : ℕ) (s : Vat Name) → IsOther n → Fits n s.known → At e s → Ends (At e) (arrive.see N n q s)
   unfolding arrive.see ◌>>◌ and_then tell alter changed_to
-  sees_so n q e s z fits g = costs.links_good word v x owed care least (See q) q refl refl (λ m. refl) (λ k. refl) n e s fits (costs.less word v x owed care least e (2 * share owed (one n x) + e) (omega arith) s g)
+  sees_so n q e s z fits g = costs.links_good word v x owed (See q) q refl refl (λ m. refl) (λ k. refl) n e s fits (costs.less word v x owed e (2 * share owed (one n x) + e) (omega arith) s g)
 
   carry_draw_after : (t : Vat Name) → After Carries t (draw N t)
   carry_draw_after t = let k = carry_draw in k.after t
@@ -407,35 +389,32 @@ module _ (word : ℕ → ℕ) (v : ℕ) (x : Name) (owed care : Bool) (least : �
 
   -- what is asked of the name that settled elsewhere: it takes nothing, and is another name, or is open or settled
   abbrev pub SeesWell : Incoming Name Name → Vat Name → Type 0
-  SeesWell z s = IsOther (told_name z) × ((one (told_name z) x ≡ 0) ⊎ ((told_name z ≡ x) × (N.same x x ≡ true) × (care ≡ true → IsOpenOrSettled s.known) × IsHere z s.known))
+  SeesWell z s = IsOther (told_name z) × ((one (told_name z) x ≡ 0) ⊎ ((told_name z ≡ x) × (N.same x x ≡ true) × IsOpenOrSettled s.known × IsHere z s.known))
 
   either_at : (n : Name) (c : ℕ) (e : ℕ) (s : Vat Name) → IsOther n → Fits n s.known → At e s → (b : Bool) (t : Words) → Ends (At e) ((if b then refs.settle N n (Broken t) else arrive.view_there N n c) s)
   either_at n c e s z fits g true t = let k = breaks n z (Broken t) in spare_after e s (refs.settle N n (Broken t) s) g (k.after s)
   either_at n c e s z fits g false t = views_so n c e s z fits g
 
-  new_fits : (n : Name) (h : ℕ) (s : Vat Name) → (one n x ≡ 0) ⊎ ((n ≡ x) × (N.same x x ≡ true) × (care ≡ true → IsOpenOrSettled s.known) × Unit {0}) → Fits n (s.known ++ begun n h ∷ [])
+  new_fits : (n : Name) (h : ℕ) (s : Vat Name) → (one n x ≡ 0) ⊎ ((n ≡ x) × (N.same x x ≡ true) × IsOpenOrSettled s.known × Unit {0}) → Fits n (s.known ++ begun n h ∷ [])
   new_fits n h s (inl z) = inl z
-  new_fits n h s (inr w) = inr (w.0, λ o. subst (λ (m : Name). room.IsCalm word v x (s.known ++ begun m h ∷ [])) (sym w.0) (calm_comes h s.known w.1 (w.2 o)))
+  new_fits n h s (inr w) = inr (w.0, subst (λ (m : Name). room.IsCalm word v x (s.known ++ begun m h ∷ [])) (sym w.0) (calm_comes h s.known w.1 w.2))
 
-  old_fits : (n : Name) (s : Vat Name) → (one n x ≡ 0) ⊎ ((n ≡ x) × (N.same x x ≡ true) × (care ≡ true → IsOpenOrSettled s.known) × ((k : Known Name) × (entry_of N s.known x ≡ Some k))) → Fits n s.known
+  old_fits : (n : Name) (s : Vat Name) → (one n x ≡ 0) ⊎ ((n ≡ x) × (N.same x x ≡ true) × IsOpenOrSettled s.known × ((k : Known Name) × (entry_of N s.known x ≡ Some k))) → Fits n s.known
   old_fits n s (inl z) = inl z
-  old_fits n s (inr w) = let k = w.3 in inr (w.0, λ o. calm_found s.known k.0 k.1 (w.2 o))
+  old_fits n s (inr w) = let k = w.3 in inr (w.0, calm_found s.known k.0 k.1 w.2)
 
   arrive_elsewhere : (z : Incoming Name Name) (c : ℕ) (e : ℕ) (s : Vat Name) → SeesWell z s → At e s → Ends (At e) (arrive.arrive_elsewhere N z c s)
   unfolding arrive.arrive_elsewhere arrive.learn_name ◌>>=◌ and_then give come look naming name_of
   arrive_elsewhere (Old n) c e s w g = either_at n c e s w.0 (old_fits n s w.1) g (is_in c s.noticed) _
   arrive_elsewhere (New n h) c e s w g = let t : Vat Name = record s { known = s.known ++ begun n h ∷ [] } in
-      either_at n c e t w.0 (new_fits n h s w.1) (costs.less word v x owed care least (2 * share owed (one n x) + e) e (omega arith) t (costs.comes_good word v x owed care least e s n h g)) (is_in c s.noticed) _
+      either_at n c e t w.0 (new_fits n h s w.1) (costs.less word v x owed (2 * share owed (one n x) + e) e (omega arith) t (costs.comes_good word v x owed e s n h g)) (is_in c s.noticed) _
 
   -- ---- notes
 
   shorten_to : (i : ℕ) (p : Place Name) → Keeps Spares (arrive.shorten_to N i p)
   unfolding arrive.shorten_to
   shorten_to i (Away h n true) = out h _
-  shorten_to i (Away h n false) = keeps_give Spares base tt
-  shorten_to i Near = keeps_give Spares base tt
-  shorten_to i (Mine n) = keeps_give Spares base tt
-  shorten_to i (Gone t) = keeps_give Spares base tt
+  shorten_to i other = keeps_give Spares base tt
 
   arrive_shorten : (z : Incoming Name Name) (i : ℕ) → Keeps Spares (arrive.arrive_shorten N z i)
   unfolding arrive.arrive_shorten
@@ -445,10 +424,9 @@ module _ (word : ℕ → ℕ) (v : ℕ) (x : Name) (owed care : Bool) (least : �
   abbrev pub NoteWell : ℕ → Vat Name → Note (Incoming Name Name) → Type 0
   NoteWell from s (Deliver d z verb ys) = IsMessageName (told_name d.message)
   NoteWell from s (Open i z) = OpensWell from i s
-  NoteWell from s (Ask p i z) = Unit {0}
   NoteWell from s (SettledTo z y) = IsOther (told_name z)
   NoteWell from s (Elsewhere z c) = SeesWell z s
-  NoteWell from s (Shorten z c i) = Unit {0}
+  NoteWell from s other = Unit {0}
 
   by_spare : {A : Type 0} {m : Act Name A} (e : ℕ) (s : Vat Name) → Keeps Spares m → At e s → Ends (At e) (m s)
   by_spare {m = m} e s k g = spare_after e s (m s) g (k.after s)
@@ -470,10 +448,9 @@ module _ (word : ℕ → ℕ) (v : ℕ) (x : Name) (owed care : Bool) (least : �
 
   break_hosted : (w : ℕ) (n : Name) (t : Words) (st : Standing Name) → IsOther n → Keeps Spares (arrive.break_hosted N w n t st)
   unfolding arrive.break_hosted
-  break_hosted w n t Unsettled z = breaks n z (Broken t)
-  break_hosted w n t (WaitsOn q) z = breaks n z (Broken t)
   break_hosted w n t (Viewed q) z = keeps_give Spares base tt
   break_hosted w n t (Settled y) z = keeps_give Spares base tt
+  break_hosted w n t other z = breaks n z (Broken t)
 
   hosted_or : (w : ℕ) (k : Known Name) (b : Bool) → (b ≡ true → IsOther k.name) → (t : Words) (st : Standing Name) → Keeps Spares (if b then arrive.break_hosted N w k.name t st else give tt)
   hosted_or w k true z t st = break_hosted w k.name t st (z refl)
@@ -500,9 +477,7 @@ module _ (word : ℕ → ℕ) (v : ℕ) (x : Name) (owed care : Bool) (least : �
   gifts_then : (w e : ℕ) (d : Done Name (Unit {0})) → Ends (At e) d → Ends (At e) (and_then d (λ _. look (λ (s : Vat Name). s.gifts) >>= (λ gs. each (arrive.notice_gift N w) gs)))
   unfolding ◌>>=◌ and_then look
   gifts_then w e (Gives a t) g = by_spare e t (notice_gifts w t.gifts g.gifts) g
-  gifts_then w e (Throws p t) g = g
-  gifts_then w e (Ejects n y t) g = g
-  gifts_then w e (Stops c t) g = g
+  gifts_then w e other g = g
 
   notices_all : (w e : ℕ) (s : Vat Name) → AllOf (NoticesWell w) s.known → At e s → Ends (At e) (arrive.notice_all N w s)
   unfolding arrive.notice_all ◌>>=◌ ◌>>◌ and_then look mark

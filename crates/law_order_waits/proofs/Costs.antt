@@ -38,16 +38,16 @@ ends_map P Q f (Throws p t) h = f t h
 ends_map P Q f (Ejects n y t) h = f t h
 ends_map P Q f (Stops c t) h = f t h
 
-module _ (word : ℕ → ℕ) (v : ℕ) (x : Name) (owed care : Bool) (least : ℕ) where
+module _ (word : ℕ → ℕ) (v : ℕ) (x : Name) (owed : Bool) where
   abbrev N : Naming Name Name
   N = naming word v
 
   abbrev Waiting : List (Known Name) → Type 0
   Waiting ks = room.Waiting word v x ks
 
-  -- where it is cared for, what it waits on is where it waits, if it is known once
+  -- what it waits on is where it waits, if it is known once
   abbrev pub Cares : List (Known Name) → Type 0
-  Cares ks = care ≡ true → (2 ≤ times x ks) ⊎ Waiting ks
+  Cares ks = (2 ≤ times x ks) ⊎ Waiting ks
 
   abbrev burden : List (Known Name) → ℕ
   burden ks = room.burden word v x ks
@@ -57,14 +57,13 @@ module _ (word : ℕ → ℕ) (v : ℕ) (x : Name) (owed care : Bool) (least : �
     pub number : n ≡ v
     pub fits : 2 * (total (answers x) ms + total (asked_at x) ks) + share owed (burden ks) + c ≤ 2 * share owed (times x ks)
     pub waiting : Cares ks
-    pub known : least ≤ times x ks
     pub gifts : AllOf (IsNamed v) gs
 
   abbrev pub At : ℕ → Vat Name → Type 0
   At c s = Good c s.number s.queue s.known s.gifts
 
   pub less : (a b : ℕ) → b ≤ a → (s : Vat Name) → At a s → At b s
-  less a b l s h = let r = h.fits in record { number = h.number; fits = omega arith; waiting = h.waiting; known = h.known; gifts = h.gifts }
+  less a b l s h = let r = h.fits in record { number = h.number; fits = omega arith; waiting = h.waiting; gifts = h.gifts }
 
   -- ---- what takes nothing
 
@@ -92,9 +91,7 @@ module _ (word : ℕ → ℕ) (v : ℕ) (x : Name) (owed care : Bool) (least : �
 
   spared : {A : Type 0} (e : ℕ) (s : Vat Name) (d : Done Name A) → At e s → After Spares s d → Ends (At e) d
   spared e s (Gives a t) h r = r.at e h
-  spared e s (Throws p t) h r = r.at e h
-  spared e s (Ejects n y t) h r = r.at e h
-  spared e s (Stops c t) h r = r.at e h
+  spared e s other h r = r.at e h
 
   pub costs_free : {A : Type 0} {m : Act Name A} (c : ℕ) → Keeps Spares m → Costs c m
   costs_free {m = m} c k = record { after = λ e s h. spared e s (m s) (less (c + e) e (omega arith) s h) (k.after s) }
@@ -144,9 +141,7 @@ module _ (word : ℕ → ℕ) (v : ℕ) (x : Name) (owed care : Bool) (least : �
 
   spares_by : {A : Type 0} (s : Vat Name) (d : Done Name A) → ((e : ℕ) → At e s → Ends (At e) d) → After Spares s d
   spares_by s (Gives a t) f = record { at = f }
-  spares_by s (Throws p t) f = record { at = f }
-  spares_by s (Ejects n y t) f = record { at = f }
-  spares_by s (Stops c t) f = record { at = f }
+  spares_by s other f = record { at = f }
 
   -- what takes nothing
   pub as_free : {A : Type 0} {m : Act Name A} → Costs 0 m → Keeps Spares m
@@ -160,7 +155,7 @@ module _ (word : ℕ → ℕ) (v : ℕ) (x : Name) (owed care : Bool) (least : �
 
   pub spare_open : (p i : ℕ) → Keeps {N = Name} Spares (open_gift p i)
   unfolding open_gift
-  spare_open p i = record { after = λ s. record { at = λ e h. record { number = h.number; fits = h.fits; waiting = h.waiting; known = h.known; gifts = opened_named v p i s.gifts h.gifts } } }
+  spare_open p i = record { after = λ s. record { at = λ e h. record { number = h.number; fits = h.fits; waiting = h.waiting; gifts = opened_named v p i s.gifts h.gifts } } }
 
   pub spare_mark : (w : ℕ) → Keeps {N = Name} Spares (mark w)
   unfolding mark
@@ -181,9 +176,9 @@ module _ (word : ℕ → ℕ) (v : ℕ) (x : Name) (owed care : Bool) (least : �
 
   -- a name that comes to be known makes room
   pub comes_good : (e : ℕ) (s : Vat Name) (n : Name) (h : ℕ) → At e s → Good (2 * share owed (one n x) + e) s.number s.queue (s.known ++ begun n h ∷ []) s.gifts
-  comes_good e s n h g = let r = g.fits in let had = g.known in let more_known = room.times_comes word v x n h s.known in let a = room.asked_comes word v x n h s.known in let b : share owed (burden (s.known ++ begun n h ∷ [])) ≡ share owed (burden s.known) = ap (share owed) (room.burden_comes word v x n h s.known) in
+  comes_good e s n h g = let r = g.fits in let a = room.asked_comes word v x n h s.known in let b : share owed (burden (s.known ++ begun n h ∷ [])) ≡ share owed (burden s.known) = ap (share owed) (room.burden_comes word v x n h s.known) in
       let c : share owed (times x (s.known ++ begun n h ∷ [])) ≡ share owed (times x s.known + one n x) = ap (share owed) (room.times_comes word v x n h s.known) in let d = share_sum owed (times x s.known) (one n x) in
-      record { number = g.number; fits = omega arith; waiting = λ c. go (g.waiting c); known = omega arith; gifts = g.gifts }
+      record { number = g.number; fits = omega arith; waiting = go g.waiting; gifts = g.gifts }
     where
       go : (2 ≤ times x s.known) ⊎ Waiting s.known → (2 ≤ times x (s.known ++ begun n h ∷ [])) ⊎ Waiting (s.known ++ begun n h ∷ [])
       go (inl i) = let c = room.times_comes word v x n h s.known in inl (omega arith)
@@ -201,13 +196,13 @@ module _ (word : ℕ → ℕ) (v : ℕ) (x : Name) (owed care : Bool) (least : �
 
   pub changes_good : (c : Change Name) (n : Name) (e : ℕ) (s : Vat Name) → At (2 * asks_more x c + (share owed (waits_more x c + room.turns_more word v x c n) + e)) s
       → Cares (with_change N c n s.known) → At e (record s { known = with_change N c n s.known })
-  changes_good c n e s g w = let r = g.fits in let had = g.known in let same_known = room.times_changed word v x c n s.known in let more : ℕ = waits_more x c + room.turns_more word v x c n in let a = room.asked_after word v x c n s.known in
+  changes_good c n e s g w = let r = g.fits in let more : ℕ = waits_more x c + room.turns_more word v x c n in let a = room.asked_after word v x c n s.known in
       let b = share_grows owed (burden (with_change N c n s.known)) (burden s.known + more) (room.burden_changed word v x c n s.known) in let d = share_sum owed (burden s.known) more in
-      let t : share owed (times x (with_change N c n s.known)) ≡ share owed (times x s.known) = ap (share owed) (room.times_changed word v x c n s.known) in record { number = g.number; fits = omega arith; waiting = w; known = omega arith; gifts = g.gifts }
+      let t : share owed (times x (with_change N c n s.known)) ≡ share owed (times x s.known) = ap (share owed) (room.times_changed word v x c n s.known) in record { number = g.number; fits = omega arith; waiting = w; gifts = g.gifts }
 
   -- where it waits on no more, and stands as it did
   pub still : (c : Change Name) (n : Name) (ks : List (Known Name)) → waits_more x c ≡ 0 → standing_of N (with_change N c n ks) x ≡ standing_of N ks x → Cares ks → Cares (with_change N c n ks)
-  still c n ks z e h = λ o. go (h o)
+  still c n ks z e h = go h
     where
       go : (2 ≤ times x ks) ⊎ Waiting ks → (2 ≤ times x (with_change N c n ks)) ⊎ Waiting (with_change N c n ks)
       go (inl i) = let same = room.times_changed word v x c n ks in inl (omega arith)
@@ -231,13 +226,13 @@ module _ (word : ℕ → ℕ) (v : ℕ) (x : Name) (owed care : Bool) (least : �
 
   pub costs_queue : (m : Message Name) → Costs (2 * answers x m) (enqueue m)
   unfolding enqueue
-  costs_queue m = record { after = λ e s g. let r = g.fits in let more = total_end (answers x) s.queue m in record { number = g.number; fits = omega arith; waiting = g.waiting; known = g.known; gifts = g.gifts } }
+  costs_queue m = record { after = λ e s g. let r = g.fits in let more = total_end (answers x) s.queue m in record { number = g.number; fits = omega arith; waiting = g.waiting; gifts = g.gifts } }
 
   -- ---- waits
 
-  -- It is another name, or one that did neither settle nor wait, or settled, where that is cared for.
+  -- It is another name, or one that did neither settle nor wait, or settled.
   abbrev pub Fits : Name → List (Known Name) → Type 0
-  Fits n ks = (one n x ≡ 0) ⊎ ((n ≡ x) × (care ≡ true → room.IsCalm word v x ks))
+  Fits n ks = (one n x ≡ 0) ⊎ ((n ≡ x) × room.IsCalm word v x ks)
 
   -- another name leaves how it stands
   other_stands : (c : Change Name) (n : Name) (ks : List (Known Name)) → one n x ≡ 0 → standing_of N (with_change N c n ks) x ≡ standing_of N ks x
@@ -264,18 +259,18 @@ module _ (word : ℕ → ℕ) (v : ℕ) (x : Name) (owed care : Bool) (least : �
     pub links_good : (p : Name) (e : ℕ) (s : Vat Name) → Fits p s.known → At (2 * share owed (one p x) + e) s → At e (record s { known = Linked p s.known })
     links_good p e s (inl z) g = let mid = still c p s.known none (other_stands c p s.known z) g.waiting in
         linked_good p e s g mid (still (Wait p) r (with_change N c p s.known) z (mild_stands word v (Wait p) tt r x (with_change N c p s.known)) mid)
-    links_good p e s (inr h) g = subst (λ (q : Name). At e (record s { known = Linked q s.known })) (sym h.0) (linked_good x e s (subst (λ (q : Name). At (2 * share owed (one q x) + e) s) h.0 g) (λ o. mid o (g.waiting o)) (λ o. end o (g.waiting o)))
+    links_good p e s (inr h) g = subst (λ (q : Name). At e (record s { known = Linked q s.known })) (sym h.0) (linked_good x e s (subst (λ (q : Name). At (2 * share owed (one q x) + e) s) h.0 g) (mid g.waiting) (end g.waiting))
       where
         twice : (ks ls : List (Known Name)) → times x ls ≡ times x ks → 2 ≤ times x ks → 2 ≤ times x ls
         twice ks ls same i = omega arith
 
-        mid : care ≡ true → (2 ≤ times x s.known) ⊎ Waiting s.known → (2 ≤ times x (with_change N c x s.known)) ⊎ Waiting (with_change N c x s.known)
-        mid o (inl i) = inl (twice s.known (with_change N c x s.known) (room.times_changed word v x c x s.known) i)
-        mid o (inr w) = let now = room.turned word v x c r none new s.known (h.1 o) w in inr now.0
+        mid : (2 ≤ times x s.known) ⊎ Waiting s.known → (2 ≤ times x (with_change N c x s.known)) ⊎ Waiting (with_change N c x s.known)
+        mid (inl i) = inl (twice s.known (with_change N c x s.known) (room.times_changed word v x c x s.known) i)
+        mid (inr w) = let now = room.turned word v x c r none new s.known h.1 w in inr now.0
 
-        end : care ≡ true → (2 ≤ times x s.known) ⊎ Waiting s.known → (2 ≤ times x (Linked x s.known)) ⊎ Waiting (Linked x s.known)
-        end o (inl i) = inl (twice s.known (Linked x s.known) (room.times_changed word v x (Wait x) r (with_change N c x s.known) ∙ room.times_changed word v x c x s.known) i)
-        end o (inr w) = inr (room.waits_on word v x c r none new s.known (h.1 o) w)
+        end : (2 ≤ times x s.known) ⊎ Waiting s.known → (2 ≤ times x (Linked x s.known)) ⊎ Waiting (Linked x s.known)
+        end (inl i) = inl (twice s.known (Linked x s.known) (room.times_changed word v x (Wait x) r (with_change N c x s.known) ∙ room.times_changed word v x c x s.known) i)
+        end (inr w) = inr (room.waits_on word v x c r none new s.known h.1 w)
 
     -- of one for which there is room
     module _ (owes : owed ≡ true → IsEventual x) (p : Name) (e : ℕ) (s : Vat Name) (g : At (2 * one p x + e) s) where
@@ -291,11 +286,11 @@ module _ (word : ℕ → ℕ) (v : ℕ) (x : Name) (owed care : Bool) (least : �
           let r = has_room in room.free_calm word v x (owes o) s.known (omega arith) (omega arith)
 
       many : 2 ≤ times x s.known → At e (record s { known = Linked p s.known })
-      many two = let a = room.times_changed word v x c p s.known in let b = room.times_changed word v x (Wait p) r (with_change N c p s.known) in linked_good p e s paid (λ o. inl (omega arith)) (λ o. inl (omega arith))
+      many two = let a = room.times_changed word v x c p s.known in let b = room.times_changed word v x (Wait p) r (with_change N c p s.known) in linked_good p e s paid (inl (omega arith)) (inl (omega arith))
 
       few : owed ≡ true → p ≡ x → (2 ≤ times x s.known) ⊎ (times x s.known ≤ 1) → At e (record s { known = Linked p s.known })
       few o same (inl two) = many two
-      few o same (inr one) = links_good p e s (inr (same, λ c. calm o (one_self p x same) one)) paid
+      few o same (inr one) = links_good p e s (inr (same, calm o (one_self p x same) one)) paid
 
       by_owed : (o : Bool) → owed ≡ o → (one p x ≡ 0) ⊎ (p ≡ x) → At e (record s { known = Linked p s.known })
       unfolding share
@@ -311,9 +306,9 @@ module _ (word : ℕ → ℕ) (v : ℕ) (x : Name) (owed care : Bool) (least : �
   -- A name settles that did not: what it held, and what waited on it, is in hand.
   pub settles_good : (y : Value Name) (p : Name) (k : Known Name) (e : ℕ) (s : Vat Name) → entry_of N s.known p ≡ Some k → IsOpen k.standing → At (share owed (one p x) + e) s
       → At (2 * asked_at x k + (share owed (waits_at x k) + e)) (record s { known = with_change N (Settle y) p s.known })
-  settles_good y p k e s found loose g = let r = g.fits in let had = g.known in let same_known = room.times_changed word v x (Settle y) p s.known in let ls : List (Known Name) = with_change N (Settle y) p s.known in let a = room.asked_settles word v x y p k s.known found loose in
+  settles_good y p k e s found loose g = let r = g.fits in let ls : List (Known Name) = with_change N (Settle y) p s.known in let a = room.asked_settles word v x y p k s.known found loose in
       let b = share_grows owed (burden ls + waits_at x k) (burden s.known + one p x) (room.burden_settles word v x y p k s.known found loose) in let c = share_sum owed (burden ls) (waits_at x k) in let d = share_sum owed (burden s.known) (one p x) in
-      let t : share owed (times x ls) ≡ share owed (times x s.known) = ap (share owed) (room.times_changed word v x (Settle y) p s.known) in record { number = g.number; fits = omega arith; waiting = λ c. go (g.waiting c); known = omega arith; gifts = g.gifts }
+      let t : share owed (times x ls) ≡ share owed (times x s.known) = ap (share owed) (room.times_changed word v x (Settle y) p s.known) in record { number = g.number; fits = omega arith; waiting = go g.waiting; gifts = g.gifts }
     where
       go : (2 ≤ times x s.known) ⊎ Waiting s.known → (2 ≤ times x (with_change N (Settle y) p s.known)) ⊎ Waiting (with_change N (Settle y) p s.known)
       go (inl i) = let same = room.times_changed word v x (Settle y) p s.known in inl (omega arith)

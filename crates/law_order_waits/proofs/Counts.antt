@@ -90,23 +90,17 @@ module _ (word : ℕ → ℕ) (v : ℕ) where
 
   -- a change that settles nothing, has nothing wait, and views nothing
   abbrev pub IsMild : Change Name → Type 0
-  IsMild (Hold m) = Unit {0}
-  IsMild (Wait q) = Unit {0}
-  IsMild (React m) = Unit {0}
-  IsMild (ToTell w) = Unit {0}
   IsMild (WaitOn q) = ⊥
   IsMild (See q) = ⊥
   IsMild (Settle y) = ⊥
+  IsMild other = Unit {0}
 
   mild_to : (c : Change Name) → IsMild c → (k : Known Name) → (changed_to c k).standing ≡ k.standing
   unfolding changed_to
-  mild_to (Hold m) h k = refl
-  mild_to (Wait q) h k = refl
-  mild_to (React m) h k = refl
-  mild_to (ToTell w) h k = refl
   mild_to (WaitOn q) h k = absurd h
   mild_to (See q) h k = absurd h
   mild_to (Settle y) h k = absurd h
+  mild_to other h k = refl
 
   pub mild_stands : (c : Change Name) → IsMild c → (n x : Name) (ks : List (Known Name)) → standing_of N (with_change N c n ks) x ≡ standing_of N ks x
   mild_stands c h n x ks = go (stands c n x ks)
@@ -137,21 +131,13 @@ module _ (x : Name) where
   abbrev pub asks_more : Change Name → ℕ
   asks_more (Hold m) = answers x m
   asks_more (React m) = answers x m
-  asks_more (Wait q) = 0
-  asks_more (WaitOn q) = 0
-  asks_more (See q) = 0
-  asks_more (ToTell w) = 0
-  asks_more (Settle y) = 0
+  asks_more other = 0
 
   asked_to : (c : Change Name) (k : Known Name) → asked_at x (changed_to c k) ≤ asked_at x k + asks_more c
   unfolding changed_to asked_at total
   asked_to (Hold m) k = let more = total_end (answers x) k.held m in omega arith
   asked_to (React m) k = let more = total_end (answers x) k.reactions m in omega arith
-  asked_to (Wait q) k = omega arith
-  asked_to (WaitOn q) k = omega arith
-  asked_to (See q) k = omega arith
-  asked_to (ToTell w) k = omega arith
-  asked_to (Settle y) k = omega arith
+  asked_to other k = omega arith
 
   pub asked_changed : (c : Change Name) (k : Known Name) → asked_at x (changed c k) ≤ asked_at x k + asks_more c
   asked_changed c k = after_change c (λ (j : Known Name). asked_at x j ≤ asked_at x k + asks_more c) k (omega arith) (asked_to c k)
@@ -159,22 +145,12 @@ module _ (x : Name) where
   -- the name waits on another
   abbrev pub waits_more : Change Name → ℕ
   waits_more (Wait q) = one q x
-  waits_more (Hold m) = 0
-  waits_more (React m) = 0
-  waits_more (WaitOn q) = 0
-  waits_more (See q) = 0
-  waits_more (ToTell w) = 0
-  waits_more (Settle y) = 0
+  waits_more other = 0
 
   waits_to : (c : Change Name) (k : Known Name) → waits_at x (changed_to c k) ≤ waits_at x k + waits_more c
   unfolding changed_to waits_at total
   waits_to (Wait q) k = let more = total_end (λ (p : Name). one p x) k.waiting q in omega arith
-  waits_to (Hold m) k = omega arith
-  waits_to (React m) k = omega arith
-  waits_to (WaitOn q) k = omega arith
-  waits_to (See q) k = omega arith
-  waits_to (ToTell w) k = omega arith
-  waits_to (Settle y) k = omega arith
+  waits_to other k = omega arith
 
   pub waits_changed : (c : Change Name) (k : Known Name) → waits_at x (changed c k) ≤ waits_at x k + waits_more c
   waits_changed c k = after_change c (λ (j : Known Name). waits_at x j ≤ waits_at x k + waits_more c) k (omega arith) (waits_to c k)

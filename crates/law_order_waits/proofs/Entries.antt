@@ -30,9 +30,7 @@ module _ (script : Script) (w y : World) where
   put_back_goes : (v : ℕ) (z : World) (head : List Event) (k : ℕ) (d : Done Name (Unit {0})) → z.vats ≡ w.vats → ((t : Vat Name) → d ≡ Gives tt t → y.vats ≡ put_at v t w.vats → Went) → world.put_back v z head k d ≡ Going y → Went
   unfolding world.put_back
   put_back_goes v z head k (Gives u t) same f e = f t refl (vats_of _ e ∙ ap (put_at v t) same)
-  put_back_goes v z head k (Throws p t) same f e = cc
-  put_back_goes v z head k (Ejects n x t) same f e = cc
-  put_back_goes v z head k (Stops c t) same f e = cc
+  put_back_goes v z head k other same f e = cc
 
   idle_goes : (k : ℕ) (z : World) → z.vats ≡ w.vats → world.idle script k z ≡ Going y → Went
   unfolding world.idle

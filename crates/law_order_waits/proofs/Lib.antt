@@ -9,5 +9,5 @@ pub mod Classes
 pub mod Entries
 pub mod Moving
 pub mod Standing
+pub mod OwnTurns
 pub mod Runs
-pub mod Promises

@@ -1,13 +1,13 @@
 -- Each move from a world of a run to the next keeps, of each name at each vat, that there is room for its messages and that what it waits on is where it waits.
 use Rattle.std.proofs.Common.{◌≡◌, ℕ, zero, suc, ◌+◌, ◌*◌, ◌≤◌, Bool, true, false, List, [], ◌∷◌, ◌++◌, Option, Some, refl, sym, ap, subst, ◌∙◌, ◌⊎◌, inl, inr, arith, map, if◌then◌else◌, eq-eqb, ◌==◌}
 use Rattle.std.specs.Prelude.{slice_get}
-use Rattle.def_machine.specs.Values.{Value, Name, Root, Gift, Sent, Naming, naming, same_reference, host_of}
+use Rattle.def_machine.specs.Values.{Value, Name, Root, Promise, Gift, Sent, Naming, naming, same_reference, host_of}
 use Rattle.def_machine.specs.State.{Message, Standing, Unsettled, Settled, Known, Note, Deliver, Open, Ask, SettledTo, Elsewhere, Shorten, GiftEntry, Vat, Done, Gives, ◌>>=◌, ◌>>◌, and_then, give, look, mark, WhereSome, is_in, is_gift, begun}
 use Rattle.def_machine.specs.Refs.{entry_of, standing_of, standing_in}
 use Rattle.def_machine.specs.Arrive as arrive
 use Rattle.def_machine.specs.Arrive.{Incoming, Old, New, gift_at}
 use Rattle.def_kernel.specs.declared.node.Node.{Node}
-use Rattle.law_machine.specs.Steps.{Step, Opens as Starts, Takes, Receives, Notices, does}
+use Rattle.law_machine.specs.Steps.{Opens as Starts, Takes, Receives, Notices, does}
 use Rattle.def_run.specs.Draws.{draw_word}
 use Rattle.def_run.specs.World as world
 use Rattle.def_run.specs.World.{Script, Program, Link, World, link_at, with_link, with_notes, put_at, names_of, read_note, read_name, is_old, readied}
@@ -16,10 +16,8 @@ use Rattle.law_name.specs.Names.{AllOf, IsAmong, NoteOk, Everywhere, IsHad, IsKn
 use Rattle.law_name.proofs.Facts.{MayBe, all_map}
 use Rattle.law_name.proofs.SameNames.{old_known, reference_self}
 use Rattle.law_fate.specs.Fate.{one, total}
-use Rattle.law_frozen.specs.Frozen.{AllOf as EachOf, MessageThere, NotePasses, Sound}
-use Rattle.law_frozen.specs.Laws.{StepWell}
-use Rattle.law_frozen.proofs.Fine.{MayBe as Maybe}
-use Rattle.law_frozen.proofs.RunSound.{WorldSound, LinkPasses, link_passes, note_read, given_well}
+use Rattle.law_frozen.specs.Frozen.{AllOf as EachOf, MessageThere, Sound}
+use Rattle.law_frozen.proofs.RunSound.{WorldSound, given_well}
 use Rattle.law_gift.proofs.Kept.{found_named}
 use Rattle.law_reference.specs.ListRingless.{IsNamed, told_name}
 use Rattle.law_reference.specs.Notes.{IsBetween}
@@ -39,7 +37,7 @@ use Rattle.law_order_waits.proofs.Costs as costs
 use Rattle.law_order_waits.proofs.Arriving as arriving
 use Rattle.law_order_waits.proofs.Turns as turns
 use Rattle.law_order_waits.proofs.Entries.{Went, Stays, Turns, Comes, Noticed, FreshFrom}
-use Rattle.law_order_waits.proofs.Classes.{owed_at, cared_at, root_room, Class, usual}
+use Rattle.law_order_waits.proofs.Classes.{owed_at, fit_at, root_room, other_host}
 
 -- it did neither settle nor wait, or it settled
 abbrev pub IsOpenOrSettled : Standing Name → Type 0
@@ -83,7 +81,7 @@ gift_found P p i (g ∷ gs) all h e = go (λ f. gift_found P p i gs all.1 h f) (
 
 -- ---- a notice
 
-given_at : (P : Vat Name → Type 0) (d : Done Name (Unit {0})) (t : Vat Name) → AfterGives P d → d ≡ Gives tt t → P t
+pub given_at : (P : Vat Name → Type 0) (d : Done Name (Unit {0})) (t : Vat Name) → AfterGives P d → d ≡ Gives tt t → P t
 given_at P d t h e = rw e at h
 
 last_in : (w : ℕ) (xs : List ℕ) → is_in w (xs ++ w ∷ []) ≡ true
@@ -132,30 +130,16 @@ module _ (script : Script) where
     pub opened : (a v : ℕ) (s : Vat Name) (l : Link) (i : ℕ) (n : Name) (ns : List (Note Name)) → slice_get w.vats v ≡ Some s → link_at a v w.links ≡ Some l → l.cut ≡ false → l.notes ≡ Open i n ∷ ns → IsOpenOrSettled (standing_of (naming word v) s.known (Gift v i))
 
   -- that there is room for a name, and that what it waits on is where it waits
-  abbrev pub HeldBy : (v : ℕ) (x : Name) → Class v x → Vat Name → Type 0
-  HeldBy v x kind s = costs.At word v x kind.owed kind.care kind.least 0 s
-
   abbrev pub Held : ℕ → Name → Vat Name → Type 0
-  Held v x s = HeldBy v x (usual v x) s
+  Held v x s = costs.At word v x (owed_at v x) 0 s
 
   -- ---- a step of one vat
 
-  module _ (v : ℕ) (w : World) (x : Name) (kind : Class v x) where
-    abbrev Price : Step Name Name → ℕ
-    Price what = turns.price word v x kind.owed kind.care kind.least kind.fit kind.free what
-
-    abbrev Fits : Vat Name → Step Name Name → Type 0
-    Fits s what = turns.StepFits word v x kind.owed kind.care kind.least kind.fit kind.free s what
-
-    ended_at : (d : Done Name (Unit {0})) (t : Vat Name) → Ends (λ u. HeldBy v x kind u) d → d ≡ Gives tt t → HeldBy v x kind t
+  module _ (v : ℕ) (w : World) (x : Name) where
+    ended_at : (d : Done Name (Unit {0})) (t : Vat Name) → Ends (λ u. Held v x u) d → d ≡ Gives tt t → Held v x t
     ended_at d t h e = rw e at h
 
-    stepped : (q t : Vat Name) (what : Step Name Name) → does (world.names script v) what (readied w q) ≡ Gives tt t → Fits (readied w q) what → Sound (naming word v) (readied w q) → StepWell (naming word v) (readied w q) what
-        → costs.At word v x kind.owed kind.care kind.least (Price what + 0) (readied w q) → HeldBy v x kind t
-    unfolding world.names
-    stepped q t what gives fits sound well g = ended_at (does (naming word v) what (readied w q)) t (turns.step_good word v x kind.owed kind.care kind.least kind.fit kind.free what 0 (readied w q) fits sound well g) gives
-
-    ready : (c : ℕ) (q : Vat Name) → costs.At word v x kind.owed kind.care kind.least c q → costs.At word v x kind.owed kind.care kind.least c (readied w q)
+    ready : (c : ℕ) (q : Vat Name) → costs.At word v x (owed_at v x) c q → costs.At word v x (owed_at v x) c (readied w q)
     unfolding readied
     ready c q h = h
 
@@ -168,35 +152,53 @@ module _ (script : Script) where
     same_sound s k = record { things = k.things; slots = k.slots; lists = k.lists; stacked = k.stacked; queue = k.queue; known = k.known; outbox = tt }
 
     -- the message that is taken makes room for what it takes
-    taken : (s : Vat Name) (m : Message Name) (ms : List (Message Name)) → s.queue ≡ m ∷ ms → HeldBy v x kind s → costs.At word v x kind.owed kind.care kind.least (2 * answers x m + 0) (record s { queue = ms })
+    taken : (s : Vat Name) (m : Message Name) (ms : List (Message Name)) → s.queue ≡ m ∷ ms → Held v x s → costs.At word v x (owed_at v x) (2 * answers x m + 0) (record s { queue = ms })
     unfolding total
-    taken s m ms e h = let r = h.fits in let split : total (answers x) s.queue ≡ answers x m + total (answers x) ms = ap (total (answers x)) e in record { number = h.number; fits = omega arith; waiting = h.waiting; known = h.known; gifts = h.gifts }
-
-    padded : (s : Vat Name) → HeldBy v x kind s → costs.At word v x kind.owed kind.care kind.least (0 + 0) s
-    padded s h = costs.less word v x kind.owed kind.care kind.least 0 (0 + 0) (omega arith) s h
+    taken s m ms e h = let r = h.fits in let split : total (answers x) s.queue ≡ answers x m + total (answers x) ms = ap (total (answers x)) e in record { number = h.number; fits = omega arith; waiting = h.waiting; gifts = h.gifts }
 
     -- a turn
-    turned_held : (s t : Vat Name) (tree : List Node) (depth : ℕ) (m : Message Name) (ms : List (Message Name)) → s.queue ≡ m ∷ ms → does (world.names script v) (Takes tree depth m) (readied w (record s { queue = ms })) ≡ Gives tt t → Sound (naming word v) s → HeldBy v x kind s → HeldBy v x kind t
-    unfolding readied
-    turned_held s t tree depth m ms e gives sound h = let there : EachOf (MessageThere s.lists) (m ∷ ms) = subst (λ qs. EachOf (MessageThere s.lists) qs) e sound.queue in
-        stepped (record s { queue = ms }) t (Takes tree depth m) gives tt (ready_sound s ms sound there.1) there.0 (ready (2 * answers x m + 0) (record s { queue = ms }) (taken s m ms e h))
-
-    -- a notice of another vat
-    marked_held : (s t : Vat Name) (to : ℕ) → (v ≡ to → ⊥) → does (world.names script v) (Notices to) (readied w s) ≡ Gives tt t → Sound (naming word v) s → AllOf HostIsTrue s.known → HeldBy v x kind s → HeldBy v x kind t
-    unfolding readied
-    marked_held s t to apart gives sound hosts h = stepped s t (Notices to) gives
-        (all_map {P = HostIsTrue} {Q = λ (k : Known Name). arriving.NoticesWell word v x kind.owed kind.care kind.least kind.fit to k} (λ k i e. kind.other k.name (λ f. apart (sym f ∙ (sym i ∙ e)))) s.known hosts)
-        (same_sound s sound) tt (ready (0 + 0) s (padded s h))
+    turned_held : ((i : ℕ) → one (Promise v i) x ≡ 0) → (s t : Vat Name) (tree : List Node) (depth : ℕ) (m : Message Name) (ms : List (Message Name)) → s.queue ≡ m ∷ ms → does (world.names script v) (Takes tree depth m) (readied w (record s { queue = ms })) ≡ Gives tt t → Sound (naming word v) s → Held v x s → Held v x t
+    unfolding readied does world.names
+    turned_held free s t tree depth m ms e gives sound h = let there : EachOf (MessageThere s.lists) (m ∷ ms) = subst (λ qs. EachOf (MessageThere s.lists) qs) e sound.queue in
+        ended_at (does (naming word v) (Takes tree depth m) (readied w (record s { queue = ms }))) t
+        (turns.taking_keeps word v x (owed_at v x) (fit_at v x) free tree depth m 0 (readied w (record s { queue = ms })) (ready_sound s ms sound there.1) there.0 (ready (2 * answers x m + 0) (record s { queue = ms }) (taken s m ms e h))) gives
 
     -- an opening turn, which resolves the root
-    opened_held : (s t : Vat Name) (p : Program) → does (world.names script v) (Starts p.tree script.depth (Root v) (world.given script.vats p.knows)) (readied w s) ≡ Gives tt t → Sound (naming word v) s → costs.At word v x kind.owed kind.care kind.least (2 * one (Root v) x) s → HeldBy v x kind t
-    unfolding world.names
-    opened_held s t p gives sound h = stepped s t (Starts p.tree script.depth (Root v) (world.given script.vats p.knows)) gives tt (same_sound s sound) (given_well script v (readied w s) p.knows)
-        (ready (2 * one (Root v) x + 0) s (costs.less word v x kind.owed kind.care kind.least (2 * one (Root v) x) (2 * one (Root v) x + 0) (omega arith) s h))
+    opened_held : ((i : ℕ) → one (Promise v i) x ≡ 0) → (s t : Vat Name) (p : Program) → does (world.names script v) (Starts p.tree script.depth (Root v) (world.given script.vats p.knows)) (readied w s) ≡ Gives tt t → Sound (naming word v) s → costs.At word v x (owed_at v x) (2 * one (Root v) x) s → Held v x t
+    unfolding does world.names
+    opened_held free s t p gives sound h = ended_at (does (naming word v) (Starts p.tree script.depth (Root v) (world.given script.vats p.knows)) (readied w s)) t
+        (turns.opening_keeps word v x (owed_at v x) (fit_at v x) free p.tree script.depth (Root v) (world.given script.vats p.knows) 0 (readied w s) (same_sound s sound) (given_well script v (readied w s) p.knows)
+        (ready (2 * one (Root v) x + 0) s (costs.less word v x (owed_at v x) (2 * one (Root v) x) (2 * one (Root v) x + 0) (omega arith) s h))) gives
+
+    -- a notice of another vat
+    marked_held : (s t : Vat Name) (to : ℕ) → (v ≡ to → ⊥) → does (world.names script v) (Notices to) (readied w s) ≡ Gives tt t → AllOf HostIsTrue s.known → Held v x s → Held v x t
+    unfolding readied does world.names
+    marked_held s t to apart gives hosts h = ended_at (does (naming word v) (Notices to) (readied w s)) t (arriving.notices_good word v x (owed_at v x) (fit_at v x) to 0 (readied w s)
+        (all_map {P = HostIsTrue} {Q = λ (k : Known Name). arriving.NoticesWell word v x (owed_at v x) (fit_at v x) to k} (λ k i e. other_host v x k.name (λ f. apart (sym f ∙ (sym i ∙ e)))) s.known hosts)
+        (ready 0 s h)) gives
+
+    -- a note
+    noted_held : (s t : Vat Name) (from : ℕ) (n : Note (Incoming Name Name)) → does (world.names script v) (Receives from n) (readied w s) ≡ Gives tt t → arriving.NoteWell word v x (owed_at v x) (fit_at v x) from (readied w s) n → Held v x s → Held v x t
+    unfolding does world.names
+    noted_held s t from n gives fits h = ended_at (does (naming word v) (Receives from n) (readied w s)) t (arriving.arrives_good word v x (owed_at v x) (fit_at v x) from n 0 (readied w s) fits (ready 0 s h)) gives
+
+  -- that turns keep it of that name, and the opening turn, with what it takes to resolve the root
+  pub record TurnsKeep (v : ℕ) (x : Name) : Type 0 where
+    pub turn : (w : World) → Facts w → (s t : Vat Name) (m : Message Name) (ms : List (Message Name)) → slice_get w.vats v ≡ Some s → s.queue ≡ m ∷ ms → does (world.names script v) (Takes (world.tree_at script.vats v) script.depth m) (readied w (record s { queue = ms })) ≡ Gives tt t → Held v x s → Held v x t
+    pub opening : (w : World) → Facts w → (s t : Vat Name) (p : Program) → slice_get script.vats v ≡ Some p → slice_get w.vats v ≡ Some s → does (world.names script v) (Starts p.tree script.depth (Root v) (world.given script.vats p.knows)) (readied w s) ≡ Gives tt t
+        → costs.At word v x (owed_at v x) (2 * one (Root v) x) s → Held v x t
+
+  -- so of a name that is no promise of the vat's own
+  pub turns_by : (v : ℕ) (x : Name) → ((i : ℕ) → one (Promise v i) x ≡ 0) → TurnsKeep v x
+  unfolding world.names
+  turns_by v x free = record {
+    turn = λ w f s t m ms there e gives h. let sound = f.sound in turned_held v w x free s t (world.tree_at script.vats v) script.depth m ms e gives (sound.vats v s there) h;
+    opening = λ w f s t p is there gives h. let sound = f.sound in opened_held v w x free s t p gives (sound.vats v s there) h;
+  }
 
   -- ---- a note that arrives
 
-  module _ (w : World) (p : Facts w) (a v : ℕ) (s : Vat Name) (n : Note Name) (ns : List (Note Name)) (l : Link) (there : slice_get w.vats v ≡ Some s) (at : link_at a v w.links ≡ Some l) (cut : l.cut ≡ false) (notes : l.notes ≡ n ∷ ns) (x : Name) (kind : Class v x) (held : HeldBy v x kind s) where
+  module _ (w : World) (p : Facts w) (a v : ℕ) (s : Vat Name) (n : Note Name) (ns : List (Note Name)) (l : Link) (there : slice_get w.vats v ≡ Some s) (at : link_at a v w.links ≡ Some l) (cut : l.cut ≡ false) (notes : l.notes ≡ n ∷ ns) (x : Name) (held : Held v x s) where
     first_of : (P : Note Name → Type 0) (ms : List (Note Name)) → AllOf P ms → ms ≡ n ∷ ns → P n
     first_of P ms h e = let all : AllOf P (n ∷ ns) = subst (λ qs. AllOf P qs) e h in all.0
 
@@ -207,18 +209,15 @@ module _ (script : Script) where
     apart : a ≡ v → ⊥
     apart e = let b = p.before in let counted = b.counted in let fated = counted.fated (Sent (record { sender = 0; number = 0 })) in self_none w.links fated.apart v l (ap (λ z. link_at z v w.links) (sym e) ∙ at)
 
-    passes : NotePasses n
-    passes = let sound = p.sound in let found : Maybe LinkPasses (Some l) = subst (Maybe LinkPasses) at (link_passes a v w.links sound.links) in let all : EachOf NotePasses (n ∷ ns) = subst (λ ms. EachOf NotePasses ms) notes found in all.0
-
     abbrev Well : Note (Incoming Name Name) → Type 0
-    Well m = arriving.NoteWell word v x kind.owed kind.care kind.least kind.fit a s m
+    Well m = arriving.NoteWell word v x (owed_at v x) (fit_at v x) a s m
 
     abbrev ks : List Name
     ks = names_of s
 
     -- a name of the sender takes nothing
-    other : (z : Name) → host_of z ≡ a → share kind.owed (one (told_name (read_name ks z)) x) ≡ 0
-    other z e = subst (λ (m : Name). share kind.owed (one m x) ≡ 0) (sym (told_is ks z)) (kind.other z (λ f. apart (sym e ∙ f)))
+    other : (z : Name) → host_of z ≡ a → share (owed_at v x) (one (told_name (read_name ks z)) x) ≡ 0
+    other z e = subst (λ (m : Name). share (owed_at v x) (one m x) ≡ 0) (sym (told_is ks z)) (other_host v x z (λ f. apart (sym e ∙ f)))
 
     known_entry : (z : Name) → IsEventual z → IsKnownIn ks z → (k : Known Name) × (entry_of (naming word v) s.known z ≡ Some k)
     unfolding names_of
@@ -227,16 +226,16 @@ module _ (script : Script) where
         among : (m : Name) → IsEventual m → IsKnownIn (names_in s.known) m → IsAmong m (names_in s.known)
         among m i j = room.known_among m i (names_in s.known) j
 
-    here_by : (z : Name) → IsEventual z → z ≡ x → (b : Bool) → is_old ks z ≡ b → arriving.IsHere word v x kind.owed kind.care kind.least kind.fit (elim b [ true ↦ Old z | false ↦ New z (host_of z) ]) s.known
+    here_by : (z : Name) → IsEventual z → z ≡ x → (b : Bool) → is_old ks z ≡ b → arriving.IsHere word v x (owed_at v x) (fit_at v x) (elim b [ true ↦ Old z | false ↦ New z (host_of z) ]) s.known
     here_by z e same true i = subst (λ (m : Name). (k : Known Name) × (entry_of (naming word v) s.known m ≡ Some k)) same (known_entry z e (old_known ks z i))
     here_by z e same false i = tt
 
-    opens_by : (i : ℕ) (z : Name) → Open i z ≡ n → (one (Gift v i) x ≡ 0) ⊎ (Gift v i ≡ x) → arriving.OpensWell word v x kind.owed kind.care kind.least kind.fit a i s
+    opens_by : (i : ℕ) (z : Name) → Open i z ≡ n → (one (Gift v i) x ≡ 0) ⊎ (Gift v i ≡ x) → arriving.OpensWell word v x (owed_at v x) (fit_at v x) a i s
     opens_by i z e (inl none) = inl none
     opens_by i z e (inr same) = inr (
       same,
       subst (λ (m : Name). (naming word v).same m m ≡ true) same (self_same word v (Gift v i) tt),
-      λ o. subst (λ (m : Name). IsOpenOrSettled (standing_of (naming word v) s.known m)) same (p.opened a v s l i z ns there at cut (notes ∙ ap (λ (m : Note Name). m ∷ ns) (sym e))),
+      subst (λ (m : Name). IsOpenOrSettled (standing_of (naming word v) s.known m)) same (p.opened a v s l i z ns there at cut (notes ∙ ap (λ (m : Note Name). m ∷ ns) (sym e))),
       λ h found. subst (λ (m : Name). (k : Known Name) × (entry_of (naming word v) s.known m ≡ Some k)) same (gift_entry h found),
     )
       where
@@ -245,7 +244,7 @@ module _ (script : Script) where
             let named : h.name ≡ Gift v i = subst (WhereSome (λ (g : GiftEntry Name). g.name ≡ Gift v i)) found (found_named v a i s.gifts held.gifts) in
             among_entry word v (Gift v i) tt s.known (subst (IsKnownIn (names_in s.known)) named ok.0)
 
-    sees_by : (z : Name) (c : ℕ) → Elsewhere z c ≡ n → host_of z ≡ a → (one (told_name (read_name ks z)) x ≡ 0) ⊎ (told_name (read_name ks z) ≡ x) → arriving.SeesWell word v x kind.owed kind.care kind.least kind.fit (read_name ks z) s
+    sees_by : (z : Name) (c : ℕ) → Elsewhere z c ≡ n → host_of z ≡ a → (one (told_name (read_name ks z)) x ≡ 0) ⊎ (told_name (read_name ks z) ≡ x) → arriving.SeesWell word v x (owed_at v x) (fit_at v x) (read_name ks z) s
     unfolding read_name
     sees_by z c e b (inl none) = (other z b, inl none)
     sees_by z c e b (inr same) = let told = p.told a v s l z c ns there at cut (notes ∙ ap (λ (m : Note Name). m ∷ ns) (sym e)) in let is : z ≡ x = sym (told_is ks z) ∙ same in (
@@ -253,7 +252,7 @@ module _ (script : Script) where
       inr (
         same,
         subst (λ (m : Name). (naming word v).same m m ≡ true) is (self_same word v z told.0),
-        λ o. subst (λ (m : Name). IsOpenOrSettled (standing_of (naming word v) s.known m)) is told.1,
+        subst (λ (m : Name). IsOpenOrSettled (standing_of (naming word v) s.known m)) is told.1,
         here_by z told.0 is (is_old ks z) refl,
       ),
     )
@@ -262,15 +261,13 @@ module _ (script : Script) where
     unfolding read_note
     note_well (Deliver d z verb ys) e ok b = ok.0
     note_well (Open i z) e ok b = opens_by i z e (one_or (Gift v i) x)
-    note_well (Ask j i z) e ok b = tt
     note_well (SettledTo z c) e ok b = other z b
     note_well (Elsewhere z c) e ok b = sees_by z c e b (one_or (told_name (read_name ks z)) x)
-    note_well (Shorten z c i) e ok b = tt
+    note_well other e ok b = tt
 
-    arrived_held : (t : Vat Name) → does (world.names script v) (Receives a (read_note (names_of s) n)) (readied w s) ≡ Gives tt t → HeldBy v x kind t
-    unfolding readied naming world.names
-    arrived_held t gives = let sound = p.sound in stepped v w x kind s t (Receives a (read_note (names_of s) n)) gives (note_well n refl (first_mails script w a v n ns l p.before at notes) between)
-        (same_sound v w x kind s (sound.vats v s there)) (note_read (names_of s) n passes) (ready v w x kind (0 + 0) s (padded v w x kind s held))
+    arrived_held : (t : Vat Name) → does (world.names script v) (Receives a (read_note (names_of s) n)) (readied w s) ≡ Gives tt t → Held v x t
+    unfolding readied
+    arrived_held t gives = noted_held v w x s t a (read_note (names_of s) n) gives (note_well n refl (first_mails script w a v n ns l p.before at notes) between) held
 
   placed_at : (v : ℕ) (t s : Vat Name) (vs : List (Vat Name)) → slice_get vs v ≡ Some s → slice_get (put_at v t vs) v ≡ Some t
   unfolding put_at
@@ -283,34 +280,28 @@ module _ (script : Script) where
   noticed_apart w y v s t to p there gives vats = p.apart v t (subst (λ vs. slice_get vs v ≡ Some t) (sym vats) (placed_at v t s w.vats there)) to
       (given_at (λ (u : Vat Name). is_in to u.noticed ≡ true) (arrive.notice (world.names script v) to (readied w s)) t (notice_marks (world.names script v) to (readied w s)) gives)
 
-  -- ---- a move, for any choice of names at each vat
-
-  module _ (I : ℕ → Type 0) (name : (v : ℕ) → I v → Name) (kind : (v : ℕ) (i : I v) → Class v (name v i)) where
-    abbrev pub AllIn : World → Type 0
-    AllIn w = (v : ℕ) (s : Vat Name) → slice_get w.vats v ≡ Some s → (i : I v) → HeldBy v (name v i) (kind v i) s
-
-    one_vat : (w y : World) (v : ℕ) (t : Vat Name) → y.vats ≡ put_at v t w.vats → ((i : I v) → HeldBy v (name v i) (kind v i) t) → AllIn w → AllIn y
-    one_vat w y v t e k h u s there i = go (put_cases v t w.vats u s (subst (λ vs. slice_get vs u ≡ Some s) e there))
-      where
-        go : ((u ≡ v) × (t ≡ s)) ⊎ ((u ≡ v → ⊥) × (slice_get w.vats u ≡ Some s)) → HeldBy u (name u i) (kind u i) s
-        go (inl f) = subst (λ (z : Vat Name). HeldBy u (name u i) (kind u i) z) f.1 (subst (λ (c : ℕ). (j : I c) → HeldBy c (name c j) (kind c j) t) (sym f.0) k i)
-        go (inr f) = h u s f.1 i
-
-    same_vats : (w y : World) → y.vats ≡ w.vats → AllIn w → AllIn y
-    same_vats w y e h u s there i = h u s (subst (λ vs. slice_get vs u ≡ Some s) e there) i
-
-    pub entry_holds : (w y : World) → Facts w → Facts y → Went script w y → AllIn w → AllIn y
-    unfolding naming world.names
-    entry_holds w y p r (Stays vats) h = same_vats w y vats h
-    entry_holds w y p r (Turns v s t m ms there queue gives vats) h = let sound = p.sound in
-        one_vat w y v t vats (λ i. turned_held v w (name v i) (kind v i) s t (world.tree_at script.vats v) script.depth m ms queue gives (sound.vats v s there) (h v s there i)) h
-    entry_holds w y p r (Comes a v s t l n ns there at cut notes gives vats) h =
-        one_vat w y v t vats (λ i. arrived_held w p a v s n ns l there at cut notes (name v i) (kind v i) (h v s there i) t gives) h
-    entry_holds w y p r (Noticed v to s t there gives vats) h = let sound = p.sound in
-        one_vat w y v t vats (λ i. marked_held v w (name v i) (kind v i) s t to (noticed_apart w y v s t to r there gives vats) gives (sound.vats v s there) (p.hosts v s there) (h v s there i)) h
+  -- ---- a move
 
   abbrev pub AllHeld : World → Type 0
-  AllHeld w = AllIn (λ v. Name) (λ v x. x) (λ v x. usual v x) w
+  AllHeld w = (v : ℕ) (s : Vat Name) → slice_get w.vats v ≡ Some s → (x : Name) → Held v x s
+
+  one_vat : (w y : World) (v : ℕ) (t : Vat Name) → y.vats ≡ put_at v t w.vats → ((x : Name) → Held v x t) → AllHeld w → AllHeld y
+  one_vat w y v t e k h u s there x = go (put_cases v t w.vats u s (subst (λ vs. slice_get vs u ≡ Some s) e there))
+    where
+      go : ((u ≡ v) × (t ≡ s)) ⊎ ((u ≡ v → ⊥) × (slice_get w.vats u ≡ Some s)) → Held u x s
+      go (inl f) = subst (λ (z : Vat Name). Held u x z) f.1 (subst (λ (c : ℕ). Held c x t) (sym f.0) (k x))
+      go (inr f) = h u s f.1 x
+
+  same_vats : (w y : World) → y.vats ≡ w.vats → AllHeld w → AllHeld y
+  same_vats w y e h u s there x = h u s (subst (λ vs. slice_get vs u ≡ Some s) e there) x
+
+  module _ (turning : (v : ℕ) (x : Name) → TurnsKeep v x) where
+    pub entry_holds : (w y : World) → Facts w → Facts y → Went script w y → AllHeld w → AllHeld y
+    entry_holds w y p r (Stays vats) h = same_vats w y vats h
+    entry_holds w y p r (Turns v s t m ms there queue gives vats) h = one_vat w y v t vats (λ x. let keeps = turning v x in keeps.turn w p s t m ms there queue gives (h v s there x)) h
+    entry_holds w y p r (Comes a v s t l n ns there at cut notes gives vats) h = one_vat w y v t vats (λ x. arrived_held w p a v s n ns l there at cut notes x (h v s there x) t gives) h
+    entry_holds w y p r (Noticed v to s t there gives vats) h =
+        one_vat w y v t vats (λ x. marked_held v w x s t to (noticed_apart w y v s t to r there gives vats) gives (p.hosts v s there) (h v s there x)) h
 
   -- ---- the start
 
@@ -335,7 +326,7 @@ module _ (script : Script) where
       go true e = h.0.0
       go false e = e
 
-  bare_at : (v : ℕ) (x : Name) (c : ℕ) (s : Vat Name) → s.number ≡ v → s.queue ≡ [] → s.gifts ≡ [] → AllOf IsBare s.known → c ≤ 2 * share (owed_at v x) (times x s.known) → costs.At word v x (owed_at v x) (cared_at v x) 0 c s
+  bare_at : (v : ℕ) (x : Name) (c : ℕ) (s : Vat Name) → s.number ≡ v → s.queue ≡ [] → s.gifts ≡ [] → AllOf IsBare s.known → c ≤ 2 * share (owed_at v x) (times x s.known) → costs.At word v x (owed_at v x) c s
   unfolding room.burden waitings spent total
   bare_at v x c s number queue gifts bare less =
       let asks : total (asked_at x) s.known ≡ 0 = sum_none (asked_at x) s.known (all_map {P = IsBare} {Q = λ (k : Known Name). asked_at x k ≡ 0} (λ k b. (bare_sums x k b).0) s.known bare) in
@@ -347,8 +338,7 @@ module _ (script : Script) where
       record {
         number = number;
         fits = omega arith;
-        waiting = λ o. inr (all_map {P = IsBare} {Q = room.WaitsAs word v x (standing_of (naming word v) s.known x)} (λ k b. inl (bare_sums x k b).1) s.known bare);
-        known = omega arith;
+        waiting = inr (all_map {P = IsBare} {Q = room.WaitsAs word v x (standing_of (naming word v) s.known x)} (λ k b. inl (bare_sums x k b).1) s.known bare);
         gifts = subst (λ gs. AllOf (IsNamed v) gs) (sym gifts) tt;
       }
 
@@ -361,14 +351,14 @@ module _ (script : Script) where
   some_vat s t e = cc
 
   -- a vat at the start has room for its root
-  fresh_at : (v : ℕ) (x : Name) (c : ℕ) (ps : List Program) (i : ℕ) (s : Vat Name) → slice_get (world.fresh_from script c ps) i ≡ Some s → s.number ≡ v → costs.At word v x (owed_at v x) (cared_at v x) 0 (2 * one (Root v) x) s
+  fresh_at : (v : ℕ) (x : Name) (c : ℕ) (ps : List Program) (i : ℕ) (s : Vat Name) → slice_get (world.fresh_from script c ps) i ≡ Some s → s.number ≡ v → costs.At word v x (owed_at v x) (2 * one (Root v) x) s
   unfolding world.fresh_from world.fresh world.known_root begun times total
   fresh_at v x c [] i s e k = cc
   fresh_at v x c (q ∷ ps) zero s e k = let same : world.fresh script c q ≡ s = some_vat (world.fresh script c q) s e in let number : c ≡ v = ap (λ (z : Vat Name). z.number) same ∙ k in
       let first : one (Root v) x ≡ one (Root c) x = ap (λ (u : ℕ). one (Root u) x) (sym number) in
       let whole : times x (world.fresh script c q).known ≡ one (Root c) x + total (λ (j : Known Name). one j.name x) (map world.known_root q.knows) = refl in
       let makes : one (Root v) x ≤ share (owed_at v x) (times x (world.fresh script c q).known) = root_room v x (times x (world.fresh script c q).known) (omega arith) in
-      subst (λ (z : Vat Name). costs.At word v x (owed_at v x) (cared_at v x) 0 (2 * one (Root v) x) z) same (bare_at v x (2 * one (Root v) x) (world.fresh script c q) number refl refl ((refl, refl, refl, refl), bare_roots q.knows) (omega arith))
+      subst (λ (z : Vat Name). costs.At word v x (owed_at v x) (2 * one (Root v) x) z) same (bare_at v x (2 * one (Root v) x) (world.fresh script c q) number refl refl ((refl, refl, refl, refl), bare_roots q.knows) (omega arith))
   fresh_at v x c (q ∷ ps) (suc i) s e k = fresh_at v x (suc c) ps i s e k
 
   abbrev pub Numbered : Type 0
@@ -376,11 +366,12 @@ module _ (script : Script) where
 
   pub begins_held : Numbered → AllHeld (world.begins script)
   unfolding world.begins
-  begins_held numbers v s e x = costs.less word v x (owed_at v x) (cared_at v x) 0 (2 * one (Root v) x) 0 (omega arith) s (fresh_at v x zero script.vats v s e (numbers v s e))
+  begins_held numbers v s e x = costs.less word v x (owed_at v x) (2 * one (Root v) x) 0 (omega arith) s (fresh_at v x zero script.vats v s e (numbers v s e))
 
   -- ---- an opening turn
 
-  pub opening_holds : Numbered → (v : ℕ) (p : Program) (w y : World) → Facts w → FreshFrom script v w → Opened script w y v p → AllHeld w → AllHeld y
+  pub opening_holds : Numbered → ((v : ℕ) (x : Name) → TurnsKeep v x) → (v : ℕ) (p : Program) (w y : World) → Facts w → FreshFrom script v w → slice_get script.vats v ≡ Some p → Opened script w y v p → AllHeld w → AllHeld y
   unfolding naming world.names went
-  opening_holds numbers v p w y f fresh o h = let sound = f.sound in let d = o.2 in let s : Vat Name = o.0 in
-      one_vat (λ u. Name) (λ u x. x) (λ u x. usual u x) w y v o.1 (ap (λ (z : World). z.vats) o.3) (λ x. opened_held v w x (usual v x) s o.1 p d.gives (sound.vats v s d.there) (fresh_at v x zero script.vats v s (fresh v s (omega arith) d.there) (numbers v s (fresh v s (omega arith) d.there)))) h
+  opening_holds numbers turning v p w y f fresh is o h = let d = o.2 in let s : Vat Name = o.0 in
+      one_vat w y v o.1 (ap (λ (z : World). z.vats) o.3)
+      (λ x. let keeps = turning v x in keeps.opening w f s o.1 p is d.there d.gives (fresh_at v x zero script.vats v s (fresh v s (omega arith) d.there) (numbers v s (fresh v s (omega arith) d.there)))) h

@@ -4,7 +4,7 @@ use Rattle.def_machine.specs.Values.{Value, Name, Root, Object, Promise, Answer,
 use Rattle.def_machine.specs.State.{Standing, Unsettled, WaitsOn, Viewed, Settled, Known, Change, Hold, Wait, WaitOn, See, React, ToTell, Settle, changed, changed_to, with_change, begun}
 use Rattle.def_machine.specs.Refs.{entry_of, standing_of}
 use Rattle.law_machine.proofs.StepLaws.{changed_head}
-use Rattle.law_name.specs.Names.{AllOf, IsAmong, IsKnownIn, IsEventual}
+use Rattle.law_name.specs.Names.{AllOf, IsAmong, names_in, IsKnownIn, IsEventual}
 use Rattle.law_name.proofs.Facts.{all_end, all_map}
 use Rattle.law_name.proofs.SameNames.{reference_self, same_is}
 use Rattle.law_fate.specs.Fate.{once, one, total}
@@ -18,44 +18,41 @@ use Rattle.law_order_waits.proofs.Counts.{one_self, total_end, change_adds, chan
 
 -- what is known and is no object is among the names
 pub known_among : (n : Name) → IsEventual n → (ns : List Name) → IsKnownIn ns n → IsAmong n ns
-known_among (Root w) e ns h = h
-known_among (Promise w i) e ns h = h
-known_among (Answer w m) e ns h = h
-known_among (Gift w i) e ns h = h
 known_among (Object w i) e ns h = absurd e
 known_among (Sent m) e ns h = absurd e
+known_among other e ns h = h
 
 -- ---- counts of one name
 
 -- one where it did settle or waits
 unfoldable pub spent : Standing Name → ℕ
 spent Unsettled = 0
-spent (WaitsOn q) = 1
-spent (Viewed q) = 1
-spent (Settled y) = 1
+spent other = 1
 
 spent_most : (t : Standing Name) → spent t ≤ 1
 unfolding spent
 spent_most Unsettled = omega arith
-spent_most (WaitsOn q) = omega arith
-spent_most (Viewed q) = omega arith
-spent_most (Settled y) = omega arith
+spent_most other = omega arith
 
 pub unspent : (t : Standing Name) → spent t ≡ 0 → t ≡ Unsettled
 unfolding spent
 unspent Unsettled e = refl
-unspent (WaitsOn q) e = absurd (omega arith)
-unspent (Viewed q) e = absurd (omega arith)
-unspent (Settled y) e = absurd (omega arith)
+unspent other e = absurd (omega arith)
 
 -- how often it is known
 unfoldable pub times : Name → List (Known Name) → ℕ
 times x ks = total (λ k. one k.name x) ks
 
+-- where it is among the names, it is known once at least
+pub times_least : (x : Name) (ks : List (Known Name)) → IsAmong x (names_in ks) → 1 ≤ times x ks
+unfolding times total
+times_least x [] a = absurd a
+times_least x (k ∷ ks) (inl e) = let here = one_self k.name x (sym e) in omega arith
+times_least x (k ∷ ks) (inr a) = let rest = times_least x ks a in omega arith
+
 pub few_or : (n : ℕ) → (2 ≤ n) ⊎ (n ≤ 1)
-few_or zero = inr (omega arith)
-few_or (suc zero) = inr (omega arith)
 few_or (suc (suc n)) = inl (omega arith)
+few_or other = inr (omega arith)
 
 -- of what counts only where the name is owed
 unfoldable pub share : Bool → ℕ → ℕ
@@ -166,10 +163,7 @@ module _ (word : ℕ → ℕ) (v : ℕ) (x : Name) where
   turns_more (WaitOn q) n = one n x
   turns_more (See q) n = one n x
   turns_more (Settle y) n = one n x
-  turns_more (Hold m) n = 0
-  turns_more (Wait q) n = 0
-  turns_more (React m) n = 0
-  turns_more (ToTell w) n = 0
+  turns_more other n = 0
 
   spent_mild : (c : Change Name) → IsMild word v c → (n : Name) (ks : List (Known Name)) (d : ℕ) → spent (standing_of N (with_change N c n ks) x) ≤ spent (standing_of N ks x) + d
   spent_mild c h n ks d = let same : spent (standing_of N (with_change N c n ks) x) ≡ spent (standing_of N ks x) = ap spent (mild_stands word v c h n x ks) in omega arith

@@ -26,10 +26,10 @@ use Rattle.law_told_once.specs.Told.{news_in, with_news}
 use Rattle.law_told_once.proofs.News.{news_is_new}
 use Rattle.law_told_once.proofs.Opens.{opened_gifts_are_new}
 use Rattle.law_order_waits.specs.Answers.{AnswersAreOpenInRuns, WaitersWaitInRuns}
-use Rattle.law_order_waits.proofs.Classes.{usual}
 use Rattle.law_order_waits.proofs.Standing as standing
 use Rattle.law_order_waits.proofs.Standing.{settled_eventual}
 use Rattle.law_order_waits.proofs.Moving.{IsOpenOrSettled, Facts, AllHeld, entry_holds, opening_holds, begins_held}
+use Rattle.law_order_waits.proofs.OwnTurns.{turning}
 use Rattle.law_order_waits.proofs.Entries.{Went, FreshFrom, entry_goes, opened_fresh}
 
 module _ (script : Script) where
@@ -94,8 +94,8 @@ module _ (script : Script) where
     entry_pair w x y es e k opened steps goes = inr (entry_goes script x y e (k + length es) goes)
 
     pair_holds : (x y : World) → Facts script x → Facts script y → Pair x y → AllHeld script x → AllHeld script y
-    pair_holds x y f g (inl o) h = opening_holds script numbers o.0 o.1 x y f o.2 (opening_does script o.0 o.1 x y o.3 o.4) h
-    pair_holds x y f g (inr m) h = entry_holds script (λ v. Name) (λ v n. n) (λ v n. usual v n) x y f g m h
+    pair_holds x y f g (inl o) h = opening_holds script numbers (turning script) o.0 o.1 x y f o.2 o.3 (opening_does script o.0 o.1 x y o.3 o.4) h
+    pair_holds x y f g (inr m) h = entry_holds script (turning script) x y f g m h
 
     opened_held : (ps rest : List Program) (w : World) → script.vats ≡ ps ++ rest → world.open_from script zero ps (world.begins script) ≡ Going w → AllHeld script w
     opened_held = opened_holds script (Facts script) (Facts script) Pair opened_facts stepped_facts opening_pair entry_pair (AllHeld script) (λ v p x y f g m o h. pair_holds x y f g m h) (λ e k x y f g m i h. pair_holds x y f g m h) (begins_held script numbers)

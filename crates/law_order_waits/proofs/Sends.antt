@@ -19,21 +19,21 @@ pub record IsFit (v : ℕ) (x : Name) (owed : Bool) : Type 0 where
   pub gift : owed ≡ true → (h i : ℕ) → one (Gift h i) x ≡ 0
   pub answer : owed ≡ false → (m : Msg) → one (Answer v m) x ≡ 0
 
-module _ (word : ℕ → ℕ) (v : ℕ) (x : Name) (owed care : Bool) (least : ℕ) (fit : IsFit v x owed) where
+module _ (word : ℕ → ℕ) (v : ℕ) (x : Name) (owed : Bool) (fit : IsFit v x owed) where
   abbrev N : Naming Name Name
   N = naming word v
 
   abbrev Costs : {A : Type 0} → ℕ → Act Name A → Type 0
-  Costs c m = costs.Costs word v x owed care least c m
+  Costs c m = costs.Costs word v x owed c m
 
   abbrev At : ℕ → Vat Name → Type 0
-  At c s = costs.At word v x owed care least c s
+  At c s = costs.At word v x owed c s
 
   abbrev Spares : Vat Name → Vat Name → Type 0
-  Spares s t = costs.Spares word v x owed care least s t
+  Spares s t = costs.Spares word v x owed s t
 
   base : IsKept Spares
-  base = costs.spares word v x owed care least
+  base = costs.spares word v x owed
 
   share_by : (o : Bool) → owed ≡ o → (m : Msg) → one (Answer v m) x ≤ share owed (one (Answer v m) x)
   unfolding share
@@ -46,23 +46,23 @@ module _ (word : ℕ → ℕ) (v : ℕ) (x : Name) (owed care : Bool) (least : �
 
   pub free_first : (m : Message Name) (y : Value Name) (p : Place Name) → Costs (2 * answers x m) (refs.send_first N m y p)
   unfolding refs.send_first
-  free_first m y (Away h n o) = costs.costs_free word v x owed care least (2 * answers x m) (settling.spare_deliver word v x owed care least fit.eventual m h n)
-  free_first m y Near = settling.costs_send_to word v x owed care least fit.eventual (refs.settle N) (settling.costs_settle word v x owed care least fit.eventual) m y Near
-  free_first m y (Mine n) = settling.costs_send_to word v x owed care least fit.eventual (refs.settle N) (settling.costs_settle word v x owed care least fit.eventual) m y (Mine n)
-  free_first m y (Gone t) = settling.costs_send_to word v x owed care least fit.eventual (refs.settle N) (settling.costs_settle word v x owed care least fit.eventual) m y (Gone t)
+  free_first m y (Away h n o) = costs.costs_free word v x owed (2 * answers x m) (settling.spare_deliver word v x owed fit.eventual m h n)
+  free_first m y Near = settling.costs_send_to word v x owed fit.eventual (refs.settle N) (settling.costs_settle word v x owed fit.eventual) m y Near
+  free_first m y (Mine n) = settling.costs_send_to word v x owed fit.eventual (refs.settle N) (settling.costs_settle word v x owed fit.eventual) m y (Mine n)
+  free_first m y (Gone t) = settling.costs_send_to word v x owed fit.eventual (refs.settle N) (settling.costs_settle word v x owed fit.eventual) m y (Gone t)
 
   -- a message whose answer just came to be known, here
   here_after : (u : ℕ) → u ≡ v → (i : Msg) (m : Message Name) (y : Value Name) (p : Place Name) → m.answer ≡ Some (Answer u i) → (e : ℕ) (s : Vat Name) → At (2 * share owed (one (Answer u i) x) + e) s → Ends (At e) (refs.send_first N m y p s)
   unfolding answers answered_by
   here_after u own i m y p is e s g = let pays = answer_pays u own i in let is_one : answers x m ≡ one (Answer u i) x = ap (answered_by x) is in let first = free_first m y p in
-      first.after e s (costs.less word v x owed care least (2 * share owed (one (Answer u i) x) + e) (2 * answers x m + e) (omega arith) s g)
+      first.after e s (costs.less word v x owed (2 * share owed (one (Answer u i) x) + e) (2 * answers x m + e) (omega arith) s g)
 
   -- a message whose answer just came to be known, at the host of its target
   first_after : (u : ℕ) → u ≡ v → (i : Msg) (m : Message Name) (y : Value Name) (p : Place Name) → m.answer ≡ Some (Answer (refs.answer_host N u p) i) → (e : ℕ) (s : Vat Name) → At (2 * share owed (one (Answer (refs.answer_host N u p) i) x) + e) s
       → Ends (At e) (refs.send_first N m y p s)
   unfolding refs.send_first refs.answer_host
-  first_after u own i m y (Away h n o) is e s g = let free : Costs 0 (refs.deliver N m h n) = costs.costs_free word v x owed care least 0 (settling.spare_deliver word v x owed care least fit.eventual m h n) in
-      free.after e s (costs.less word v x owed care least (2 * share owed (one (Answer h i) x) + e) (0 + e) (omega arith) s g)
+  first_after u own i m y (Away h n o) is e s g = let free : Costs 0 (refs.deliver N m h n) = costs.costs_free word v x owed 0 (settling.spare_deliver word v x owed fit.eventual m h n) in
+      free.after e s (costs.less word v x owed (2 * share owed (one (Answer h i) x) + e) (0 + e) (omega arith) s g)
   first_after u own i m y Near is e s g = here_after u own i m y Near is e s g
   first_after u own i m y (Mine n) is e s g = here_after u own i m y (Mine n) is e s g
   first_after u own i m y (Gone t) is e s g = here_after u own i m y (Gone t) is e s g
@@ -70,42 +70,38 @@ module _ (word : ℕ → ℕ) (v : ℕ) (x : Name) (owed care : Bool) (least : �
   then_gives : {A B : Type 0} (e : ℕ) (d : Done Name A) (b : B) → Ends (At e) d → Ends {A = B} (At e) (and_then d (λ _. give b))
   unfolding and_then give
   then_gives e (Gives a t) b h = h
-  then_gives e (Throws p t) b h = h
-  then_gives e (Ejects n y t) b h = h
-  then_gives e (Stops c t) b h = h
+  then_gives e other b h = h
 
   pub free_send : (act : ℕ) (y : Value Name) (verb : Words) (args : List (Value Name)) → Costs 0 (refs.send N act y verb args)
   unfolding refs.send ◌>>=◌ ◌>>◌ and_then look tell new_message naming name_of answer_of mail_of
   free_send act y verb args = record {
-    after = λ e s h. let g : At e s = costs.less word v x owed care least (0 + e) e (omega arith) s h in let z : Value Name = refs.follow N s y in let p : Place Name = refs.place N s z in let i : Msg = record { sender = v; number = s.messages } in let a : Name = Answer (refs.answer_host N s.number p) i in
+    after = λ e s h. let g : At e s = costs.less word v x owed (0 + e) e (omega arith) s h in let z : Value Name = refs.follow N s y in let p : Place Name = refs.place N s z in let i : Msg = record { sender = v; number = s.messages } in let a : Name = Answer (refs.answer_host N s.number p) i in
         let m : Message Name = record { id = Sent i; target = z; verb = verb; args = args; answer = Some a } in
         let t : Vat Name = record s { messages = suc s.messages; mails = s.mails ++ Sent i ∷ []; known = s.known ++ begun a (refs.answer_host N s.number p) ∷ []; happened = s.happened ++ Sends act (record { id = Sent i; target = y; verb = verb; args = args; answer = Some a }) ∷ [] } in
-        then_gives e (refs.send_first N m z p t) (Ref a) (first_after s.number g.number i m z p refl e t (costs.comes_good word v x owed care least e s a (refs.answer_host N s.number p) g));
+        then_gives e (refs.send_first N m z p t) (Ref a) (first_after s.number g.number i m z p refl e t (costs.comes_good word v x owed e s a (refs.answer_host N s.number p) g));
   }
 
   pub free_send_only : (act : ℕ) (y : Value Name) (verb : Words) (args : List (Value Name)) → Costs 0 (refs.send_only N act y verb args)
   unfolding refs.send_only ◌>>=◌ ◌>>◌ and_then look tell new_lone_message naming mail_of answers answered_by
   free_send_only act y verb args = record {
-    after = λ e s h. let g : At e s = costs.less word v x owed care least (0 + e) e (omega arith) s h in let z : Value Name = refs.follow N s y in let p : Place Name = refs.place N s z in let i : Msg = record { sender = v; number = s.messages } in
+    after = λ e s h. let g : At e s = costs.less word v x owed (0 + e) e (omega arith) s h in let z : Value Name = refs.follow N s y in let p : Place Name = refs.place N s z in let i : Msg = record { sender = v; number = s.messages } in
         let m : Message Name = record { id = Sent i; target = z; verb = verb; args = args; answer = None } in
         let t : Vat Name = record s { messages = suc s.messages; mails = s.mails ++ Sent i ∷ []; happened = s.happened ++ Sends act (record { id = Sent i; target = y; verb = verb; args = args; answer = None }) ∷ [] } in
-        let first = free_first m z p in then_gives e (refs.send_first N m z p t) Null (first.after e t (costs.less word v x owed care least e (2 * 0 + e) (omega arith) t g));
+        let first = free_first m z p in then_gives e (refs.send_first N m z p t) Null (first.after e t (costs.less word v x owed e (2 * 0 + e) (omega arith) t g));
   }
 
   free_react_at : (m : Message Name) (p : Place Name) → Costs (2 * answers x m) (refs.react_at N m p)
   unfolding refs.react_at
-  free_react_at m (Mine n) = costs.costs_react word v x owed care least m n
-  free_react_at m (Away h n false) = costs.costs_react word v x owed care least m n
-  free_react_at m (Away h n true) = costs.costs_queue word v x owed care least m
-  free_react_at m Near = costs.costs_queue word v x owed care least m
-  free_react_at m (Gone t) = costs.costs_queue word v x owed care least m
+  free_react_at m (Mine n) = costs.costs_react word v x owed m n
+  free_react_at m (Away h n false) = costs.costs_react word v x owed m n
+  free_react_at m other = costs.costs_queue word v x owed m
 
   pub free_react : (act : ℕ) (y o near : Value Name) → Costs 0 (refs.react N act y o near)
   unfolding refs.react refs.reaction ◌>>=◌ ◌>>◌ and_then look tell new_message naming name_of answer_of mail_of answers answered_by
   free_react act y o near = record {
-    after = λ e s h. let g : At e s = costs.less word v x owed care least (0 + e) e (omega arith) s h in let i : Msg = record { sender = v; number = s.messages } in let a : Name = Answer s.number i in
+    after = λ e s h. let g : At e s = costs.less word v x owed (0 + e) e (omega arith) s h in let i : Msg = record { sender = v; number = s.messages } in let a : Name = Answer s.number i in
         let m : Message Name = refs.reaction N (Sent i) near y a in
         let t : Vat Name = record s { messages = suc s.messages; mails = s.mails ++ Sent i ∷ []; known = s.known ++ begun a s.number ∷ []; happened = s.happened ++ Reacts act y o m ∷ [] } in
         let p : Place Name = refs.place N t (refs.follow N t y) in let pays = answer_pays s.number g.number i in let at = free_react_at m p in
-        then_gives e (refs.react_at N m p t) (Ref a) (at.after e t (costs.less word v x owed care least (2 * share owed (one a x) + e) (2 * one a x + e) (omega arith) t (costs.comes_good word v x owed care least e s a s.number g)));
+        then_gives e (refs.react_at N m p t) (Ref a) (at.after e t (costs.less word v x owed (2 * share owed (one a x) + e) (2 * one a x + e) (omega arith) t (costs.comes_good word v x owed e s a s.number g)));
   }

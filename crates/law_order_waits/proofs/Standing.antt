@@ -16,7 +16,7 @@ use Rattle.law_order_waits.proofs.Room.{share, times, unspent}
 use Rattle.law_order_waits.proofs.Room as room
 use Rattle.law_order_waits.proofs.Costs.{one_or}
 use Rattle.law_order_waits.proofs.Costs as costs
-use Rattle.law_order_waits.proofs.Classes.{owed_at, cared_at, cared_by}
+use Rattle.law_order_waits.proofs.Classes.{owed_at}
 use Rattle.law_order_waits.proofs.Moving.{Held}
 
 -- ---- what is known of names
@@ -66,14 +66,14 @@ module _ (script : Script) where
       let t : share (owed_at v a) (times a s.known) ≡ times a s.known = ap (λ (z : Bool). share z (times a s.known)) e in (omega arith, unspent (standing_of (naming word v) s.known a) (omega arith), omega arith)
   open_by v s a false e h few asked = let fits = h.fits in let t : share (owed_at v a) (times a s.known) ≡ 0 = ap (λ (z : Bool). share z (times a s.known)) e in absurd (omega arith)
 
-  hand_by : (v : ℕ) (s : Vat Name) (a : Name) (c : ℕ) (o : Bool) → owed_at v a ≡ o → costs.At word v a (owed_at v a) (cared_at v a) 0 (2 + c) s → times a s.known ≤ 1 → (askings a s ≡ 0) × (standing_of (world.names script v) s.known a ≡ Unsettled) × (waitings a s.known ≡ 0)
+  hand_by : (v : ℕ) (s : Vat Name) (a : Name) (c : ℕ) (o : Bool) → owed_at v a ≡ o → costs.At word v a (owed_at v a) (2 + c) s → times a s.known ≤ 1 → (askings a s ≡ 0) × (standing_of (world.names script v) s.known a ≡ Unsettled) × (waitings a s.known ≡ 0)
   unfolding share askings room.burden world.names
   hand_by v s a c true e h few = let fits = h.fits in let b : share (owed_at v a) (room.burden word v a s.known) ≡ room.burden word v a s.known = ap (λ (z : Bool). share z (room.burden word v a s.known)) e in
       let t : share (owed_at v a) (times a s.known) ≡ times a s.known = ap (λ (z : Bool). share z (times a s.known)) e in (omega arith, unspent (standing_of (naming word v) s.known a) (omega arith), omega arith)
   hand_by v s a c false e h few = let fits = h.fits in let t : share (owed_at v a) (times a s.known) ≡ 0 = ap (λ (z : Bool). share z (times a s.known)) e in absurd (omega arith)
 
   -- so is the answer of a message in hand, for which there is room
-  pub hand_open : (v : ℕ) (s : Vat Name) (a : Name) (c : ℕ) → costs.At word v a (owed_at v a) (cared_at v a) 0 (2 + c) s → times a s.known ≤ 1 → (askings a s ≡ 0) × (standing_of (world.names script v) s.known a ≡ Unsettled) × (waitings a s.known ≡ 0)
+  pub hand_open : (v : ℕ) (s : Vat Name) (a : Name) (c : ℕ) → costs.At word v a (owed_at v a) (2 + c) s → times a s.known ≤ 1 → (askings a s ≡ 0) × (standing_of (world.names script v) s.known a ≡ Unsettled) × (waitings a s.known ≡ 0)
   hand_open v s a c h few = hand_by v s a c (owed_at v a) refl h few
 
   pub answers_open : (v : ℕ) (s : Vat Name) → ((x : Name) → Held script v x s) → Once (names_in s.known) → AnswersAreOpen script v s
@@ -95,4 +95,4 @@ module _ (script : Script) where
   waits_or v s k q there a few (inr all) = waits_by v s k q a (all_among (room.WaitsAs word v q (standing_of (naming word v) s.known q)) s.known k all there)
 
   pub waiters_wait : (v : ℕ) (s : Vat Name) → ((x : Name) → Held script v x s) → Once (names_in s.known) → WaitersWait script v s
-  waiters_wait v s h once k q there a plain = let held = h q in waits_or v s k q there a (times_most q s.known once) (held.waiting (cared_by v q plain))
+  waiters_wait v s h once k q there a = let held = h q in waits_or v s k q there a (times_most q s.known once) held.waiting

@@ -1,52 +1,42 @@
--- A step of a vat takes no more room of a name than the message that it takes, or the root that it resolves.
-use Rattle.std.proofs.Common.{◌≡◌, ℕ, suc, ◌+◌, ◌*◌, ◌≤◌, ◌∙◌, Bool, true, false, List, [], ◌∷◌, ◌++◌, Option, Some, sym, ap, subst, ◌⊎◌, inl, inr, arith}
+-- A turn takes no more room of a name, that is no promise of the vat's own, than the message that it takes, or the root that it resolves.
+use Rattle.std.proofs.Common.{◌≡◌, ℕ, suc, ◌+◌, ◌*◌, Bool, List, [], ◌∷◌, ◌++◌, Option, Some, sym, subst, arith}
 use Rattle.def_machine.specs.Values.{Words, Value, Broken, Name, Promise, Naming, naming, name_of}
-use Rattle.def_machine.specs.State.{Binding, Message, Took, Unsettled, Known, Scope, Vat, Astray, Done, Gives, Throws, Ejects, Stops, Act, ◌>>=◌, ◌>>◌, and_then, end_by, ending, give, tell, for_some, new_activation}
-use Rattle.def_machine.specs.Refs.{standing_of, settle, resolve}
+use Rattle.def_machine.specs.State.{Binding, Message, Took, Scope, Vat, Astray, Done, Gives, Throws, Ejects, Stops, Act, ◌>>=◌, ◌>>◌, and_then, end_by, ending, give, tell, for_some, new_activation}
+use Rattle.def_machine.specs.Refs.{settle, resolve}
 use Rattle.def_machine.specs.Calls.{turn_value}
 use Rattle.def_machine.specs.Scopes.{Answer}
 use Rattle.def_machine.specs.Eval as eval
 use Rattle.def_kernel.specs.declared.node.Node.{Node}
-use Rattle.law_machine.specs.Steps.{Step, Opens, Takes, Receives, Notices, does}
-use Rattle.law_name.specs.Names.{AllOf, IsEventual}
 use Rattle.law_fate.specs.Fate.{one}
 use Rattle.law_frozen.specs.Frozen.{IsPromised, Sound, AllOf as EachOf, MessageThere, NounWell}
-use Rattle.law_frozen.specs.Laws.{StepWell}
 use Rattle.law_frozen.proofs.Fine.{Keeper, Loose, Quiet, Fact, IsValue, AreNouns, IsMessage, nothing, answer, Ends as FineEnds, Fine, got_itself}
 use Rattle.law_frozen.proofs.Serves.{Serves, served_by}
 use Rattle.law_frozen.proofs.FineEval.{good_evaluator, fine_turn_value}
 use Rattle.law_frozen.proofs.Reach.{global_spots}
 use Rattle.law_order.proofs.Moves.{IsKept, keeps_give, keeps_stop, keeps_tell}
 use Rattle.law_order_waits.specs.Answers.{answered_by, answers}
-use Rattle.law_reference.proofs.Following.{standing_found}
-use Rattle.law_order_waits.proofs.Room as room
 use Rattle.law_order_waits.proofs.Room.{share, share_most}
 use Rattle.law_order_waits.proofs.Costs.{Ends, ends_map}
 use Rattle.law_order_waits.proofs.Costs as costs
 use Rattle.law_order_waits.proofs.Settling as settling
 use Rattle.law_order_waits.proofs.Sends.{IsFit}
 use Rattle.law_order_waits.proofs.Sends as sends
-use Rattle.law_order_waits.proofs.Arriving as arriving
 
--- It is another name, or one that is not owed, of which nothing is cared for or which is known.
-abbrev pub IsFreeOf : Name → Bool → Bool → ℕ → Name → Type 0
-IsFreeOf x owed care least p = (one p x ≡ 0) ⊎ ((p ≡ x) × (owed ≡ false) × ((care ≡ false) ⊎ (IsEventual x × (1 ≤ least))))
-
-module _ (word : ℕ → ℕ) (v : ℕ) (x : Name) (owed care : Bool) (least : ℕ) (fit : IsFit v x owed) (promise : (i : ℕ) → IsFreeOf x owed care least (Promise v i)) where
+module _ (word : ℕ → ℕ) (v : ℕ) (x : Name) (owed : Bool) (fit : IsFit v x owed) (promise : (i : ℕ) → one (Promise v i) x ≡ 0) where
   abbrev N : Naming Name Name
   N = naming word v
 
   abbrev Costs : {A : Type 0} → ℕ → Act Name A → Type 0
-  Costs c m = costs.Costs word v x owed care least c m
+  Costs c m = costs.Costs word v x owed c m
 
   abbrev At : ℕ → Vat Name → Type 0
-  At c s = costs.At word v x owed care least c s
+  At c s = costs.At word v x owed c s
 
   abbrev Spares : Vat Name → Vat Name → Type 0
-  Spares s t = costs.Spares word v x owed care least s t
+  Spares s t = costs.Spares word v x owed s t
 
   base : IsKept Spares
-  base = costs.spares word v x owed care least
+  base = costs.spares word v x owed
 
   abbrev plain : Keeper N
   plain = record { holds = λ s. Sound N s; sound = λ s h. h; quiet = λ s t q h i. i }
@@ -54,71 +44,50 @@ module _ (word : ℕ → ℕ) (v : ℕ) (x : Name) (owed care : Bool) (least : �
   loose : Loose N plain
   loose = record { any = λ s t h i. i }
 
-  abbrev IsFree : Name → Type 0
-  IsFree p = IsFreeOf x owed care least p
-
-  is_promised : (p : Name) → IsPromised N p → IsFree p
+  is_promised : (p : Name) → IsPromised N p → one p x ≡ 0
   unfolding naming name_of
-  is_promised p h = subst IsFree (sym h.2) (promise h.0)
+  is_promised p h = subst (λ (n : Name). one n x ≡ 0) (sym h.2) (promise h.0)
 
-  free_share : (p : Name) → IsFree p → share owed (one p x) ≡ 0
-  unfolding share
-  free_share p (inl z) = let most = share_most owed (one p x) in omega arith
-  free_share p (inr h) = ap (λ (b : Bool). share b (one p x)) h.1
+  breaks_free : (p : Name) → one p x ≡ 0 → (y : Value Name) → Costs 0 (settle N p y)
+  breaks_free p z y = let most = share_most owed (one p x) in costs.costs_more word v x owed (share owed (one p x)) 0 (omega arith) (settling.costs_settle word v x owed fit.eventual p y)
 
-  breaks_free : (p : Name) → IsFree p → (y : Value Name) → Costs 0 (settle N p y)
-  breaks_free p f y = let none = free_share p f in costs.costs_more word v x owed care least (share owed (one p x)) 0 (omega arith) (settling.costs_settle word v x owed care least fit.eventual p y)
-
-  not_both : (b : Bool) → b ≡ false → b ≡ true → ⊥
-  not_both b e i = cc
-
-  -- a promise that a resolver finds unsettled did neither settle nor wait, where it is known
-  free_fits : (p : Name) (e : ℕ) (s : Vat Name) → IsFree p → standing_of N s.known p ≡ Unsettled → At e s → costs.Fits word v x owed care least p s.known
-  free_fits p e s (inl z) u g = inl z
-  free_fits p e s (inr (same, o, inl free)) u g = inr (same, λ c. absurd (not_both care free c))
-  free_fits p e s (inr (same, o, inr h)) u g = let had = g.known in let one_least = h.1 in let k = room.times_found word v x h.0 s.known (omega arith) in
-      inr (same, λ c. (k.0, k.1, inl (sym (standing_found N s.known x k.0 k.1) ∙ subst (λ (m : Name). standing_of N s.known m ≡ Unsettled) same u)))
-
-  resolves_open : (p : Name) → IsFree p → (y : Value Name) (e : ℕ) (s : Vat Name) → standing_of N s.known p ≡ Unsettled → At e s → Ends (At e) (resolve N p y s)
-  resolves_open p f y e s u g = let none = free_share p f in settling.resolves_so word v x owed care least fit.eventual p e s (free_fits p e s f u g) (costs.less word v x owed care least e (2 * share owed (one p x) + e) (omega arith) s g) y
+  resolves_free : (p : Name) → one p x ≡ 0 → (y : Value Name) → Costs 0 (resolve N p y)
+  resolves_free p z y = costs.costs_more word v x owed (2 * one p x) 0 (omega arith) (settling.costs_resolve word v x owed fit.eventual p y)
 
   -- ---- evaluation, with so much in hand
 
   module _ (d : ℕ) where
     quiet_at : (s t : Vat Name) → Quiet s t → At d s → At d t
-    quiet_at s t q h = subst (λ (n : ℕ). costs.Good word v x owed care least d n t.queue t.known t.gifts) (sym q.0) (subst (λ ms. costs.Good word v x owed care least d s.number ms t.known t.gifts) (sym q.4)
-        (subst (λ ks. costs.Good word v x owed care least d s.number s.queue ks t.gifts) (sym q.1) (subst (λ gs. costs.Good word v x owed care least d s.number s.queue s.known gs) (sym q.7) h)))
+    quiet_at s t q h = subst (λ (n : ℕ). costs.Good word v x owed d n t.queue t.known t.gifts) (sym q.0) (subst (λ ms. costs.Good word v x owed d s.number ms t.known t.gifts) (sym q.4)
+        (subst (λ ks. costs.Good word v x owed d s.number s.queue ks t.gifts) (sym q.1) (subst (λ gs. costs.Good word v x owed d s.number s.queue s.known gs) (sym q.7) h)))
 
     abbrev both : Keeper N
     both = record { holds = λ s. Sound N s × At d s; sound = λ s h. h.0; quiet = λ s t q h i. (i, quiet_at s t q h.1) }
 
     joined : {A : Type 0} (G : A → Fact Name) (s : Vat Name) (r : Done Name A) → FineEnds N plain G s r → Ends (At d) r → FineEnds N both G s r
-    joined G s (Gives a t) h k = (h.0, (h.1, k), h.2)
     joined G s (Throws p t) h k = (h.0, (h.1, k))
-    joined G s (Ejects n y t) h k = (h.0, (h.1, k), h.2)
     joined G s (Stops c t) h k = (h.0, (h.1, k))
+    joined G s other h k = (h.0, (h.1, k), h.2)
 
     kept : {A : Type 0} (m : Act Name A) → Costs 0 m → (s : Vat Name) → At d s → Ends (At d) (m s)
-    kept m k s g = k.after d s (costs.less word v x owed care least d (0 + d) (omega arith) s g)
+    kept m k s g = k.after d s (costs.less word v x owed d (0 + d) (omega arith) s g)
 
     fine_both : {A : Type 0} {C : Fact Name} {m : Act Name A} {G : A → Fact Name} → Fine N plain C m G → Costs 0 m → Fine N both C m G
     fine_both {m = m} {G = G} f k = record { after = λ s h c. joined G s (m s) (f.after s h.0 c) (kept m k s h.1) }
 
     serves : Serves N both
     serves = let first = served_by N plain loose in record {
-      promises = λ C. fine_both (first.promises C) (costs.costs_free word v x owed care least 0 (costs.spare_promise word v x owed care least));
+      promises = λ C. fine_both (first.promises C) (costs.costs_free word v x owed 0 (costs.spare_promise word v x owed));
       smashes = λ C p t own s h c e. joined nothing s (settle N p (Broken t) s) (first.smashes C p t own s h.0 c e) (kept (settle N p (Broken t)) (breaks_free p (is_promised p (own.at s.things s.lists c)) (Broken t)) s h.1);
-      resolves = λ C p y own g s h c e. joined nothing s (resolve N p y s) (first.resolves C p y own g s h.0 c e) (resolves_open p (is_promised p (own.at s.things s.lists c)) y d s e h.1);
-      sends = λ C act y g verb args h. fine_both (first.sends C act y g verb args h) (sends.free_send word v x owed care least fit act y verb args);
-      sends_only = λ C act y g verb args h. fine_both (first.sends_only C act y g verb args h) (sends.free_send_only word v x owed care least fit act y verb args);
-      reacts = λ C act y g o h near k. fine_both (first.reacts C act y g o h near k) (sends.free_react word v x owed care least fit act y o near);
+      resolves = λ C p y own g s h c e. joined nothing s (resolve N p y s) (first.resolves C p y own g s h.0 c e) (kept (resolve N p y) (resolves_free p (is_promised p (own.at s.things s.lists c)) y) s h.1);
+      sends = λ C act y g verb args h. fine_both (first.sends C act y g verb args h) (sends.free_send word v x owed fit act y verb args);
+      sends_only = λ C act y g verb args h. fine_both (first.sends_only C act y g verb args h) (sends.free_send_only word v x owed fit act y verb args);
+      reacts = λ C act y g o h near k. fine_both (first.reacts C act y g o h near k) (sends.free_react word v x owed fit act y o near);
     }
 
     held_after : {A : Type 0} (G : A → Fact Name) (s : Vat Name) (r : Done Name A) → FineEnds N both G s r → Ends (At d) r
     held_after G s (Gives a t) h = let k = h.1 in k.1
-    held_after G s (Throws p t) h = let k = h.1 in k.1
-    held_after G s (Ejects n y t) h = let k = h.1 in k.1
-    held_after G s (Stops c t) h = let k = h.1 in k.1
+    held_after G s other h = let k = h.1 in k.1
 
     -- what a message asks
     pub turn_keeps : (tree : List Node) (depth act : ℕ) (m : Message Name) (s : Vat Name) → Sound N s → MessageThere s.lists m → At d s → Ends (At d) (turn_value N tree (eval.evaluator N tree depth) act m.target m.verb m.args s)
@@ -131,9 +100,7 @@ module _ (word : ℕ → ℕ) (v : ℕ) (x : Name) (owed care : Bool) (least : �
     then_value : (r : Done Name (Answer Name)) → Ends (At d) r → Ends (At d) (and_then r value_of)
     unfolding and_then give value_of
     then_value (Gives a t) h = h
-    then_value (Throws p t) h = h
-    then_value (Ejects n y t) h = h
-    then_value (Stops c t) h = h
+    then_value other h = h
 
     -- a program
     pub program_keeps : (tree : List Node) (depth : ℕ) (here : Scope Name) (s : Vat Name) → Sound N s → EachOf (NounWell N s.things s.lists) here.nouns → At d s
@@ -150,60 +117,39 @@ module _ (word : ℕ → ℕ) (v : ℕ) (x : Name) (owed care : Bool) (least : �
   ended c e f g h (Gives a t) k i j l = let m = i a in m.after e t k
   ended c e f g h (Throws p t) k i j l = let m = j p in m.after e t k
   ended c e f g h (Ejects n y t) k i j l = let m = l n y in m.after e t k
-  ended c e f g h (Stops w t) k i j l = costs.less word v x owed care least (c + e) e (omega arith) t k
+  ended c e f g h (Stops w t) k i j l = costs.less word v x owed (c + e) e (omega arith) t k
 
   gives_free : (y : Unit {0}) → Costs 0 (give y)
-  gives_free y = costs.costs_free word v x owed care least 0 (keeps_give Spares base y)
+  gives_free y = costs.costs_free word v x owed 0 (keeps_give Spares base y)
 
   breaks_twice : (p : Name) (y : Value Name) → Costs (2 * one p x) (settle N p y)
-  breaks_twice p y = let most = share_most owed (one p x) in costs.costs_more word v x owed care least (share owed (one p x)) (2 * one p x) (omega arith) (settling.costs_settle word v x owed care least fit.eventual p y)
+  breaks_twice p y = let most = share_most owed (one p x) in costs.costs_more word v x owed (share owed (one p x)) (2 * one p x) (omega arith) (settling.costs_settle word v x owed fit.eventual p y)
 
   -- with what it takes to resolve, and to break, what the turn is to end with
   closes_keeps : (tree : List Node) (act c : ℕ) (o : Option Name) (e : ℕ) (m : Act Name (Value Name)) (s : Vat Name)
       → ((y : Value Name) → Costs c (for_some o (λ p. resolve N p y) (give tt))) → ((t : Words) → Costs c (for_some o (λ p. settle N p (Broken t)) (give tt))) → Ends (At (c + e)) (m s) → Ends (At e) (eval.closes N tree act o m s)
   unfolding eval.closes ending
   closes_keeps tree act c o e m s resolves breaks h = ended c e _ _ _ (m s) h
-      (λ y. costs.free_then word v x owed care least c (keeps_tell Spares base _) (resolves y))
-      (λ t. costs.free_then word v x owed care least c (keeps_tell Spares base _) (breaks t))
-      (λ n y. costs.costs_free word v x owed care least c (keeps_stop Spares base Astray))
+      (λ y. costs.free_then word v x owed c (keeps_tell Spares base _) (resolves y))
+      (λ t. costs.free_then word v x owed c (keeps_tell Spares base _) (breaks t))
+      (λ n y. costs.costs_free word v x owed c (keeps_stop Spares base Astray))
 
-  taking_keeps : (tree : List Node) (depth : ℕ) (m : Message Name) (e : ℕ) (s : Vat Name) → Sound N s → MessageThere s.lists m → At (2 * answers x m + e) s → Ends (At e) (eval.taking N tree depth m s)
+  -- a turn takes no more than the message that it takes
+  pub taking_keeps : (tree : List Node) (depth : ℕ) (m : Message Name) (e : ℕ) (s : Vat Name) → Sound N s → MessageThere s.lists m → At (2 * answers x m + e) s → Ends (At e) (eval.taking N tree depth m s)
   unfolding eval.taking ◌>>=◌ ◌>>◌ and_then new_activation tell answers
   taking_keeps tree depth m e s sound there g = let t : Vat Name = record s { activations = suc s.activations; happened = s.happened ++ Took s.activations m ∷ [] } in let c : ℕ = 2 * answered_by x m.answer in
       closes_keeps tree s.activations c m.answer e (turn_value N tree (eval.evaluator N tree depth) s.activations m.target m.verb m.args) t
-      (λ y. costs.costs_some word v x owed care least m.answer (λ p. settling.costs_resolve word v x owed care least fit.eventual p y) (gives_free tt))
-      (λ w. costs.costs_some word v x owed care least m.answer (λ p. breaks_twice p (Broken w)) (gives_free tt))
+      (λ y. costs.costs_some word v x owed m.answer (λ p. settling.costs_resolve word v x owed fit.eventual p y) (gives_free tt))
+      (λ w. costs.costs_some word v x owed m.answer (λ p. breaks_twice p (Broken w)) (gives_free tt))
       (turn_keeps (c + e) tree depth s.activations m t
       (record { things = sound.things; slots = sound.slots; lists = sound.lists; stacked = sound.stacked; queue = sound.queue; known = sound.known; outbox = sound.outbox }) there g)
 
   abbrev program : List Node → ℕ → ℕ → List (Binding Name) → Act Name (Value Name)
   program tree depth act given = (eval.evaluator N tree depth).expression 0 (record { act = act; nouns = given }) >>= (λ (y : Answer Name). give y.value)
 
-  opening_keeps : (tree : List Node) (depth : ℕ) (root : Name) (given : List (Binding Name)) (e : ℕ) (s : Vat Name) → Sound N s → EachOf (NounWell N s.things s.lists) given → At (2 * one root x + e) s → Ends (At e) (eval.opening N tree depth root given s)
+  -- an opening turn takes no more than the root that it resolves
+  pub opening_keeps : (tree : List Node) (depth : ℕ) (root : Name) (given : List (Binding Name)) (e : ℕ) (s : Vat Name) → Sound N s → EachOf (NounWell N s.things s.lists) given → At (2 * one root x + e) s → Ends (At e) (eval.opening N tree depth root given s)
   unfolding eval.opening ◌>>=◌ and_then new_activation for_some
   opening_keeps tree depth root given e s sound well g = let t : Vat Name = record s { activations = suc s.activations } in let c : ℕ = 2 * one root x in
-      closes_keeps tree s.activations c (Some root) e (program tree depth s.activations given) t (λ y. settling.costs_resolve word v x owed care least fit.eventual root y) (λ w. breaks_twice root (Broken w)) (program_keeps (c + e) tree depth (record { act = s.activations; nouns = given }) t
+      closes_keeps tree s.activations c (Some root) e (program tree depth s.activations given) t (λ y. settling.costs_resolve word v x owed fit.eventual root y) (λ w. breaks_twice root (Broken w)) (program_keeps (c + e) tree depth (record { act = s.activations; nouns = given }) t
       (record { things = sound.things; slots = sound.slots; lists = sound.lists; stacked = sound.stacked; queue = sound.queue; known = sound.known; outbox = sound.outbox }) well g)
-
-  -- ---- steps
-
-  -- what a step takes
-  abbrev pub price : Step Name Name → ℕ
-  price (Opens tree depth root given) = 2 * one root x
-  price (Takes tree depth m) = 2 * answers x m
-  price (Receives from n) = 0
-  price (Notices w) = 0
-
-  -- what is asked of a note, and of a notice
-  abbrev pub StepFits : Vat Name → Step Name Name → Type 0
-  StepFits s (Opens tree depth root given) = Unit {0}
-  StepFits s (Takes tree depth m) = Unit {0}
-  StepFits s (Receives from n) = arriving.NoteWell word v x owed care least fit from s n
-  StepFits s (Notices w) = AllOf (λ (k : Known Name). arriving.NoticesWell word v x owed care least fit w k) s.known
-
-  pub step_good : (step : Step Name Name) (e : ℕ) (s : Vat Name) → StepFits s step → Sound N s → StepWell N s step → At (price step + e) s → Ends (At e) (does N step s)
-  unfolding does
-  step_good (Opens tree depth root given) e s fits sound well g = opening_keeps tree depth root given e s sound well g
-  step_good (Takes tree depth m) e s fits sound well g = taking_keeps tree depth m e s sound well g
-  step_good (Receives from n) e s fits sound well g = arriving.arrives_good word v x owed care least fit from n e s fits (costs.less word v x owed care least (0 + e) e (omega arith) s g)
-  step_good (Notices w) e s fits sound well g = arriving.notices_good word v x owed care least fit w e s fits (costs.less word v x owed care least (0 + e) e (omega arith) s g)

@@ -1,6 +1,6 @@
 -- Of which names the messages that wait at a vat are to give the value, and what waits on a name.
 use Rattle.std.specs.Prelude.{◌≡◌, ℕ, zero, ◌+◌, ◌≤◌, List, ◌++◌, Option, Some, None, slice_get}
-use Rattle.def_machine.specs.Values.{Name, Root, Object, Promise, Answer, Gift, Sent}
+use Rattle.def_machine.specs.Values.{Name}
 use Rattle.def_machine.specs.State.{Message, Standing, Unsettled, WaitsOn, Viewed, Settled, Known, Vat}
 use Rattle.def_machine.specs.Refs.{standing_of}
 use Rattle.def_run.specs.World.{Script, Program, Entry, World, Goes, begins, open_from, steps_from, names}
@@ -49,18 +49,9 @@ IsWaitOf n (WaitsOn q) = q ≡ n
 IsWaitOf n (Viewed q) = q ≡ n
 IsWaitOf n (Settled y) = Unit {0}
 
--- a promise that the vat made by Ref.promise()
-abbrev pub IsPromiseOf : ℕ → Name → Type 0
-IsPromiseOf v (Promise w i) = w ≡ v
-IsPromiseOf v (Root w) = ⊥
-IsPromiseOf v (Object w i) = ⊥
-IsPromiseOf v (Answer w m) = ⊥
-IsPromiseOf v (Gift w i) = ⊥
-IsPromiseOf v (Sent m) = ⊥
-
--- What is among the names that wait on another waits on it, has it as its view, or settled. Of the vat's own promises nothing is said.
+-- What is among the names that wait on another waits on it, has it as its view, or settled.
 abbrev pub WaitersWait : Script → ℕ → Vat Name → Type 0
-WaitersWait script v s = (k : Known Name) (q : Name) → IsAmong k s.known → IsAmong q k.waiting → (IsPromiseOf v q → ⊥) → IsWaitOf k.name (standing_of (names script v) s.known q)
+WaitersWait script v s = (k : Known Name) (q : Name) → IsAmong k s.known → IsAmong q k.waiting → IsWaitOf k.name (standing_of (names script v) s.known q)
 
 -- It holds of each vat after any of the opening turns, and after all of them and any entries in which each notice stands behind a cut of the same two vats.
 abbrev pub InEachVat : (Script → ℕ → Vat Name → Type 0) → Type 0

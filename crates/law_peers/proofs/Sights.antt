@@ -47,10 +47,8 @@ mine_is ts r n = ap (is_hosted r.me) (known_at ts 0 r.known n) ∙ hosted_is r n
 
 own_at : (ts : List Words) (r : References) (n : Local) → local.is_own r.me (knowns_by ts 0 r.known) n ≡ is_own (is_mine r) n
 unfolding local.is_own is_own
-own_at ts r (Obj i) = refl
 own_at ts r (Prom k) = mine_is ts r k
-own_at ts r (Far h p) = refl
-own_at ts r (Mess m) = refl
+own_at ts r other = refl
 
 pub own_is : (ts : List Words) (r : References) (s : machine.Vat Local) → HasReferences ts r s → (n : Local) → local.is_own s.number s.known n ≡ is_own (is_mine r) n
 own_is ts r s h n = ap (λ (u : ℕ). local.is_own u s.known n) h.number ∙ ap (λ (ks : List (machine.Known Local)). local.is_own r.me ks n) h.known ∙ own_at ts r n
@@ -60,9 +58,7 @@ own_is ts r s h n = ap (λ (u : ℕ). local.is_own u s.known n) h.number ∙ ap 
 object_at : (n : Local) → local.is_object n ≡ is_object n
 unfolding local.is_object is_object
 object_at (Obj i) = refl
-object_at (Far h p) = refl
-object_at (Prom k) = refl
-object_at (Mess m) = refl
+object_at other = refl
 
 pub objects : ◌≡◌ {A = Local → Bool} local.is_object is_object
 objects = fun_ext object_at
@@ -73,12 +69,7 @@ owns ts r s h = fun_ext (own_is ts r s h)
 answer_is : (ts : List Words) (n : Noted) → answer_in (note_by ts n) ≡ Prom (code_answer n)
 unfolding answer_in
 answer_is ts (Deliver m (Some a) x verb ps) = refl
-answer_is ts (Deliver m None x verb ps) = refl
-answer_is ts (Open g x) = refl
-answer_is ts (Ask p g n) = refl
-answer_is ts (Settled n p) = refl
-answer_is ts (Elsewhere n c) = refl
-answer_is ts (Shorten n c g) = refl
+answer_is ts other = refl
 
 abbrev seeing : (Local → Bool) → (Local → Bool) → Local → Sight Local
 seeing own object answer = record { same = same_local; own = own; object = object; answer = λ m. answer }

@@ -38,15 +38,7 @@ module _ (i : Interior) where
   value_texts : (v : Value) → ValueHasTexts i.heap.texts i.heap v
   value_texts (held.Text id) = refl
   value_texts (held.Broken id) = refl
-  value_texts held.Null = tt
-  value_texts (held.Bool b) = tt
-  value_texts (held.Int z) = tt
-  value_texts (held.Char c) = tt
-  value_texts (held.List id) = tt
-  value_texts (held.Prim n) = tt
-  value_texts (held.Obj n) = tt
-  value_texts (held.Prom n) = tt
-  value_texts (held.Far h p) = tt
+  value_texts other = tt
 
   mutual
     parcel_texts : (p : Parcel) → HasTexts i.heap.texts i.heap p
@@ -61,10 +53,7 @@ module _ (i : Interior) where
   note_texts : (n : Noted) → NoteHasTexts i.heap.texts i.heap n
   note_texts (Deliver m a x verb ps) = parcels_texts ps
   note_texts (Settled n p) = parcel_texts p
-  note_texts (Open k x) = tt
-  note_texts (Ask p k n) = tt
-  note_texts (Elsewhere n c) = tt
-  note_texts (Shorten n c k) = tt
+  note_texts other = tt
 
 -- ---- what numbers change
 
@@ -147,13 +136,9 @@ module _ (i : Interior) (s : machine.Vat Local) (h : HasReferences i.heap.texts 
 
   new_answer : (n : Noted) (t : Table) → AreNew s (connection_of t) (asked_in (sight_for s (note_by i.heap.texts n)) (note_by i.heap.texts n)) → IsKept (is_mine i.refs) t → IfSome (asked_of n) (IsNewAnswer i (numbered_note i.refs n t))
   unfolding asked_of asked_in theirs.answer_if sight_for told_answer
-  new_answer (Deliver m None x verb ps) t new k = tt
   new_answer (Deliver m (Some a) x verb ps) t new k = unnamed a t (numbered_note i.refs (Deliver m (Some a) x verb ps) t) new.0 (note_beside i.refs (Deliver m (Some a) x verb ps) t) (numbered_kept i (Deliver m (Some a) x verb ps) t k)
   new_answer (Ask p g n) t new k = unnamed n t (numbered_note i.refs (Ask p g n) t) new.0 (note_beside i.refs (Ask p g n) t) (numbered_kept i (Ask p g n) t k)
-  new_answer (Open g x) t new k = tt
-  new_answer (Settled n p) t new k = tt
-  new_answer (Elsewhere n c) t new k = tt
-  new_answer (Shorten n c g) t new k = tt
+  new_answer other t new k = tt
 
 -- ---- one note
 

@@ -46,9 +46,7 @@ entries_count (e ∷ es) = ap suc (entries_count es)
 
 entry_of : (count : ℕ) (e : Entry) → IsEntryOf count e → IsOfThese count (machine_entry e)
 entry_of count (Turn v) h = h
-entry_of count (Carry v w) h = (h.0, h.1)
-entry_of count (Cut v w) h = (h.0, h.1)
-entry_of count (Notice v w) h = (h.0, h.1)
+entry_of count other h = (h.0, h.1)
 
 entries_of : (count : ℕ) (es : List Entry) → All (IsEntryOf count) es → AllOf (IsOfThese count) (map machine_entry es)
 entries_of count [] h = tt

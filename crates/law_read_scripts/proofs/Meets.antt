@@ -82,9 +82,7 @@ cut_here v w (Cut a b) done h = by (pair_is v w a b h) where
   by : ((v ≡ a) × (w ≡ b)) ⊎ ((v ≡ b) × (w ≡ a)) → IsCutAmong v w (world.CutLink a b ∷ done)
   by (inl (x, y)) = inl (inl (rw (x, y) refl))
   by (inr (x, y)) = inr (inl (rw (x, y) refl))
-cut_here v w (Turn a) done h = cc
-cut_here v w (Carry a b) done h = cc
-cut_here v w (Notice a b) done h = cc
+cut_here v w other done h = cc
 
 -- what was cut so far is cut among the entries that are done
 abbrev AreDone : List Entry → List world.Entry → Type 0

@@ -112,12 +112,6 @@ paired h l e f = grind (arith, nat_tests)
 
 low_good : (k h : ℕ) → Good k → is_high_surrogate h ≡ true → (xs s : List ℕ) → length xs < k → IsUtf8 xs → content (after_high h) xs ≡ Some s → IsUtf8 s
 unfolding content
-low_good k h g high [] s n u e = absurd (none_some e)
-low_good k h g high (x ∷ []) s n u e = absurd (none_some e)
-low_good k h g high (x ∷ y ∷ []) s n u e = absurd (none_some e)
-low_good k h g high (x ∷ y ∷ a ∷ []) s n u e = absurd (none_some e)
-low_good k h g high (x ∷ y ∷ a ∷ b ∷ []) s n u e = absurd (none_some e)
-low_good k h g high (x ∷ y ∷ a ∷ b ∷ c ∷ []) s n u e = absurd (none_some e)
 low_good k h g high (x ∷ y ∷ a ∷ b ∷ c ∷ d ∷ xs) s n u e = elim (chosen ((x == 92) && (y == 117)) _ None (Some s) e) [
   | inr o ↦ absurd (none_some o.1)
   | inl i ↦
@@ -130,13 +124,10 @@ low_good k h g high (x ∷ y ∷ a ∷ b ∷ c ∷ d ∷ xs) s n u e = elim (cho
         | inl j ↦ escape_good k g (encode_utf8 (surrogate_pair h l.0)) xs s (omega (arith, n)) v (IsUtf8-encode (surrogate_pair h l.0) (paired h l.0 high j.0)) j.1
       ]
 ]
+low_good k h g high other s n u e = absurd (none_some e)
 
 unicode_good : (k : ℕ) → Good k → (xs s : List ℕ) → length xs < k → IsUtf8 xs → content after_u xs ≡ Some s → IsUtf8 s
 unfolding content
-unicode_good k g [] s n u e = absurd (none_some e)
-unicode_good k g (a ∷ []) s n u e = absurd (none_some e)
-unicode_good k g (a ∷ b ∷ []) s n u e = absurd (none_some e)
-unicode_good k g (a ∷ b ∷ c ∷ []) s n u e = absurd (none_some e)
 unicode_good k g (a ∷ b ∷ c ∷ d ∷ xs) s n u e =
     let l = answered (code_unit a b c d) (λ z. cond (is_high_surrogate z) (content (after_high z) xs) (cond (is_low_surrogate z) None (prepend (encode_utf8 z) (content plain xs)))) s e in
     let q = unit_is a b c d l.0 l.1 in
@@ -148,6 +139,7 @@ unicode_good k g (a ∷ b ∷ c ∷ d ∷ xs) s n u e =
         | inr p ↦ escape_good k g (encode_utf8 l.0) xs s (omega (arith, n)) v (IsUtf8-encode l.0 (alone l.0 q.small o.0 p.0)) p.1
       ]
     ]
+unicode_good k g other s n u e = absurd (none_some e)
 
 backslash_good : (k : ℕ) → Good k → (xs s : List ℕ) → length xs < k → IsUtf8 xs → content after_backslash xs ≡ Some s → IsUtf8 s
 unfolding content

@@ -16,12 +16,10 @@ use Rattle.law_read_scripts.proofs.SourceTokens.{AreTexts, tokens_are_texts}
 
 abbrev mutual
   HasTexts : Json → Type 0
-  HasTexts json.null = Unit {0}
-  HasTexts (json.boolean b) = Unit {0}
-  HasTexts (json.number s) = Unit {0}
   HasTexts (json.string s) = IsUtf8 s
   HasTexts (json.array js) = ItemsHave js
   HasTexts (json.object ms) = MembersHave ms
+  HasTexts other = Unit {0}
 
   ItemsHave : json.Items → Type 0
   ItemsHave json.no_items = Unit {0}
@@ -52,34 +50,17 @@ IfTexts None = Unit {0}
 IfTexts (Some ts) = AreTexts ts
 
 array_ends : (ts : List Token) → AreTexts ts → IfTexts (after_end_array ts)
-array_ends [] a = tt
-array_ends (Token.begin_object ∷ ts) a = tt
-array_ends (Token.end_object ∷ ts) a = tt
-array_ends (Token.begin_array ∷ ts) a = tt
 array_ends (Token.end_array ∷ ts) a = a.1
-array_ends (Token.key s ∷ ts) a = tt
-array_ends (Token.string s ∷ ts) a = tt
-array_ends (Token.number s ∷ ts) a = tt
-array_ends (Token.boolean b ∷ ts) a = tt
-array_ends (Token.null ∷ ts) a = tt
-array_ends (Token.bad ∷ ts) a = tt
+array_ends other a = tt
 
 -- nothing is asked of a key
 abbrev Any : Option (List ℕ) → Type 0
 Any k = Unit {0}
 
 key_read : (ts : List Token) → AreTexts ts → Gives Any (read_key ts)
-key_read [] a = tt
-key_read (Token.begin_object ∷ ts) a = tt
 key_read (Token.end_object ∷ ts) a = (tt, a.1)
-key_read (Token.begin_array ∷ ts) a = tt
-key_read (Token.end_array ∷ ts) a = tt
 key_read (Token.key s ∷ ts) a = (tt, a.1)
-key_read (Token.string s ∷ ts) a = tt
-key_read (Token.number s ∷ ts) a = tt
-key_read (Token.boolean b ∷ ts) a = tt
-key_read (Token.null ∷ ts) a = tt
-key_read (Token.bad ∷ ts) a = tt
+key_read other a = tt
 
 items_go : (v : Parse Json) (more : Parse json.Items) (ts : List Token) (o : Option (List Token)) → Reads HasTexts v → Reads ItemsHave more → AreTexts ts → IfTexts o → Gives ItemsHave (items_step v more ts o)
 items_go v more ts (Some rest) h m a b = (tt, b)
@@ -103,17 +84,13 @@ members_read v h (suc n) ts a =
     gives_then Any MembersHave (λ p. members_step v (json.members v n) p.0 p.1) (read_key ts) (key_read ts a) (λ k us t c. members_go v (json.members v n) k us h (members_read v h n) c)
 
 one_read : (a : Parse json.Items) (o : Parse json.Members) → Reads ItemsHave a → Reads MembersHave o → Reads HasTexts (value_with a o)
-one_read a o h m [] t = tt
 one_read a o h m (Token.begin_object ∷ ts) t = gives_map MembersHave HasTexts json.object (o ts) (λ ms i. i) (m ts t.1)
-one_read a o h m (Token.end_object ∷ ts) t = tt
 one_read a o h m (Token.begin_array ∷ ts) t = gives_map ItemsHave HasTexts json.array (a ts) (λ js i. i) (h ts t.1)
-one_read a o h m (Token.end_array ∷ ts) t = tt
-one_read a o h m (Token.key s ∷ ts) t = tt
 one_read a o h m (Token.string s ∷ ts) t = t
 one_read a o h m (Token.number s ∷ ts) t = (tt, t.1)
 one_read a o h m (Token.boolean b ∷ ts) t = (tt, t.1)
 one_read a o h m (Token.null ∷ ts) t = (tt, t.1)
-one_read a o h m (Token.bad ∷ ts) t = tt
+one_read a o h m other t = tt
 
 value_read : (depth : ℕ) → Reads HasTexts (value depth)
 unfolding value
@@ -170,12 +147,11 @@ number_if (Some n) = tt
 
 mutual
   data_of : (j : Json) → HasTexts j → If AllTexts (of_json j)
-  data_of json.null t = tt
-  data_of (json.boolean b) t = tt
   data_of (json.number s) t = number_if (number_of s)
   data_of (json.string s) t = t
   data_of (json.array js) t = if_map AllOfItems AllTexts array (of_items js) (λ ds i. i) (items_of js t)
   data_of (json.object ms) t = if_map AllOfMembers AllTexts object (of_members ms no_members) (λ ns i. i) (members_of ms no_members t tt)
+  data_of other t = tt
 
   items_of : (js : json.Items) → ItemsHave js → If AllOfItems (of_items js)
   items_of json.no_items t = tt

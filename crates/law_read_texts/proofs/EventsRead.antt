@@ -62,10 +62,7 @@ module _ (vats : List (List ℕ)) (d : List ℕ) (few : length d < 2 ^ 64) where
 
   is_name : (x : ShownName) → IsNameOf vats x → IsName (Below vats) x
   is_name (name.Object v n) h = h
-  is_name (name.Own v n) h = h
-  is_name (name.Answer host m) h = h
-  is_name (name.Gift host i) h = h
-  is_name (name.Root v) h = h
+  is_name other h = h
 
   name_read : (n : Name) → NameFits L n → IsName (Below vats) (shown_name d n)
   name_read n f = is_name (shown_name d n) (name_fits vats d few n f)
@@ -83,13 +80,10 @@ module _ (vats : List (List ℕ)) (d : List ℕ) (few : length d < 2 ^ 64) where
   value_read v Null i f = tt
   value_read v (Flag b) i f = tt
   value_read v (Number (pos n)) i f = f
-  value_read v (Number (negsuc n)) i f = f
-  value_read v (Letter c) i f = f
-  value_read v (Text t) i f = f
   value_read v (Prim n) i f = primitive_read n f
-  value_read v (Broken p) i f = f
   value_read v (Items k) i f = (i, f)
   value_read v (Ref n) i f = name_read n f
+  value_read v other i f = f
 
   values_read : (v : ℕ) (ys : List (Value Name)) → IsVat L v → ValuesFit L ys → AllOf (IsValue (Below vats)) (shown_values d v ys)
   unfolding shown_values
@@ -112,13 +106,10 @@ module _ (vats : List (List ℕ)) (d : List ℕ) (few : length d < 2 ^ 64) where
   plain_read height Null f g = tt
   plain_read height (Flag b) f g = tt
   plain_read height (Number (pos n)) f g = f
-  plain_read height (Number (negsuc n)) f g = f
-  plain_read height (Letter c) f g = f
-  plain_read height (Text t) f g = f
   plain_read height (Prim n) f g = primitive_read n f
-  plain_read height (Broken p) f g = f
   plain_read height (Items k) f g = absurd g
   plain_read height (Ref n) f g = name_read n f
+  plain_read height other f g = f
 
   members_read : (height : ℕ) (xs : List Shown) → AllOf (IsPassed (Below vats) height) xs → IsPassed (Below vats) (suc height) (members xs)
   unfolding roll-Shown roll hidden-the_row-Shown-0 hidden
@@ -175,7 +166,6 @@ module _ (vats : List (List ℕ)) (d : List ℕ) (few : length d < 2 ^ 64) where
   happened_read v (Called a x verb args None) i f = ((λ e. (f.0, value_read v x i f.1, f.2.0, values_read v args i f.3, tt)), tt)
   happened_read v (Called a x verb args (Some b)) i f = ((λ e. (f.0, value_read v x i f.1, f.2.0, values_read v args i f.3, f.4)), tt)
   happened_read v (Back a x) i f = ((λ e. (f.0, value_read v x i f.1)), tt)
-  happened_read v (Thrown a p) i f = ((λ e. (f.0, f.1)), tt)
   happened_read v (Left a) i f = ((λ e. f), tt)
   happened_read v (Got a x) i f = ((λ e. (f.0, value_read v x i f.1)), tt)
   happened_read v (SlotMade a k x) i f = ((λ e. (f.0, (i, f.1), value_read v x i f.2)), tt)
@@ -190,20 +180,18 @@ module _ (vats : List (List ℕ)) (d : List ℕ) (few : length d < 2 ^ 64) where
   happened_read v (Sends a m) i f = (send_read v a m i f.0 m.answer f.1, tt)
   happened_read v (Reacts a x o m) i f = reaction_read v a x o m i f.0 f.1 f.2 f.3.0 m.answer f.3.4
   happened_read v (Finished a x) i f = ((λ e. (f.0, value_read v x i f.1)), tt)
-  happened_read v (Threw a p) i f = ((λ e. (f.0, f.1)), tt)
   happened_read v (Settles n x) i f = ((λ e. (name_read n f.0, value_read v x i f.1)), tt)
   happened_read v (Waits p q) i f = ((λ e. (name_read p f.0, name_read q f.1)), tt)
   happened_read v (Views p q) i f = ((λ e. (name_read p f.0, name_read q f.1)), tt)
   happened_read v (Lost m) i f = ((λ e. message_read m f), tt)
   happened_read v (Posted u m) i f = tt
+  happened_read v other i f = ((λ e. (f.0, f.1)), tt)
 
   -- ---- events
 
   event_read : (e : Event) → EventFits L e → AllOf MayRead (shown_event d e)
   unfolding shown_event
-  event_read (Opens v) f = ((λ e. f), tt)
   event_read (Turned k v) f = ((λ e. (f.0, f.1)), tt)
-  event_read (Idle k) f = ((λ e. f), tt)
   event_read (Carried k v u n bytes) f = ((λ e. (f.0, f.1, f.2, note_read u n f.2 f.3)), ((λ e. absurd cc), tt))
   event_read (CutAt k v u) f = ((λ e. (f.0, f.1, f.2)), tt)
   event_read (NoticedAt k v u) f = ((λ e. (f.0, f.1, f.2)), tt)
@@ -214,6 +202,7 @@ module _ (vats : List (List ℕ)) (d : List ℕ) (few : length d < 2 ^ 64) where
   event_read (LeftWait v n m) f = ((λ e. (f.0, name_read n f.1, message_read m f.2)), tt)
   event_read (LeftLink v u n) f = ((λ e. (f.0, f.1, note_read u n f.1 f.2)), tt)
   event_read Ends f = ((λ e. tt), tt)
+  event_read other f = ((λ e. f), tt)
 
   may_read : (es : List Event) → AllOf (EventFits L) es → AllOf MayRead (shown_events d es)
   unfolding shown_events

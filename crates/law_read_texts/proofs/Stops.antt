@@ -90,9 +90,8 @@ never_stops k w d n y e = absurd (goes_on w y d n e)
 put_back_at : (v : ℕ) (w : World) (head : List Event) (k : ℕ) (d : Done Name (Unit {0})) → StopsAt k (world.put_back v w head k d)
 unfolding world.put_back
 put_back_at v w head k (Gives u s) = never_stops k _
-put_back_at v w head k (Throws t s) = stopped_at Astray k w
-put_back_at v w head k (Ejects n x s) = stopped_at Astray k w
 put_back_at v w head k (Stops c s) = stopped_at c k w
+put_back_at v w head k other = stopped_at Astray k w
 
 within_at : (v : ℕ) (w : World) (head : List Event) (k : ℕ) (m : Act Name (Unit {0})) (o : Option (Vat Name)) → StopsAt k (world.within v w head k m o)
 unfolding world.within

@@ -225,9 +225,7 @@ module _ (names : List (List ℕ)) (are : AreNames names) where
   simple (Broken text) h = silent (codes "broken:" ++ shortened text) (IsUtf8-append (codes "broken:") (shortened text) (ascii (codes "broken:") refl) (shortened_utf8 text h.0)) (problem_word text)
   simple (Prim n) h = fixed (60 ∷ (primitive_name n ++ 62 ∷ [])) (primitive_all is_low refl refl refl refl n) (primitive_all is_quiet refl refl refl refl n)
   simple (Named x) h = name x h
-  simple (ListOf v n) h = absurd h
-  simple (Slot v n) h = absurd h
-  simple (Members' shape row) h = absurd h
+  simple other h = absurd h
 
   pub value : (x : Shown) → IsValue (Below names) x → Tells (lines.value names x)
   value (ListOf v n) h = list_word v n h.0
@@ -280,8 +278,6 @@ module _ (names : List (List ℕ)) (are : AreNames names) where
   mutual
     pub passed : (height : ℕ) (x : Shown) → IsPassed (Below names) height x → Tells (lines.value names x)
     passed height (Members' shape row) h = members (member_values names row) (passed_row height row h)
-    passed height (ListOf v n) h = absurd h
-    passed height (Slot v n) h = absurd h
     passed height Null h = simple Null h
     passed height (Bool b) h = simple (Bool b) h
     passed height (Int z) h = simple (Int z) h
@@ -290,6 +286,7 @@ module _ (names : List (List ℕ)) (are : AreNames names) where
     passed height (Broken text) h = simple (Broken text) h
     passed height (Prim n) h = simple (Prim n) h
     passed height (Named x) h = simple (Named x) h
+    passed height other h = absurd h
 
     passed_row : {n : _} (height : ℕ) (row : Row_of-Shown n) → AreMembers (Below names) height row → AllOf Tells (member_values names row)
     passed_row zero end_of-Shown h = absurd h

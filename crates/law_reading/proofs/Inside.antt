@@ -105,9 +105,7 @@ pub parts_alike : (R : ℕ → ℕ → Type 0) (s : List ℕ) (ts : List Token) 
 unfolding parts
 parts_alike R s ts shapes.Literal f ps qs m h = literal_parts f.kind (word_text s ts f) R
 parts_alike R s ts shapes.Noun f ps qs m h = tt
-parts_alike R s ts shapes.List f ps qs m h = trees_like R ps qs m
 parts_alike R s ts shapes.Group f ps qs m h = (tree_at_like R ps qs m 0 h, tt)
-parts_alike R s ts shapes.Block f ps qs m h = trees_like R ps qs m
 parts_alike R s ts shapes.If f ps qs m h =
     let t = two_like R ps qs m 1 3 h in
     (t.0, (t.1, each_if R (tree_if ps 5) (tree_if qs 5) (tree_if_like R ps qs m 5)))
@@ -157,18 +155,16 @@ parts_alike R s ts shapes.DefineVar f ps qs m h = each_guarded R (option_to_list
 parts_alike R s ts shapes.AnyPattern f ps qs m h = each_if R (guard_of ps) (guard_of qs) (guard_like R ps qs m)
 parts_alike R s ts shapes.FinalPattern f ps qs m h = each_if R (guard_of ps) (guard_of qs) (guard_like R ps qs m)
 parts_alike R s ts shapes.VarPattern f ps qs m h = each_if R (guard_of ps) (guard_of qs) (guard_like R ps qs m)
-parts_alike R s ts shapes.ListPattern f ps qs m h = trees_like R ps qs m
 parts_alike R s ts shapes.ViaPattern f ps qs m h =
     let t = two_like R ps qs m 1 3 h in
     (t.0, (t.1, tt))
-parts_alike R s ts shapes.NounGuard f ps qs m h = trees_like R ps qs m
 parts_alike R s ts shapes.ExprGuard f ps qs m h = (tree_at_like R ps qs m 0 h, tt)
 parts_alike R s ts shapes.To f ps qs m h = member_alike R ps qs m h
 parts_alike R s ts shapes.Method f ps qs m h = member_alike R ps qs m h
 parts_alike R s ts shapes.Matcher f ps qs m h =
     let t = two_like R ps qs m 0 1 h in
     (t.0, (t.1, tt))
-parts_alike R s ts shapes.Program f ps qs m h = trees_like R ps qs m
+parts_alike R s ts other f ps qs m h = trees_like R ps qs m
 
 -- ---- what is known of the parts, and of the node
 

@@ -205,7 +205,6 @@ unfolding form_piece
 piece_alike a s ts shapes.Literal f ps qs m h = literal_piece a f.kind (word_text s ts f)
 piece_alike a s ts shapes.Noun f ps qs m h = refl
 piece_alike a s ts shapes.List f ps qs m h = ap made_list (all_values a ps qs m)
-piece_alike a s ts shapes.Group f ps qs m h = value_there a ps qs m 0 h
 piece_alike a s ts shapes.Block f ps qs m h = ap body (all_values a ps qs m)
 piece_alike a s ts shapes.If f ps qs m h = ap3 conditional (value_there a ps qs m 1 (and_left _ _ h)) (piece_there a ps qs m 3 (and_right (tree_there (map slot ps) 1) _ h)) (piece_if_same a (tree_if ps 5) (tree_if qs 5) (tree_if_like (Same a) ps qs m 5))
 piece_alike a s ts shapes.While f ps qs m h =
@@ -238,11 +237,11 @@ piece_alike a s ts shapes.VarPattern f ps qs m h = ap2 variable (text_like (Same
 piece_alike a s ts shapes.ListPattern f ps qs m h = ap list (all_pieces a ps qs m)
 piece_alike a s ts shapes.ViaPattern f ps qs m h = ap2 via (value_there a ps qs m 1 (and_left _ _ h)) (piece_there a ps qs m 3 (and_right (tree_there (map slot ps) 1) _ h))
 piece_alike a s ts shapes.NounGuard f ps qs m h = ap (λ (x : List Piece). noun_guard (word_text s ts f) x) (all_values a ps qs m)
-piece_alike a s ts shapes.ExprGuard f ps qs m h = value_there a ps qs m 0 h
 piece_alike a s ts shapes.To f ps qs m h = ap5 to_method (returns_same a s ts shapes.To f ps qs m h) (ap verb_behind (text_like (Same a) s ts ps qs m 0)) (patterns a ps qs m) (result_guard a ps qs m) (last_piece a ps qs m h)
 piece_alike a s ts shapes.Method f ps qs m h = ap4 plain_method (ap verb_behind (text_like (Same a) s ts ps qs m 0)) (patterns a ps qs m) (result_guard a ps qs m) (last_piece a ps qs m h)
 piece_alike a s ts shapes.Matcher f ps qs m h = ap2 matcher (piece_there a ps qs m 0 (and_left _ _ h)) (piece_there a ps qs m 1 (and_right (tree_there (map slot ps) 0) _ h))
 piece_alike a s ts shapes.Program f ps qs m h = ap body (all_values a ps qs m)
+piece_alike a s ts other f ps qs m h = value_there a ps qs m 0 h
 
 for_blocks : (b c : Bool) (ps qs : List Part) → is_block (for_form b ps) ≡ is_block (for_form c qs)
 unfolding is_block

@@ -149,22 +149,20 @@ tell_same : (a b : Result Scoped ProgramFault) → told_by a ≡ told_by b → A
 tell_same (Ok a) (Ok b) e = (cc, cc)
 tell_same (Err (At stage kind place)) (Err (At stage' kind' place')) e = (cc, cc, cc)
 tell_same (Err Memory) b e = tt
-tell_same (Ok a) (Err Memory) e = tt
-tell_same (Err (At stage kind place)) (Err Memory) e = tt
 tell_same (Ok a) (Err (At stage kind place)) e = cc
 tell_same (Err (At stage kind place)) (Ok b) e = cc
+tell_same other (Err Memory) e = tt
 
 one_told : (text : List ℕ) (given : List (List ℕ)) (a b : Result Scoped ProgramFault) (c d : Course) → Takes text c → Takes text d → told given c ≡ told_by a → told given d ≡ told_by b → Agree a b
 one_told text given a b c d x y p q = tell_same a b (sym p ∙ ap (told given) (one_course text c d x y) ∙ q)
 
 agree : (text : List ℕ) (given : List (List ℕ)) (a b : Result Scoped ProgramFault) → Finds text given a → Finds text given b → Agree a b
 agree text given (Err Memory) b x y = tt
-agree text given (Ok a) (Err Memory) x y = tt
-agree text given (Err (At s k p)) (Err Memory) x y = tt
 agree text given (Ok a) (Ok b) x y = one_told text given (Ok a) (Ok b) x.0 y.0 x.1 y.1 x.2 y.2
 agree text given (Ok a) (Err (At s k p)) x y = one_told text given (Ok a) (Err (At s k p)) x.0 y.0 x.1 y.1 x.2 y.2
 agree text given (Err (At s k p)) (Ok b) x y = one_told text given (Err (At s k p)) (Ok b) x.0 y.0 x.1 y.1 x.2 y.2
 agree text given (Err (At s k p)) (Err (At s' k' p')) x y = one_told text given (Err (At s k p)) (Err (At s' k' p')) x.0 y.0 x.1 y.1 x.2 y.2
+agree text given other (Err Memory) x y = tt
 
 pub answers_agree : (text : List ℕ) (given : List (List ℕ)) (a b : Result Scoped ProgramFault) → Answers a text given → Answers b text given → Agree a b
 answers_agree text given a b x y = agree text given a b (finds text given a x) (finds text given b y)

@@ -36,9 +36,8 @@ slots (more ts v) = slots ts ++ None ∷ []
 slots (leaf ts t) = slots ts ++ Some t.kind ∷ []
 
 abbrev pub is_tree : Option (Option TokenKind) → Bool
-is_tree None = false
 is_tree (Some None) = true
-is_tree (Some (Some k)) = false
+is_tree other = false
 
 abbrev pub tree_there : List (Option TokenKind) → ℕ → Bool
 tree_there ss k = is_tree (slice_get ss k)
@@ -47,9 +46,8 @@ abbrev pub last_there : List (Option TokenKind) → Bool
 last_there ss = tree_there ss (length ss - 1)
 
 abbrev pub is_kind : TokenKind → Option (Option TokenKind) → Bool
-is_kind k None = false
-is_kind k (Some None) = false
 is_kind k (Some (Some j)) = same j k
+is_kind k other = false
 
 abbrev pub no_parts : List (Option TokenKind) → Bool
 no_parts [] = true
@@ -233,10 +231,7 @@ series_more series.SendArguments ss p h = there_more ss p 0 h
 series_more _ ss p h = tt
 
 series_closed : (x : Series) (ss : List (Option TokenKind)) → series_laid x ss → Kept ss (closing x)
-series_closed series.Arguments ss h = there_more ss (Some kinds.CloseParen) 0 h
 series_closed series.Index ss h = there_more ss (Some kinds.CloseBracket) 0 h
-series_closed series.VerbArguments ss h = there_more ss (Some kinds.CloseParen) 0 h
-series_closed series.SendArguments ss h = there_more ss (Some kinds.CloseParen) 0 h
 series_closed series.Members ss h = refl
 series_closed series.GuardArguments ss h = refl
 series_closed series.Parameters ss h = tt
@@ -244,17 +239,17 @@ series_closed series.FunctionParameters ss h = last_more ss
 series_closed series.ToParameters ss h = tt
 series_closed series.MethodParameters ss h = tt
 series_closed series.ListPattern ss h = refl
+series_closed other ss h = there_more ss (Some kinds.CloseParen) 0 h
 
 one_more : {ss rs : List (Option TokenKind)} (x : Option TokenKind) → ss ≡ rs → ss ++ x ∷ [] ≡ rs ++ x ∷ []
 one_more x e = ap (λ (y : List (Option TokenKind)). y ++ x ∷ []) e
 
 behind_laid : (h : Head) (ss : List (Option TokenKind)) → ss ≡ opened_head h ++ None ∷ [] → EachKept ss (moves (places.Close h))
-behind_laid heads.If ss e = (one_more (Some kinds.CloseParen) e, tt)
 behind_laid heads.While ss e = (ap (λ (y : List (Option TokenKind)). has shapes.While ((y ++ Some kinds.CloseParen ∷ []) ++ None ∷ [])) e, tt)
-behind_laid heads.When ss e = (one_more (Some kinds.CloseParen) e, tt)
 behind_laid heads.Via ss e = (ap (λ (y : List (Option TokenKind)). has shapes.ViaPattern ((y ++ Some kinds.CloseParen ∷ []) ++ None ∷ [])) e, tt)
 behind_laid heads.Group ss e = (ap (λ (y : List (Option TokenKind)). has shapes.Group (y ++ Some kinds.CloseParen ∷ [])) e, tt)
 behind_laid heads.Guard ss e = (ap (λ (y : List (Option TokenKind)). has shapes.ExprGuard (y ++ Some kinds.CloseParen ∷ [])) e, tt)
+behind_laid other ss e = (one_more (Some kinds.CloseParen) e, tt)
 
 both_more : (ss : List (Option TokenKind)) (x : Option TokenKind) (i j : ℕ) → (tree_there ss i && tree_there ss j) ≡ true → (tree_there (ss ++ x ∷ []) i && tree_there (ss ++ x ∷ []) j) ≡ true
 both_more ss x i j h = and_true _ _ (there_more ss x i (and_left _ _ h)) (there_more ss x j (and_right (tree_there ss i) _ h))
@@ -319,23 +314,17 @@ laid_moves places.SendOpen ss h = (there_more ss (Some kinds.OpenParen) 0 h, tt)
 laid_moves (places.Def c) ss h = (ap (λ (y : List (Option TokenKind)). tree_there (y ++ None ∷ []) 0) h, (tt, (tt, tt)))
 laid_moves (places.Name c named.Noun) ss h = (tt, ((refl, refl), ((refl, refl), (tt, (tt, (tt, tt))))))
 laid_moves (places.Name c named.Ignore) ss h = (tt, ((refl, refl), ((refl, refl), (tt, (tt, tt)))))
-laid_moves (places.NameGuard c x) ss h = (tt, tt)
 laid_moves (places.NameGuarded c named.Noun) ss h = ((refl, refl), ((refl, refl), tt))
 laid_moves (places.NameGuarded c named.Ignore) ss h = ((refl, refl), ((refl, refl), tt))
 laid_moves (places.Bound c d) ss h = (definition_more d ss (Some kinds.Exit) h, (definition_more d ss (Some kinds.Assign) h, tt))
 laid_moves (places.Exit c d) ss h = (definition_more d ss None h, tt)
 laid_moves (places.Ejector c d) ss h = (definition_more d ss (Some kinds.Assign) h, tt)
 laid_moves (places.Value c d) ss h = (definition_done d ss h, tt)
-laid_moves (places.Var c) ss h = (tt, tt)
 laid_moves (places.VarName c) ss h = (tt, (tt, (tt, tt)))
-laid_moves (places.VarGuard c) ss h = (tt, tt)
-laid_moves places.Auditor ss h = (tt, tt)
 laid_moves places.AuditorMore ss h = (tt, (tt, tt))
 laid_moves places.Script ss h = (tt, (tt, (tt, (refl, tt))))
 laid_moves places.Result ss h = (tt, (tt, (last_more ss, tt)))
-laid_moves places.ResultGuard ss h = (tt, tt)
 laid_moves places.ResultGuarded ss h = (tt, (last_more ss, tt))
-laid_moves places.FunctionAuditor ss h = (tt, tt)
 laid_moves places.FunctionAuditorMore ss h = (tt, (last_more ss, tt))
 laid_moves (places.MemberVerb r) ss h = (tt, (tt, tt))
 laid_moves (places.MemberOpen r) ss h = parameters_laid r ss
@@ -344,7 +333,7 @@ laid_moves (places.MemberGuard r) ss h = (role_done r (ss ++ None ∷ []), tt)
 laid_moves places.Matcher ss h = (ap (λ (y : List (Option TokenKind)). has shapes.Matcher ((y ++ None ∷ []) ++ None ∷ [])) h, tt)
 laid_moves (places.PatternGuard s) ss h = (h ((ss ++ Some kinds.Colon ∷ []) ++ None ∷ []), tt)
 laid_moves places.VarPattern ss h = ((λ rs. refl), tt)
-laid_moves places.NounGuard ss h = (tt, tt)
+laid_moves other ss h = (tt, tt)
 
 -- ---- where a node begins
 

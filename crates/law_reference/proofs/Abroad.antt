@@ -13,11 +13,7 @@ foreign_where v w u i false e f = let g : u ≡ w = cc in rw g at e
 foreign_abroad : (v w : ℕ) (n : Name) → spot_of v n ≡ Foreign w → (v == w) ≡ false
 unfolding spot_of
 foreign_abroad v w (Object u i) e = foreign_where v w u i (v == u) refl e
-foreign_abroad v w (Root u) e = cc
-foreign_abroad v w (Promise u i) e = cc
-foreign_abroad v w (Answer u m) e = cc
-foreign_abroad v w (Gift u i) e = cc
-foreign_abroad v w (Sent m) e = cc
+foreign_abroad v w other e = cc
 
 hosted_where : (u g h : ℕ) (n m : Name) (o b : Bool) → (u == g) ≡ b → elim b [ true ↦ Mine n | false ↦ Away g n false ] ≡ Away h m o → (u == h) ≡ false
 hosted_where u g h n m o true e f = cc
@@ -39,14 +35,7 @@ module _ (v : ℕ) (word : ℕ → ℕ) where
   pub away_abroad : (s : Vat Name) (y : Value Name) (h : ℕ) (m : Name) (o : Bool) → s.number ≡ v → refs.place Mines s y ≡ Away h m o → (v == h) ≡ false
   unfolding refs.place naming
   away_abroad s (Ref n) h m o e f = spotted_abroad s n m h o (spot_of v n) e refl f
-  away_abroad s (Broken p) h m o e f = cc
-  away_abroad s Null h m o e f = cc
-  away_abroad s (Flag b) h m o e f = cc
-  away_abroad s (Number z) h m o e f = cc
-  away_abroad s (Letter c) h m o e f = cc
-  away_abroad s (Text t) h m o e f = cc
-  away_abroad s (Prim n) h m o e f = cc
-  away_abroad s (Items k) h m o e f = cc
+  away_abroad s other h m o e f = cc
 
   pub away_apart : (s : Vat Name) (y : Value Name) (h : ℕ) (m : Name) (o : Bool) → s.number ≡ v → refs.place Mines s y ≡ Away h m o → h ≡ v → ⊥
   away_apart s y h m o e f i = true_false (sym (eq-eqb v h (sym i)) ∙ away_abroad s y h m o e f)

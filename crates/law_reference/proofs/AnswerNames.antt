@@ -21,11 +21,7 @@ use Rattle.law_reference.proofs.NotesRuns.{CarriesOut, Ever, Its, OfNotes, half_
 
 named : (v w : ℕ) (n : Note Name) → Carries v w n → NamesItsAnswer w n
 named v w (Deliver d n verb ys) h = h.1
-named v w (Open i n) h = tt
-named v w (Ask p i n) h = tt
-named v w (SettledTo n y) h = tt
-named v w (Elsewhere n c) h = tt
-named v w (Shorten n c i) h = tt
+named v w other h = tt
 
 at_link : (P : Link → Type 0) (o : Option Link) (l : Link) → o ≡ Some l → MayBe P o → P l
 at_link P o l e h = rw e at h

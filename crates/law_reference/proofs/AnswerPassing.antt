@@ -33,9 +33,8 @@ module _ (word : ℕ → ℕ) (v : ℕ) (x : Name) (S : Care Name) (law : Under 
 
   abbrev pub PassesAt : {A : Type 0} → (A → Type 0) → Vat Name → Done Name A → Type 0
   PassesAt Q s (Gives a t) = Passing s t × Clean t × Q a
-  PassesAt Q s (Throws p t) = ⊥
-  PassesAt Q s (Ejects n y t) = ⊥
   PassesAt Q s (Stops c t) = Unit {0}
+  PassesAt Q s other = ⊥
 
   pub record Passes {A : Type 0} (m : Act Name A) (Q : A → Type 0) : Type 0 where
     pub after : (s : Vat Name) → Clean s → PassesAt Q s (m s)
@@ -48,16 +47,14 @@ module _ (word : ℕ → ℕ) (v : ℕ) (x : Name) (S : Care Name) (law : Under 
 
   widen : {A : Type 0} (Q : A → Type 0) (s t : Vat Name) (d : Done Name A) → Passing s t → PassesAt Q t d → PassesAt Q s d
   widen Q s t (Gives a u) r h = (passing_on s t u r h.0, h.1, h.2)
-  widen Q s t (Throws p u) r h = absurd h
-  widen Q s t (Ejects n y u) r h = absurd h
   widen Q s t (Stops c u) r h = tt
+  widen Q s t other r h = absurd h
 
   bind_at : {A B : Type 0} (Q : A → Type 0) (R : B → Type 0) (s : Vat Name) (d : Done Name A) (f : A → Act Name B) → PassesAt Q s d → ((a : A) → Q a → Passes (f a) R) → PassesAt R s (and_then d f)
   unfolding and_then
   bind_at Q R s (Gives a t) f h k = widen R s t (f a t) h.0 ((k a h.2).after t h.1)
-  bind_at Q R s (Throws p t) f h k = absurd h
-  bind_at Q R s (Ejects n y t) f h k = absurd h
   bind_at Q R s (Stops c t) f h k = tt
+  bind_at Q R s other f h k = absurd h
 
   pub passes_bind : {A B : Type 0} {m : Act Name A} {f : A → Act Name B} (Q : A → Type 0) (R : B → Type 0) → Passes m Q → ((a : A) → Q a → Passes (f a) R) → Passes (m >>= f) R
   unfolding ◌>>=◌
@@ -129,8 +126,7 @@ module _ (word : ℕ → ℕ) (v : ℕ) (x : Name) (S : Care Name) (law : Under 
   unfolding refs.address_plain
   passes_plain w y (Away h n o) g k = away_passes w h n y (h == w) g k.0
   passes_plain w y (Mine n) g k = passes_then (PassedOk P) (passes_to_tell w n k) (passes_give (Plain y) (PassedOk P) g)
-  passes_plain w y Near g k = passes_give (Plain y) (PassedOk P) g
-  passes_plain w y (Gone t) g k = passes_give (Plain y) (PassedOk P) g
+  passes_plain w y other g k = passes_give (Plain y) (PassedOk P) g
 
   mutual
     unfolding refs.address refs.address_all
@@ -157,7 +153,4 @@ module _ (word : ℕ → ℕ) (v : ℕ) (x : Name) (S : Care Name) (law : Under 
   pub passes_informed : (p : Name) (w : ℕ) (y : Value Name) (q : Place Name) → P (Named p) → ValueOk P y → Passes (refs.inform_of K p w y q) Any
   unfolding refs.inform_of
   passes_informed p w y (Away h n true) g k = passes_out w (Elsewhere p h) (g, tt)
-  passes_informed p w y (Away h n false) g k = passes_bind (PassedOk P) Any (passes_pass w y k) (λ z i. passes_out w (SettledTo p z) (g, i))
-  passes_informed p w y Near g k = passes_bind (PassedOk P) Any (passes_pass w y k) (λ z i. passes_out w (SettledTo p z) (g, i))
-  passes_informed p w y (Mine n) g k = passes_bind (PassedOk P) Any (passes_pass w y k) (λ z i. passes_out w (SettledTo p z) (g, i))
-  passes_informed p w y (Gone t) g k = passes_bind (PassedOk P) Any (passes_pass w y k) (λ z i. passes_out w (SettledTo p z) (g, i))
+  passes_informed p w y other g k = passes_bind (PassedOk P) Any (passes_pass w y k) (λ z i. passes_out w (SettledTo p z) (g, i))

@@ -22,10 +22,8 @@ module _ (script : Script) (once : KnowsOnce script) (gifts : GiftsComeNew scrip
   brings_all x es e from to l n ns s a b c (Sent m) = (notes_bring_new_but_gifts script once).1 w x es k opened e from to l n ns s a b c (Sent m) tt
 
   entry_brings : (x : World) (es : List Entry) → world.steps_from script es k w ≡ Going x → (entry : Entry) → EntryBringsNew x entry
-  entry_brings x es e (Turn v) = tt
   entry_brings x es e (Carry from to) = λ l n ns s a b c. brings_all x es e from to l n ns s a b c
-  entry_brings x es e (CutLink a b) = tt
-  entry_brings x es e (NoticeLink v u) = tt
+  entry_brings x es e other = tt
 
   entries_bring : (es ds : List Entry) (x : World) → world.steps_from script ds k w ≡ Going x → NotesBringNew script es (k + length ds) x
   entries_bring [] ds x e = tt

@@ -12,7 +12,7 @@ use Rattle.def_run.specs.World.{Script, Program, World, names, names_of, read_no
 use Rattle.law_name.specs.Names.{Bit, Named, AllOf, NounOk, MessageOk, Parts}
 use Rattle.law_name.proofs.Facts.{message_up, nouns_up, Fact, Nothing, Also, IsName, AreNouns, IsMessage, Holds, nothing}
 use Rattle.law_name.proofs.Care.{Care, Under, Makes, Sound, Ends, Fine, parts_up}
-use Rattle.law_name.proofs.Serves.{served_by}
+use Rattle.law_name.proofs.Serves.{served_by, closing_by}
 use Rattle.law_name.proofs.CareEval.{fine_opening, fine_taking}
 use Rattle.law_name.proofs.CareArrive.{fine_notice}
 use Rattle.law_reference.proofs.Moves.{IsAlone, Does}
@@ -40,7 +40,7 @@ module _ (script : Script) (w : World) (v : ℕ) (s : Vat Name) (S : Care Name) 
   unfolding does names
   does_sound q t (Starts tree depth root given) o d = let b = d.begins in let all = roots b.0 b.1 in
       let e : opening K tree depth (Root v) (world.given script.vats b.0.knows) (readied w s) ≡ Gives tt t = rw (b.2, b.3, b.4) at d.gives in
-      let f : Fine S (Also (IsName (Root v)) (AreNouns (world.given script.vats b.0.knows))) (opening K tree depth (Root v) (world.given script.vats b.0.knows)) nothing = fine_opening K S (served_by K S law makes) tree depth (Root v) (record { at = λ r c. c.0 }) (world.given script.vats b.0.knows) (record { at = λ r c. c.1 }) in
+      let f : Fine S (Also (IsName (Root v)) (AreNouns (world.given script.vats b.0.knows))) (opening K tree depth (Root v) (world.given script.vats b.0.knows)) nothing = fine_opening K S (served_by K S law makes) tree depth (Root v) (record { at = λ r c. c.0 }) (closing_by K S law (Root v)) (world.given script.vats b.0.knows) (record { at = λ r c. c.1 }) in
       sound_ends (readied w s) t _ (f.after (readied w s) (ready s.queue parts.queue)
       (up s.queue (Named (Root v)) all.0, nouns_up P (S.ok (readied w s)) (up s.queue) (world.given script.vats b.0.knows) all.1)) e
   does_sound q t (Takes tree depth m) o d = let b = d.begins in let all = took m b.0 b.1 in let r : Vat Name = readied w (record s { queue = b.0 }) in

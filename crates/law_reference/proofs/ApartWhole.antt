@@ -69,10 +69,7 @@ module _ (h i : ℕ) where
   unfolding gifts_in_note
   note_one (Deliver m n verb ys) p = passeds_one ys p
   note_one (SettledTo n y) p = passed_one y p
-  note_one (Open j n) p = absurd p
-  note_one (Ask q j n) p = absurd p
-  note_one (Elsewhere n c) p = absurd p
-  note_one (Shorten n c j) p = absurd p
+  note_one other p = absurd p
 
   -- it is not of the receiver
   module _ (P : ℕ → ℕ) (d : List ℕ) (from to : ℕ) where
@@ -90,24 +87,14 @@ module _ (h i : ℕ) where
     note_far : (n : Note Name) → Passes X n → Provides P d from to n → h ≡ to → ⊥
     note_far (Deliver m n verb ys) p f = passeds_far ys p f
     note_far (SettledTo n y) p f = passed_far y p f
-    note_far (Open j n) p f = absurd p
-    note_far (Ask q j n) p f = absurd p
-    note_far (Elsewhere n c) p f = absurd p
-    note_far (Shorten n c j) p f = absurd p
+    note_far other p f = absurd p
 
 -- ---- what a note names
 
 module _ (x : Name) (P : Bit Name → Type 0) where
   value_named : (y : Value Name) → IsRefTo x y → ValueOk P y → P (Named x)
   value_named (Ref n) e k = rw e at k
-  value_named Null e k = absurd e
-  value_named (Flag b) e k = absurd e
-  value_named (Number z) e k = absurd e
-  value_named (Letter c) e k = absurd e
-  value_named (Text t) e k = absurd e
-  value_named (Prim n) e k = absurd e
-  value_named (Broken t) e k = absurd e
-  value_named (Items j) e k = absurd e
+  value_named other e k = absurd e
 
   mutual
     passed_named : (y : Passed Name) → IsNamed x y → PassedOk P y → P (Named x)
@@ -136,11 +123,7 @@ module _ (x : Name) (P : Bit Name → Type 0) where
 
 no_asking : (x : Name) (i : ℕ) (n : Note Name) → Names x n → AsksFor i n → ⊥
 no_asking x i (Ask p j n) e f = e
-no_asking x i (Deliver m n verb ys) e f = f
-no_asking x i (Open j n) e f = f
-no_asking x i (SettledTo n y) e f = f
-no_asking x i (Elsewhere n c) e f = f
-no_asking x i (Shorten n c j) e f = f
+no_asking x i other e f = f
 
 no_more : {A : Type 0} {x : A} {xs : List A} → x ∷ xs ≡ [] → ⊥
 no_more e = cc
@@ -214,10 +197,8 @@ stand_apart script once w x es k c o e from to l n ns s at notes there = apart s
 
 module _ (script : Script) (once : KnowsOnce script) (w0 : World) (k0 : ℕ) (opened : world.open_from script zero script.vats (world.begins script) ≡ Going w0) where
   entry_apart : (front : List Entry) (w : World) → NoticesFollowCuts front → world.steps_from script front k0 w0 ≡ Going w → (e : Entry) → EntryApart w e
-  entry_apart front w c st (Turn v) = tt
-  entry_apart front w c st (CutLink v u) = tt
-  entry_apart front w c st (NoticeLink v u) = tt
   entry_apart front w c st (Carry from to) = λ l n ns s at notes there. stand_apart script once w0 w front k0 c opened st from to l n ns s at notes there
+  entry_apart front w c st other = tt
 
   all_apart : (es front : List Entry) (k : ℕ) (w : World) → k ≡ k0 + length front → NoticesFollowCuts (front ++ es) → world.steps_from script front k0 w0 ≡ Going w → AllApart script es k w
   all_apart [] front k w n c st = tt

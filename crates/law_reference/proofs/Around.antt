@@ -86,19 +86,11 @@ module _ (word : ℕ → ℕ) where
         pick : D i ⊎ (WasDrawn w.drawn i → ⊥) → D i
         pick (inl d) = d
         pick (inr new) = absurd (a.next v s e h i new known)
-    back_or v s e (Root u) known view = absurd view
-    back_or v s e (Object u i) known view = absurd view
-    back_or v s e (Promise u i) known view = absurd view
-    back_or v s e (Answer u m) known view = absurd view
-    back_or v s e (Sent m) known view = absurd view
+    back_or v s e other known view = absurd view
 
     waiting_known : (v : ℕ) (s : Vat Name) → slice_get w.vats v ≡ Some s → (n p : Name) (k : Known Name) → entry_of (K word v) s.known p ≡ Some k → IsAmong n k.waiting → IsView E n → IsAmong n (names_in s.known)
     waiting_known v s e (Gift h i) p k f j view = waits_known v s (a.had v s e) h i p k f j
-    waiting_known v s e (Root u) p k f i view = absurd view
-    waiting_known v s e (Object u j) p k f i view = absurd view
-    waiting_known v s e (Promise u j) p k f i view = absurd view
-    waiting_known v s e (Answer u m) p k f i view = absurd view
-    waiting_known v s e (Sent m) p k f i view = absurd view
+    waiting_known v s e other p k f i view = absurd view
 
     -- no name that waits, and none that settled, is a view under a new word
     pub waits_back : (v : ℕ) (s : Vat Name) → slice_get w.vats v ≡ Some s → (n p : Name) (k : Known Name) → entry_of (K word v) s.known p ≡ Some k → IsAmong n k.waiting → IsView E n → IsView D n
@@ -114,11 +106,7 @@ module _ (word : ℕ → ℕ) where
     -- nor is any under way opened under it
     pub open_back : (n : Note Name) → NoteOk (IsMade w.vats w.drawn) n → OpenBack word D E n
     open_back (Open i n) h = λ e. draw_back i h.0 (back i e)
-    open_back (Deliver m n verb ys) h = tt
-    open_back (Ask p i n) h = tt
-    open_back (SettledTo n y) h = tt
-    open_back (Elsewhere n c) h = tt
-    open_back (Shorten n c i) h = tt
+    open_back other h = tt
 
   -- ---- a note that arrives
 
@@ -160,8 +148,7 @@ module _ (word : ℕ → ℕ) where
 
     many_apart : (n : Name) (y : Passed Name) → Fits (SettledTo n y) → True (SettledTo n y) → IsMany y → (Seen word w.vats to (told_name (world.read_name ks n)) → ⊥) × (IsView D (told_name (world.read_name ks n)) → ⊥)
     many_apart n (Many ys) e h m = subst (λ x. (Seen word w.vats to x → ⊥) × (IsView D x → ⊥)) (sym (told_is ks n)) (unseen n e h.0 h.1 h.2.0 h.2.1, no_view n h.0 h.1 h.2.0 h.2.1)
-    many_apart n (Plain y) e h m = absurd m
-    many_apart n (AGift g i) e h m = absurd m
+    many_apart n other e h m = absurd m
 
     gift_apart : (n : Name) → WasMade w.vats w.drawn n → (g i : ℕ) → (WasDrawn w.drawn i → ⊥) → n ≡ Gift g i → ⊥
     gift_apart n h g i new e = new (subst (λ x. WasMade w.vats w.drawn x) e h)

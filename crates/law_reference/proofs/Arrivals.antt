@@ -16,25 +16,11 @@ use Rattle.law_name.proofs.CareRefs.{fine_settle}
 module _ (T : Name → Type 0) (G : ℕ → ℕ → Type 0) (Q : ℕ → Type 0) where
   abbrev pub ValueTells : Value Name → Type 0
   ValueTells (Ref n) = T n
-  ValueTells Null = Unit {0}
-  ValueTells (Flag b) = Unit {0}
-  ValueTells (Number z) = Unit {0}
-  ValueTells (Letter c) = Unit {0}
-  ValueTells (Text t) = Unit {0}
-  ValueTells (Prim k) = Unit {0}
-  ValueTells (Broken t) = Unit {0}
-  ValueTells (Items k) = Unit {0}
+  ValueTells other = Unit {0}
 
   pub value_tells : (P : Bit Name → Type 0) → ((n : Name) → P (Named n) → T n) → (y : Value Name) → ValueOk P y → ValueTells y
   value_tells P told (Ref n) f = told n f
-  value_tells P told Null f = tt
-  value_tells P told (Flag b) f = tt
-  value_tells P told (Number z) f = tt
-  value_tells P told (Letter c) f = tt
-  value_tells P told (Text t) f = tt
-  value_tells P told (Prim k) f = tt
-  value_tells P told (Broken t) f = tt
-  value_tells P told (Items k) f = tt
+  value_tells P told other f = tt
 
   abbrev mutual
     pub PassedTells : Passed Name → Type 0
@@ -76,11 +62,7 @@ module _ (T : Name → Type 0) (G : ℕ → ℕ → Type 0) (Q : ℕ → Type 0)
     -- a note that tells where a name settled
     abbrev pub IsNews : Note Name → Type 0
     IsNews (Elsewhere n c) = Unit {0}
-    IsNews (Deliver m n verb ys) = ⊥
-    IsNews (Open j n) = ⊥
-    IsNews (Ask p j n) = ⊥
-    IsNews (SettledTo n y) = ⊥
-    IsNews (Shorten n c j) = ⊥
+    IsNews other = ⊥
 
     module _ (law : Under K S) (gifts : Gifts K S) (Ks : List Name → Fact Name) (b : Brings Ks) where
       either_read : (ks : List Name) (n : Name) (c : Bool) → is_old ks n ≡ c → T n → Fine S (Ks ks) (arrive.learn_name K (elim c [ true ↦ Old n | false ↦ New n (host_of n) ])) (λ a. Also (IsName a) (Ks (elim c [ true ↦ ks | false ↦ ks ++ n ∷ [] ])))

@@ -66,9 +66,8 @@ module _ (M : Marked) (vats : List (Vat Name)) (v : ℕ) (q : Vat Name) (there :
         → ((a : A) → Fits ks' (Also C (P a)) (f a)) → Leaves (and_then d f)
     unfolding and_then
     bind_leaves ks ks' C P s (Gives a t) f c h l k = (k a).after t h.1 h.2 (rise true M vats v q there here word us d0 s t h.0 C c, h.3) l
-    bind_leaves ks ks' C P s (Throws p t) f c h l k = l
-    bind_leaves ks ks' C P s (Ejects n x t) f c h l k = l
     bind_leaves ks ks' C P s (Stops r t) f c h l k = tt
+    bind_leaves ks ks' C P s other f c h l k = l
 
     fits_bind : {A B : Type 0} {ks ks' : List Name} {C : Fact Name} {m : Act Name A} {f : A → Act Name B} (P : A → Fact Name) → Learning ks C m ks' P → Fits ks C m → ((a : A) → Fits ks' (Also C (P a)) (f a)) → Fits ks C (m >>= f)
     unfolding ◌>>=◌

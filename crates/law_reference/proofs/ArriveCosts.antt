@@ -31,15 +31,8 @@ module _ (v : ℕ) (x : Name) (word : ℕ → ℕ) where
 
   costs_learn_value : (y : Value (Incoming Name Name)) → Keeps (Knowing v x (new_in_value x y)) (arrive.learn_value K y)
   unfolding arrive.learn_value new_in_value
-  costs_learn_value Null = keeps_give _ (spared v x) _
-  costs_learn_value (Flag b) = keeps_give _ (spared v x) _
-  costs_learn_value (Number z) = keeps_give _ (spared v x) _
-  costs_learn_value (Letter c) = keeps_give _ (spared v x) _
-  costs_learn_value (Text t) = keeps_give _ (spared v x) _
-  costs_learn_value (Prim n) = keeps_give _ (spared v x) _
-  costs_learn_value (Broken p) = keeps_give _ (spared v x) _
-  costs_learn_value (Items k) = keeps_give _ (spared v x) _
   costs_learn_value (Ref z) = bind_free v x (new_name x z) (costs_learn_name z) (λ n. keeps_give _ (spared v x) _)
+  costs_learn_value other = keeps_give _ (spared v x) _
 
   free_ask_for : (p h i : ℕ) (n : Name) → Keeps (Knowing v x 0) (arrive.ask_for K p h i n)
   unfolding arrive.ask_for
@@ -202,10 +195,9 @@ module _ (v : ℕ) (x : Name) (word : ℕ → ℕ) where
 
   free_break_hosted : (w : ℕ) (n : Name) (p : Words) (t : Standing Name) → Keeps (Knowing v x 0) (arrive.break_hosted K w n p t)
   unfolding arrive.break_hosted
-  free_break_hosted w n p Unsettled = search (free_refs, free_settle) depth 14
-  free_break_hosted w n p (WaitsOn q) = search (free_refs, free_settle) depth 14
   free_break_hosted w n p (Viewed q) = search (free_refs, spared) depth 14
   free_break_hosted w n p (Settled y) = search (free_refs, spared) depth 14
+  free_break_hosted w n p other = search (free_refs, free_settle) depth 14
 
   free_notice_name : (w : ℕ) (k : Known Name) → Keeps (Knowing v x 0) (arrive.notice_name K w k)
   unfolding arrive.notice_name

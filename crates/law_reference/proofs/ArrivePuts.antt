@@ -35,15 +35,8 @@ module _ (v : ℕ) (d0 : List ℕ) (F : ℕ → ℕ) (fresh : (x : ℕ) → (IsA
 
   fair_learn_value : (y : Value (Incoming Name Name)) → Keeps R (arrive.learn_value K y)
   unfolding arrive.learn_value
-  fair_learn_value Null = search (fair, spared) depth 14
-  fair_learn_value (Flag b) = search (fair, spared) depth 14
-  fair_learn_value (Number z) = search (fair, spared) depth 14
-  fair_learn_value (Letter c) = search (fair, spared) depth 14
-  fair_learn_value (Text t) = search (fair, spared) depth 14
-  fair_learn_value (Prim n) = search (fair, spared) depth 14
-  fair_learn_value (Broken p) = search (fair, spared) depth 14
-  fair_learn_value (Items k) = search (fair, spared) depth 14
   fair_learn_value (Ref z) = search (fair, spared, fair_learn_name) depth 14
+  fair_learn_value other = search (fair, spared) depth 14
 
   fair_ask_for : (p h i : ℕ) (n : Name) → IsProvidedBy F d0 i p → Keeps R (arrive.ask_for K p h i n)
   unfolding arrive.ask_for
@@ -125,10 +118,7 @@ module _ (v : ℕ) (d0 : List ℕ) (F : ℕ → ℕ) (fresh : (x : ℕ) → (IsA
   fair_shorten_to : (i : ℕ) (p : Place Name) → IsProvidedBy F d0 i v → Keeps R (arrive.shorten_to K i p)
   unfolding arrive.shorten_to
   fair_shorten_to i (Away h n true) o = fair_open_out v d0 F h i n o
-  fair_shorten_to i (Away h n false) o = search (fair, spared) depth 14
-  fair_shorten_to i Near o = search (fair, spared) depth 14
-  fair_shorten_to i (Mine n) o = search (fair, spared) depth 14
-  fair_shorten_to i (Gone t) o = search (fair, spared) depth 14
+  fair_shorten_to i other o = search (fair, spared) depth 14
 
   fair_arrive_shorten : (z : Incoming Name Name) (i : ℕ) → IsProvidedBy F d0 i v → Keeps R (arrive.arrive_shorten K z i)
   unfolding arrive.arrive_shorten
@@ -148,11 +138,7 @@ module _ (v : ℕ) (d0 : List ℕ) (F : ℕ → ℕ) (fresh : (x : ℕ) → (IsA
   -- any other note
   abbrev NoNews : Note Name → Type 0
   NoNews (Elsewhere n c) = ⊥
-  NoNews (Deliver m n verb ys) = Unit {0}
-  NoNews (Open i n) = Unit {0}
-  NoNews (Ask p i n) = Unit {0}
-  NoNews (SettledTo n y) = Unit {0}
-  NoNews (Shorten n c i) = Unit {0}
+  NoNews other = Unit {0}
 
   pub fair_arrive : (from : ℕ) (ks : List Name) (n : Note Name) → NoNews n → Provides F d0 from v n → Keeps R (arrive.arrive K from (world.read_note ks n))
   unfolding arrive.arrive world.read_note
@@ -171,10 +157,9 @@ module _ (v : ℕ) (d0 : List ℕ) (F : ℕ → ℕ) (fresh : (x : ℕ) → (IsA
 
   fair_break_hosted : (w : ℕ) (n : Name) (p : Words) (t : Standing Name) → Keeps R (arrive.break_hosted K w n p t)
   unfolding arrive.break_hosted
-  fair_break_hosted w n p Unsettled = fair_settle v d0 F fresh word n (Broken p)
-  fair_break_hosted w n p (WaitsOn q) = fair_settle v d0 F fresh word n (Broken p)
   fair_break_hosted w n p (Viewed q) = search (fair, spared) depth 14
   fair_break_hosted w n p (Settled y) = search (fair, spared) depth 14
+  fair_break_hosted w n p other = fair_settle v d0 F fresh word n (Broken p)
 
   fair_notice_name : (w : ℕ) (k : Known Name) → Keeps R (arrive.notice_name K w k)
   unfolding arrive.notice_name

@@ -62,11 +62,7 @@ module _ (word : ℕ → ℕ) (v : ℕ) (heed : Bool) (D : ℕ → Type 0) (Seen
   foreign_object : (x : Name) (w : ℕ) → N.spot x ≡ Foreign w → IsObjectName x
   unfolding naming spot_of
   foreign_object (Object u i) w e = tt
-  foreign_object (Root u) w e = cc
-  foreign_object (Promise u i) w e = cc
-  foreign_object (Answer u m) w e = cc
-  foreign_object (Gift u i) w e = cc
-  foreign_object (Sent m) w e = cc
+  foreign_object other w e = cc
 
   hosted_far : (b : Bool) (x n : Name) (g h : ℕ) → ◌≡◌ {A = Place Name} (elim b [ true ↦ Mine x | false ↦ Away g x false ]) (Away h n true) → ⊥
   hosted_far true x n g h e = cc
@@ -75,20 +71,12 @@ module _ (word : ℕ → ℕ) (v : ℕ) (heed : Bool) (D : ℕ → Type 0) (Seen
   answer_host : (h : ℕ) (i : Name) → IsMessageName i → host_of (answer_of h i) ≡ h
   unfolding answer_of host_of
   answer_host h (Sent m) g = refl
-  answer_host h (Root w) g = absurd g
-  answer_host h (Object w j) g = absurd g
-  answer_host h (Promise w j) g = absurd g
-  answer_host h (Answer w m) g = absurd g
-  answer_host h (Gift w j) g = absurd g
+  answer_host h other g = absurd g
 
   answer_form : (h : ℕ) (i : Name) → IsMessageName i → IsAnswerName (answer_of h i)
   unfolding answer_of
   answer_form h (Sent m) g = tt
-  answer_form h (Root w) g = absurd g
-  answer_form h (Object w j) g = absurd g
-  answer_form h (Promise w j) g = absurd g
-  answer_form h (Answer w m) g = absurd g
-  answer_form h (Gift w j) g = absurd g
+  answer_form h other g = absurd g
 
   made_answer : (h k : ℕ) (i : Name) → IsMessageName i → IsEventual (N.made (IsAnswer h i) k) × (host_of (N.made (IsAnswer h i) k) ≡ h) × IsAnswerName (N.made (IsAnswer h i) k)
   unfolding naming name_of
@@ -235,9 +223,7 @@ module _ (word : ℕ → ℕ) (v : ℕ) (heed : Bool) (D : ℕ → Type 0) (Seen
     broke_at : {C : Fact Name} (n : Name) (p : Words) (t : Standing Name) → Is js C (arrive.break_at N n p t) nothing
     unfolding arrive.break_at
     broke_at {C = C} n p (Settled y) = search (fine, looks) depth 30
-    broke_at {C = C} n p Unsettled = settle_broken word v heed D Seen js C n p
-    broke_at {C = C} n p (WaitsOn q) = settle_broken word v heed D Seen js C n p
-    broke_at {C = C} n p (Viewed q) = settle_broken word v heed D Seen js C n p
+    broke_at {C = C} n p other = settle_broken word v heed D Seen js C n p
 
     pub broke_unopened : {C : Fact Name} (n : Name) (b : Bool) → Is js C (arrive.break_unopened N n b) nothing
     unfolding arrive.break_unopened
@@ -251,9 +237,7 @@ module _ (word : ℕ → ℕ) (v : ℕ) (heed : Bool) (D : ℕ → Type 0) (Seen
     told_at : (s : Vat Name) (n : Name) (w : ℕ) (t : Standing Name) → standing_of N s.known n ≡ t → Kept js s → At js nothing s (arrive.tell_asker N n w t s)
     unfolding arrive.tell_asker
     told_at s n w (Settled y) e k = informs word v heed D Seen js n w y s e (k.1.names.settled n y e).0 k
-    told_at s n w Unsettled e k = ((tells word v heed D Seen js).tells Nothing w n).after s k tt
-    told_at s n w (WaitsOn q) e k = ((tells word v heed D Seen js).tells Nothing w n).after s k tt
-    told_at s n w (Viewed q) e k = ((tells word v heed D Seen js).tells Nothing w n).after s k tt
+    told_at s n w other e k = ((tells word v heed D Seen js).tells Nothing w n).after s k tt
 
     told_asker : {C : Fact Name} (n : Name) (w : ℕ) → Is js C (look (λ s. standing_of N s.known n) >>= (λ t. arrive.tell_asker N n w t)) nothing
     unfolding ◌>>=◌ look and_then
@@ -273,22 +257,12 @@ module _ (word : ℕ → ℕ) (v : ℕ) (heed : Bool) (D : ℕ → Type 0) (Seen
     far_object : (s : Vat Name) (y : Value Name) (n : Name) (h : ℕ) → place N s y ≡ Away h n true → IsObjectName n
     unfolding place
     far_object s (Ref x) n h e = place_spot s x n h (N.spot x) refl e
-    far_object s Null n h e = cc
-    far_object s (Flag b) n h e = cc
-    far_object s (Number z) n h e = cc
-    far_object s (Letter c) n h e = cc
-    far_object s (Text t) n h e = cc
-    far_object s (Prim i) n h e = cc
-    far_object s (Broken t) n h e = cc
-    far_object s (Items k) n h e = cc
+    far_object s other n h e = cc
 
     shortens_at : (s : Vat Name) (i : ℕ) (y : Value Name) (p : Place Name) → place N s y ≡ p → Kept js s → At js nothing s (arrive.shorten_to N i p s)
     unfolding arrive.shorten_to give
     shortens_at s i y (Away h n true) e k = puts word v heed D Seen js s h (Open i n) tt (inl (far_object s y n h e)) k
-    shortens_at s i y (Away h n false) e k = (grows_same s.things s.lists, k, tt)
-    shortens_at s i y Near e k = (grows_same s.things s.lists, k, tt)
-    shortens_at s i y (Mine n) e k = (grows_same s.things s.lists, k, tt)
-    shortens_at s i y (Gone t) e k = (grows_same s.things s.lists, k, tt)
+    shortens_at s i y other e k = (grows_same s.things s.lists, k, tt)
 
     shortens : {C : Fact Name} (i : ℕ) (n : Name) → Is js C (look (λ s. place N s (follow N s (Ref n))) >>= (λ p. arrive.shorten_to N i p)) nothing
     unfolding ◌>>=◌ look and_then
@@ -365,9 +339,7 @@ module _ (word : ℕ → ℕ) (v : ℕ) (heed : Bool) (D : ℕ → Type 0) (Seen
     many_then : (s : Vat Name) (d : Done Name (List (Value Name))) → At ms AreValues s d → At ms nothing s (and_then (and_then d (λ vs. arrive.make_list N vs)) (λ z. refs.settle N n z))
     unfolding and_then
     many_then s (Gives vs t) h = widen N (M ms) nothing s t _ h.0 (made_then t vs (list_holds t vs h.1 h.2))
-    many_then s (Throws p t) h = h
-    many_then s (Ejects i x t) h = h
-    many_then s (Stops c t) h = h
+    many_then s other h = h
 
     -- it settles to the list that was learnt
     settles_many : (from : ℕ) (ys : Passeds (Incoming Name Name)) → AllPass ys → ToldPasseds hs ys → (s : Vat Name) → Kept ms s → At ms nothing s ((arrive.learn N from (Many ys) >>= (λ z. refs.settle N n z)) s)
@@ -388,10 +360,9 @@ module _ (word : ℕ → ℕ) (v : ℕ) (heed : Bool) (D : ℕ → Type 0) (Seen
   settles_to on n from (Plain (Broken x)) s q t w many k = settles_plain on n s (Broken x) k (record { at = λ ts js h. tt }) (λ m e i. cc) (λ c e. cc)
   settles_to on n from (Plain (Items i)) s q t w many k = absurd q
   settles_to on n from (Plain (Ref (Old m))) s q t w many k = settles_plain on n s (Ref m) k (got_ref N Nothing m) (λ i e j. w (subst IsEventual (sym (name_same m i e)) j)) (λ c e. cc)
-  settles_to on n from (Plain (Ref (New x h))) s q t w many k = absurd w
-  settles_to on n from (AGift h i) s q t w many k = absurd w
   settles_to on n from (Many ys) s q t w many k = let hs : List ℕ = heeds word v heed D Seen s in
       drop word v heed D Seen (Unviewed n) [] nothing s _ (drop word v heed D Seen (Noticed hs) (Unviewed n ∷ []) nothing s _ (settles_many on hs n many.1 from ys q t s (k.0, k.1, k.2, (refl, (λ g e. many.0 (k.1.names.seen n g e), tt)))))
+  settles_to on n from other s q t w many k = absurd w
 
   settled : heed ≡ true → (s : Vat Name) (from : ℕ) (x : Incoming Name Name) (y : Passed (Incoming Name Name)) → IsToldWell (heeds word v heed D Seen s) x → Passes y → ToldPassed (heeds word v heed D Seen s) y → SettlesWell y → IfMany y ((Seen (told_name x) → ⊥) × (IsView D (told_name x) → ⊥)) → Kept [] s → At [] nothing s (arrive.arrive_settled N from x y s)
   unfolding arrive.arrive_settled arrive.learn_name ◌>>=◌ give come and_then naming name_of
@@ -413,9 +384,7 @@ module _ (word : ℕ → ℕ) (v : ℕ) (heed : Bool) (D : ℕ → Type 0) (Seen
 
   ends_after : (s : Vat Name) (E : ℕ → Type 0) (d : Done Name (Unit {0})) → AtView word v heed Seen D E d → ArrivedSo word v D E Seen heed d
   ends_after s E (Gives a t) h = (h.0, h.1, h.2)
-  ends_after s E (Throws p t) h = (h.0, h.1, h.2)
-  ends_after s E (Ejects n x t) h = (h.0, h.1, h.2)
-  ends_after s E (Stops c t) h = (h.0, h.1, h.2)
+  ends_after s E other h = (h.0, h.1, h.2)
 
 pub arrivals_keep : (D : ℕ → Type 0) (Seen : Name → Type 0) → ArrivalsKeep D Seen
 unfolding does

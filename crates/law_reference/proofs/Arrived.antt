@@ -71,16 +71,12 @@ module _ (word : ℕ → ℕ) (v : ℕ) (m : Msg) where
 
   come_stays : (s : Vat Name) (d : Done Name (Unit {0})) → IsAmong (Answer v m) (names_in s.known) → After Stays s d → Comes d
   come_stays s (Gives u t) h r = r.1 (Answer v m) h
-  come_stays s (Throws p t) h r = tt
-  come_stays s (Ejects n y t) h r = tt
-  come_stays s (Stops c t) h r = tt
+  come_stays s other h r = tt
 
   later : {A : Type 0} (s : Vat Name) (d : Done Name A) (f : A → Act Name (Unit {0})) → s.number ≡ v → After Stays s d → ((a : A) (t : Vat Name) → t.number ≡ v → Comes (f a t)) → Comes (and_then d f)
   unfolding and_then
   later s (Gives a t) f e r k = k a t (r.0 ∙ e)
-  later s (Throws p t) f e r k = tt
-  later s (Ejects n y t) f e r k = tt
-  later s (Stops c t) f e r k = tt
+  later s other f e r k = tt
 
   rest_stays : (from : ℕ) (a n : Name) (verb : Words) (args : List (Value Name)) → Keeps Stays (alter K (ToTell from) a >> refs.send_on K (refs.settle K) (record { id = Sent m; target = Ref n; verb = verb; args = args; answer = Some a }))
   rest_stays from a n verb args = let b = base in let l = law in search (keeps_refs, b, l) depth 14

@@ -71,12 +71,9 @@ true_false e = cc
 abbrev pub Has : List Name → Bit Name → Type 0
 Has ns (Named n) = IsKnownIn ns n
 Has ns (Mail n) = IsMessageName n
-Has ns (Drew j) = Unit {0}
-Has ns (At h) = Unit {0}
-Has ns (Off h) = Unit {0}
 Has ns (Entered n) = IsKnownIn ns n
 Has ns (Owns n j) = IsKnownIn ns n
-Has ns (Gave j) = Unit {0}
+Has ns other = Unit {0}
 
 abbrev pub Grows : Vat Name → Vat Name → Type 0
 Grows s t = (n : Name) → IsAmong n (names_in s.known) → IsAmong n (names_in t.known)
@@ -84,12 +81,9 @@ Grows s t = (n : Name) → IsAmong n (names_in s.known) → IsAmong n (names_in 
 pub has_up : (s t : Vat Name) → Grows s t → (b : Bit Name) → Has (names_in s.known) b → Has (names_in t.known) b
 has_up s t f (Named n) h = known_up (names_in s.known) (names_in t.known) f n h
 has_up s t f (Mail n) h = h
-has_up s t f (Drew j) h = tt
-has_up s t f (At w) h = tt
-has_up s t f (Off w) h = tt
 has_up s t f (Entered n) h = known_up (names_in s.known) (names_in t.known) f n h
 has_up s t f (Owns n j) h = known_up (names_in s.known) (names_in t.known) f n h
-has_up s t f (Gave j) h = tt
+has_up s t f other h = tt
 
 one_more : (s : Vat Name) (n : Name) (h : ℕ) → Grows s (record s { known = s.known ++ begun n h ∷ [] })
 unfolding begun
@@ -119,11 +113,7 @@ module _ (g i : ℕ) where
   no_answer : (h : ℕ) (m : Name) → IsMessageName m → X ≡ answer_of h m → ⊥
   unfolding answer_of
   no_answer h (Sent m) o e = cc
-  no_answer h (Root w) o e = absurd o
-  no_answer h (Object w j) o e = absurd o
-  no_answer h (Promise w j) o e = absurd o
-  no_answer h (Answer w m) o e = absurd o
-  no_answer h (Gift w j) o e = absurd o
+  no_answer h other o e = absurd o
 
   no_promise : (w j : ℕ) → X ≡ Promise w j → ⊥
   no_promise w j e = cc
@@ -134,13 +124,7 @@ module _ (g i : ℕ) where
   -- a note that names what is known names nothing that is not
   avoids : (ns : List Name) → (IsAmong X ns → ⊥) → (b : Bit Name) → Has ns b → Avoids X b
   avoids ns f (Named n) h = λ e. let k : IsKnownIn ns X = rw e at h in f k
-  avoids ns f (Mail n) h = tt
-  avoids ns f (Drew j) h = tt
-  avoids ns f (At w) h = tt
-  avoids ns f (Off w) h = tt
-  avoids ns f (Entered n) h = tt
-  avoids ns f (Owns n j) h = tt
-  avoids ns f (Gave j) h = tt
+  avoids ns f other h = tt
 
   module _ (v : ℕ) (E : Type 0) where
     -- The gift is the vat's own and stands; or E; or it is asked for in front of all that names it, or its host is noticed.

@@ -52,9 +52,7 @@ module _ (script : Script) where
   unfolding world.put_back
   put_on w y v head k s what (Gives u t) past o f e h = let x : World = record { fuel = t.fuel; drawn = t.drawn; vats = put_at v t w.vats; links = push_all v t.outbox w.links; connections = world.connections_after v t head w.connections; history = w.history ++ head ++ world.events_of w.links v t.happened } in
       subst (λ (z : World). Holds z) (going_is x y e) (alone_on w x v s s t what past o (f t refl) refl refl h)
-  put_on w y v head k s what (Throws p t) past o f e h = cc
-  put_on w y v head k s what (Ejects n z t) past o f e h = cc
-  put_on w y v head k s what (Stops c t) past o f e h = cc
+  put_on w y v head k s what other past o f e h = cc
 
   open_at : (v : ℕ) (p : Program) (w y : World) → Past script w → slice_get script.vats v ≡ Some p → (o : Option (Vat Name)) → slice_get w.vats v ≡ o
       → world.within v w (Opens v ∷ []) v (opening (names script v) p.tree script.depth (Root v) (world.given script.vats p.knows)) o ≡ Going y → Holds w → Holds y

@@ -77,12 +77,9 @@ module _ (script : Script) where
   had_has : (w : World) (v : ℕ) (s : Vat Name) (b : Bit Name) → Had script w v s b → Has (names_in s.known) b
   had_has w v s (Named n) h = h.1
   had_has w v s (Mail n) h = made_message w.vats n h.0
-  had_has w v s (Drew j) h = tt
-  had_has w v s (At u) h = tt
-  had_has w v s (Off u) h = tt
   had_has w v s (Entered n) h = h.1
   had_has w v s (Owns n j) h = h.1
-  had_has w v s (Gave j) h = tt
+  had_has w v s other h = tt
 
   -- ---- a step of vat v
 
@@ -129,10 +126,9 @@ module _ (script : Script) where
   noticed_stays w v s q t what same d g e = after_gives NoticedStays (readied w q) t _ (kept_by_steps (names script v) NoticedStays noticed_law (noticed_names (names script v)) what (readied w q)) d.gives g (rw (sym same) at e)
 
   pub same_noticed : (w : World) (v : ℕ) (s q t : Vat Name) (what : Step Name Name) → Does script w v s q t what → q.noticed ≡ s.noticed
-  same_noticed w v s q t (Starts tree depth root given) d = let b = d.begins in ap (λ (z : Vat Name). z.noticed) b.2
-  same_noticed w v s q t (Takes tree depth m) d = let b = d.begins in ap (λ (z : Vat Name). z.noticed) b.2
   same_noticed w v s q t (Receives from n) d = ap (λ (z : Vat Name). z.noticed) d.begins
   same_noticed w v s q t (Notices u) d = ap (λ (z : Vat Name). z.noticed) d.begins
+  same_noticed w v s q t other d = let b = d.begins in ap (λ (z : Vat Name). z.noticed) b.2
 
   -- by which a name of the state after is what it may be
   pub held_first : (vs : List (Vat Name)) (v : ℕ) (s t : Vat Name) → slice_get vs v ≡ Some s → (g i : ℕ) (q : Vat Name) → slice_get (put_at v t vs) g ≡ Some q → Held g i v (IsAmong (Gift g i) (names_in s.known)) t → IsAmong (Gift g i) (names_in t.known)
@@ -176,27 +172,18 @@ module _ (script : Script) where
       note_tells E us e word (Open j n) f k h = f.1
       note_tells E us e word (Ask p j n) f k h = tt
       note_tells E us e word (SettledTo n y) f k h = (f.0, passed_tells y f.1 h)
-      note_tells E us e word (Elsewhere n c) f k h = f.0
-      note_tells E us e word (Shorten n c j) f k h = f.0
+      note_tells E us e word other f k h = f.0
 
       -- the gift is asked for, so that its name in the note is not read
       ask_tells : (E : Type 0) (word : ℕ → ℕ) (n : Note Name) → AsksFor i n → Tells g i v E word n
       ask_tells E word (Ask p j n) f = tt
-      ask_tells E word (Deliver m n verb ys) f = absurd f
-      ask_tells E word (Open j n) f = absurd f
-      ask_tells E word (SettledTo n y) f = absurd f
-      ask_tells E word (Elsewhere n c) f = absurd f
-      ask_tells E word (Shorten n c j) f = absurd f
+      ask_tells E word other f = absurd f
 
   -- after a note that asks, the gift stands
   pub asks_stand : (w : World) (a v : ℕ) (s t : Vat Name) (n : Note Name) → Does script w v s s t (Receives a (read_note (names_of s) n)) → (i : ℕ) → AsksFor i n → IsEntered i t.gifts
   unfolding does world.read_note
   asks_stand w a v s t (Ask p j n) d i e = let x = world.read_name (names_of s) n in let h = (what_is_opened_stands (names script v) a p j x (readied w s)).1 in rw e at (stands_entered p j t.gifts (then_given p j t _ h d.gives))
-  asks_stand w a v s t (Deliver m n verb ys) d i e = absurd e
-  asks_stand w a v s t (Open j n) d i e = absurd e
-  asks_stand w a v s t (SettledTo n y) d i e = absurd e
-  asks_stand w a v s t (Elsewhere n c) d i e = absurd e
-  asks_stand w a v s t (Shorten n c j) d i e = absurd e
+  asks_stand w a v s t other d i e = absurd e
 
   module _ (w : World) (a v : ℕ) (s t : Vat Name) (n : Note Name) (ns : List (Note Name)) (l : Link) (past : Past script w) (at : link_at a v w.links ≡ Some l) (cut : l.cut ≡ false) (notes : l.notes ≡ n ∷ ns) (d : Does script w v s s t (Receives a (read_note (names_of s) n))) (sure : NoticedCut w) (h : Holds w) where
     before : Before script w

@@ -10,19 +10,14 @@ use Rattle.law_reference.proofs.CareMore.{Leaves as LeavesSo}
 abbrev pub PassesNothing : Note Name → Type 0
 PassesNothing (Deliver d n verb ys) = ⊥
 PassesNothing (SettledTo n y) = ⊥
-PassesNothing (Open i n) = Unit {0}
-PassesNothing (Ask p i n) = Unit {0}
-PassesNothing (Elsewhere n c) = Unit {0}
-PassesNothing (Shorten n c i) = Unit {0}
+PassesNothing other = Unit {0}
 
 -- a name that vat v may make by itself: a promise, a gift, or an answer that it hosts
 abbrev pub MakesAlone : ℕ → Name → Type 0
 MakesAlone v (Promise w i) = Unit {0}
 MakesAlone v (Gift h i) = Unit {0}
 MakesAlone v (Answer h m) = h ≡ v
-MakesAlone v (Root w) = ⊥
-MakesAlone v (Object w i) = ⊥
-MakesAlone v (Sent m) = ⊥
+MakesAlone v other = ⊥
 
 module _ (word : ℕ → ℕ) (v : ℕ) (Fit : List (Known Name) → List (Put Name) → Type 0) where
   abbrev pub IsFit : Vat Name → Type 0

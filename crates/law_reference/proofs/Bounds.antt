@@ -26,12 +26,10 @@ one_of false c = omega arith
 
 pub allowed_once : (v : ℕ) (x : Name) (s : Vat Name) (d : List ℕ) → allowed v x s d ≤ 1
 unfolding allowed other numbered
-allowed_once v (Root w) s d = omega arith
-allowed_once v (Object w i) s d = omega arith
 allowed_once v (Promise w i) s d = one_of (v == w) (nat_le (suc i) s.promises)
 allowed_once v (Answer h m) s d = one_of (v == m.sender) (nat_le (suc m.number) s.messages)
 allowed_once v (Gift h i) s d = let most = once_most (is_in (word_of i) d) in omega arith
-allowed_once v (Sent m) s d = omega arith
+allowed_once v other s d = omega arith
 
 true_false : true ≡ false → ⊥
 true_false e = cc
@@ -47,12 +45,8 @@ in_more x d e h i = among_in x e (h x (in_among x d i))
 
 pub allowed_more : (v : ℕ) (x : Name) (s : Vat Name) (d e : List ℕ) → AllStay d e → allowed v x s d ≤ allowed v x s e
 unfolding allowed other numbered
-allowed_more v (Root w) s d e h = omega arith
-allowed_more v (Object w i) s d e h = omega arith
-allowed_more v (Promise w i) s d e h = omega arith
-allowed_more v (Answer a m) s d e h = omega arith
 allowed_more v (Gift a i) s d e h = let more = more_or (is_in (word_of i) d) (is_in (word_of i) e) (in_more (word_of i) d e h) in omega arith
-allowed_more v (Sent m) s d e h = omega arith
+allowed_more v other s d e h = omega arith
 
 get_among : (xs : List ℕ) (i x : ℕ) → slice_get xs i ≡ Some x → IsAmong x xs
 get_among [] i x e = cc

@@ -9,8 +9,7 @@ use Rattle.law_reference.proofs.Gentle.{Gentle, GoesBy, goes}
 unfoldable pub next : {N : Type 0} → Standing N → Option N
 next (WaitsOn q) = Some q
 next (Viewed q) = Some q
-next Unsettled = None
-next (Settled y) = None
+next other = None
 
 -- a change after which a name waits on nothing on which it did not
 abbrev pub IsCalmChange : {N : Type 0} → Change N → Type 0

@@ -14,21 +14,13 @@ use Rattle.law_reference.proofs.CareMore.{Leaves, KeptQuiet, More, lift, lift_of
 
 pub made_message : (us : List (Vat Name)) (n : Name) → IsMessageMade us n → IsMessageName n
 made_message us (Sent m) h = tt
-made_message us (Root w) h = h
-made_message us (Object w i) h = h
-made_message us (Promise w i) h = h
-made_message us (Answer w m) h = h
-made_message us (Gift w i) h = h
+made_message us other h = h
 
 -- an answer of the vat is one that it may make
 answer_alone : (v h : ℕ) (m : Name) → h ≡ v → IsMessageName m → MakesAlone v (answer_of h m)
 unfolding answer_of
 answer_alone v h (Sent m) e i = e
-answer_alone v h (Root w) e i = absurd i
-answer_alone v h (Object w j) e i = absurd i
-answer_alone v h (Promise w j) e i = absurd i
-answer_alone v h (Answer w m) e i = absurd i
-answer_alone v h (Gift w j) e i = absurd i
+answer_alone v h other e i = absurd i
 
 module _ (M : Marked) (vats : List (Vat Name)) (v : ℕ) (q : Vat Name) (there : slice_get vats v ≡ Some q) (here : M.mark (At v)) (word : ℕ → ℕ) (Fit : List (Known Name) → List (Put Name) → Type 0) where
   abbrev pub T : Care Name

@@ -11,7 +11,7 @@ use Rattle.law_name.proofs.Facts.{Fact, Also, IsName, IsMail, IsDraw, IsVat, IsO
 use Rattle.law_name.proofs.Care.{Care, Alike, Spots, Gets, Fine, quiet, fine_bind, fine_give, got_entry, bind_name, bind_value, bind_place, bind_names, then_unit, got, got_left, got_right, got_itself, got_message, got_more, got_none, got_ref, got_some}
 use Rattle.law_name.proofs.Looks.{looks, look_follow, look_target, look_entry, look_place, look_place_of}
 use Rattle.law_name.proofs.CareRefs.{GoodSettler}
-use Rattle.law_name.proofs.Serves.{Serves}
+use Rattle.law_name.proofs.Serves.{Serves, Closing}
 use Rattle.law_reference.proofs.CareYields.{Fits, fits_fine, bind_yielded}
 
 -- How each single change ends, and each note in which nothing passes. The answer of a message is made where its host is one of these.
@@ -130,10 +130,9 @@ module _ {N W : Type 0} (K : Naming N W) (S : Care N) (Here : ℕ → Type 0) (c
 
     pub put_send_to : {C : Fact N} → (x1 : N → Value N → Act N (Unit {0})) → GoodSettler S x1 → (x2 : Message N) → Gets S C (IsMessage x2) → (x3 : Value N) → Gets S C (IsValue x3) → (x4 : Place N) → Gets S C (IsPlace x4) → Fine S C (refs.send_to K x1 x2 x3 x4) nothing
     unfolding refs.send_to
-    put_send_to {C = C} settle h1 m g1 y g2 Near p6 = let mi_m : Gets S C (IsMail m.id) = record { at = λ s h. (g1.at s h).0 } in let mt_m : Gets S C (IsValue m.target) = record { at = λ s h. (g1.at s h).1 } in let ma_m : Gets S C (AreValues m.args) = record { at = λ s h. (g1.at s h).2 } in let mr_m : Gets S C (MayName m.answer) = record { at = λ s h. (g1.at s h).3 } in search (putting, looks) depth 30
     put_send_to {C = C} settle h1 m g1 y g2 (Mine n) p6 = let mi_m : Gets S C (IsMail m.id) = record { at = λ s h. (g1.at s h).0 } in let mt_m : Gets S C (IsValue m.target) = record { at = λ s h. (g1.at s h).1 } in let ma_m : Gets S C (AreValues m.args) = record { at = λ s h. (g1.at s h).2 } in let mr_m : Gets S C (MayName m.answer) = record { at = λ s h. (g1.at s h).3 } in let pn6 : Gets S C (IsName n) = record { at = λ s h. p6.at s h } in search (putting, looks) depth 30
     put_send_to {C = C} settle h1 m g1 y g2 (Away h n o) p6 = let mi_m : Gets S C (IsMail m.id) = record { at = λ s h. (g1.at s h).0 } in let mt_m : Gets S C (IsValue m.target) = record { at = λ s h. (g1.at s h).1 } in let ma_m : Gets S C (AreValues m.args) = record { at = λ s h. (g1.at s h).2 } in let mr_m : Gets S C (MayName m.answer) = record { at = λ s h. (g1.at s h).3 } in let pn6 : Gets S C (IsName n) = record { at = λ s h. (p6.at s h).0 } in let po : Gets S C (IsOff h) = record { at = λ s h. (p6.at s h).1 } in search (putting, looks, put_pass_on) depth 30
-    put_send_to {C = C} settle h1 m g1 y g2 (Gone p) p6 = let mi_m : Gets S C (IsMail m.id) = record { at = λ s h. (g1.at s h).0 } in let mt_m : Gets S C (IsValue m.target) = record { at = λ s h. (g1.at s h).1 } in let ma_m : Gets S C (AreValues m.args) = record { at = λ s h. (g1.at s h).2 } in let mr_m : Gets S C (MayName m.answer) = record { at = λ s h. (g1.at s h).3 } in search (putting, looks) depth 30
+    put_send_to {C = C} settle h1 m g1 y g2 other p6 = let mi_m : Gets S C (IsMail m.id) = record { at = λ s h. (g1.at s h).0 } in let mt_m : Gets S C (IsValue m.target) = record { at = λ s h. (g1.at s h).1 } in let ma_m : Gets S C (AreValues m.args) = record { at = λ s h. (g1.at s h).2 } in let mr_m : Gets S C (MayName m.answer) = record { at = λ s h. (g1.at s h).3 } in search (putting, looks) depth 30
 
     pub put_send_on : {C : Fact N} → (x1 : N → Value N → Act N (Unit {0})) → GoodSettler S x1 → (x2 : Message N) → Gets S C (IsMessage x2) → Fine S C (refs.send_on K x1 x2) nothing
     unfolding refs.send_on
@@ -300,10 +299,9 @@ module _ {N W : Type 0} (K : Naming N W) (S : Care N) (Here : ℕ → Type 0) (c
 
     pub put_break_hosted : {C : Fact N} → (w : ℕ) → (n : N) → Gets S C (IsName n) → (p : Words) → (t : Standing N) → Fine S C (arrive.break_hosted K w n p t) nothing
     unfolding arrive.break_hosted
-    put_break_hosted {C = C} w n g1 p Unsettled = search (putting, looks, put_settle) depth 30
-    put_break_hosted {C = C} w n g1 p (WaitsOn q) = search (putting, looks, put_settle) depth 30
     put_break_hosted {C = C} w n g1 p (Viewed q) = search (putting, looks) depth 30
     put_break_hosted {C = C} w n g1 p (Settled y) = search (putting, looks) depth 30
+    put_break_hosted {C = C} w n g1 p other = search (putting, looks, put_settle) depth 30
 
     pub put_notice_name : {C : Fact N} → (w : ℕ) → (k : Known N) → Gets S C (IsKnown k) → Fine S C (arrive.notice_name K w k) nothing
     unfolding arrive.notice_name
@@ -346,14 +344,21 @@ module _ {N W : Type 0} (K : Naming N W) (S : Care N) (Here : ℕ → Type 0) (c
     pub put_shortened : {C : Fact N} → (n : N) → Gets S C (IsName n) → (i : ℕ) → Gets S C (IsDraw i) → Fine S C (look (λ s. refs.place K s (refs.follow K s (Ref n))) >>= (λ p. arrive.shorten_to K i p)) nothing
     put_shortened {C = C} n g1 i g2 = search (putting, looks, place_of_here, put_shorten_to) depth 30
 
-    -- so evaluation is served
+    -- so a turn ends well
+    pub closes_by : (p : N) → Closing K S p
+    closes_by p = record {
+      breaks = λ C g t. put_settle p (got_entry S C p g) (Broken t) (record { at = λ s c. tt });
+      closes = λ C g y h. put_resolve p g y h;
+    }
+
+    -- and evaluation is served
     pub serves_by : Serves K S
     serves_by = record {
       spots = changes.spots;
       object = λ s i l. changes.object s i l;
       promises = λ C. changes.promises C;
-      breaks = λ C p g t. put_settle p (got_entry S C p g) (Broken t) (record { at = λ s c. tt });
-      resolves = λ C p g y h. put_resolve p g y h;
+      smashes = λ C p g t s i c e. let closing = closes_by p in (closing.breaks C g t).after s i c;
+      resolves = λ C p g y h s i c e. let closing = closes_by p in (closing.closes C g y h).after s i c;
       sends = λ C act x g verb args h. put_send act x g verb args h;
       sends_only = λ C act x g verb args h. put_send_only act x g verb args h;
       reacts = λ C act x g o h near k. put_react act x g o h near k;

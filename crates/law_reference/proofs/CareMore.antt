@@ -54,10 +54,10 @@ module _ {N : Type 0} (T : Care N) (P : Vat N → Type 0) (quiet : KeptQuiet P) 
   pub without : (s : Vat N) → Sound More s → Sound T s
   without s h = let m = h.more in record { parts = h.parts; more = m.0 }
 
-  more_of : (s : Vat N) → Sound More s → P s
+  pub more_of : (s : Vat N) → Sound More s → P s
   more_of s h = let m = h.more in m.1
 
-  joined : {A : Type 0} (G : A → Fact N) (s : Vat N) (d : Done N A) → Ends T G s d → Leaves P d → Ends More G s d
+  pub joined : {A : Type 0} (G : A → Fact N) (s : Vat N) (d : Done N A) → Ends T G s d → Leaves P d → Ends More G s d
   joined G s (Gives a t) h l = (h.0, with_more t h.1 l, h.2)
   joined G s (Throws p t) h l = (h.0, with_more t h.1 l)
   joined G s (Ejects n y t) h l = (h.0, with_more t h.1 l, h.2)

@@ -6,9 +6,7 @@ use Rattle.law_name.proofs.Care.{Care, Sound, Ends, Gets, Fine, widen, rise, fin
 module _ {N : Type 0} (S : Care N) where
   abbrev pub Yields : {A : Type 0} → (A → Type 0) → Done N A → Type 0
   Yields Q (Gives a t) = Q a
-  Yields Q (Throws p t) = Unit {0}
-  Yields Q (Ejects n y t) = Unit {0}
-  Yields Q (Stops c t) = Unit {0}
+  Yields Q other = Unit {0}
 
   pub record Fits {A : Type 0} (C : Fact N) (m : Act N A) (G : A → Fact N) (Q : A → Type 0) : Type 0 where
     pub after : (s : Vat N) → Sound S s → Holds (S.ok s) C → Ends S G s (m s) × Yields Q (m s)
@@ -18,9 +16,7 @@ module _ {N : Type 0} (S : Care N) where
 
   yields : {A : Type 0} (d : Done N A) → Yields Whatever d
   yields (Gives a t) = tt
-  yields (Throws p t) = tt
-  yields (Ejects n y t) = tt
-  yields (Stops c t) = tt
+  yields other = tt
 
   pub fits_fine : {A : Type 0} {C : Fact N} {m : Act N A} {G : A → Fact N} → Fine S C m G → Fits C m G Whatever
   fits_fine {m = m} f = record { after = λ s h c. (f.after s h c, yields (m s)) }
@@ -32,9 +28,8 @@ module _ {N : Type 0} (S : Care N) where
       → ((a : A) → Q a → Fits (Also C (P a)) (f a) H R) → Ends S H s (and_then d f) × Yields R (and_then d f)
   unfolding and_then
   bind_fits C P H Q R s (Gives a t) f c e y k = let r = (k a y).after t e.1 (rise S s t e.0 C c, e.2) in (widen S H s t (f a t) e.0 r.0, r.1)
-  bind_fits C P H Q R s (Throws p t) f c e y k = (e, tt)
-  bind_fits C P H Q R s (Ejects n z t) f c e y k = (e, tt)
   bind_fits C P H Q R s (Stops z t) f c e y k = (tt, tt)
+  bind_fits C P H Q R s other f c e y k = (e, tt)
 
   pub fits_bind : {A B : Type 0} {C : Fact N} {m : Act N A} {f : A → Act N B} {H : B → Fact N} {R : B → Type 0} (P : A → Fact N) (Q : A → Type 0) → Fits C m P Q → ((a : A) → Q a → Fits (Also C (P a)) (f a) H R) → Fits C (m >>= f) H R
   unfolding ◌>>=◌

@@ -22,27 +22,13 @@ use Rattle.law_reference.proofs.CareYields.{Fits, Whatever, fits_bind, fits_fine
 -- of that host, or data
 abbrev pub IsOf : ℕ → Value Name → Type 0
 IsOf h (Ref n) = host_of n ≡ h
-IsOf h Null = Unit {0}
-IsOf h (Flag b) = Unit {0}
-IsOf h (Number z) = Unit {0}
-IsOf h (Letter c) = Unit {0}
-IsOf h (Text t) = Unit {0}
-IsOf h (Prim i) = Unit {0}
-IsOf h (Broken t) = Unit {0}
-IsOf h (Items k) = Unit {0}
+IsOf h other = Unit {0}
 
 -- what is of one of two is of either
 of_either : (v w h : ℕ) (y : Value Name) → IsOf h y → (h ≡ v) ⊎ (h ≡ w) → IsOfEither v w y
 of_either v w h (Ref n) e (inl i) = inl (e ∙ i)
 of_either v w h (Ref n) e (inr i) = inr (e ∙ i)
-of_either v w h Null e i = tt
-of_either v w h (Flag b) e i = tt
-of_either v w h (Number z) e i = tt
-of_either v w h (Letter c) e i = tt
-of_either v w h (Text t) e i = tt
-of_either v w h (Prim j) e i = tt
-of_either v w h (Broken t) e i = tt
-of_either v w h (Items k) e i = tt
+of_either v w h other e i = tt
 
 no_same : (b : Bool) → b ≡ true → b ≡ false → ⊥
 no_same b e f = cc
@@ -54,10 +40,7 @@ FitOut v ks ps = AllOf (λ (p : Put Name). Carries v p.to p.note) ps
 plain_carries : (v to : ℕ) (n : Note Name) → PassesNothing n → Carries v to n
 plain_carries v to (Deliver d n verb ys) h = absurd h
 plain_carries v to (SettledTo n y) h = absurd h
-plain_carries v to (Open i n) h = tt
-plain_carries v to (Ask p i n) h = tt
-plain_carries v to (Elsewhere n c) h = tt
-plain_carries v to (Shorten n c i) h = tt
+plain_carries v to other h = tt
 
 pub fit_stays : (word : ℕ → ℕ) (v : ℕ) → Stays word v (FitOut v)
 fit_stays word v = record {
@@ -126,9 +109,7 @@ module _ (M : Marked) (vats : List (Vat Name)) (v : ℕ) (q : Vat Name) (there :
   -- of which host a value is, by its place
   abbrev PlaceSays : Value Name → Place Name → Type 0
   PlaceSays y (Away h n o) = IsOf h y
-  PlaceSays y Near = IsOf v y
-  PlaceSays y (Mine n) = IsOf v y
-  PlaceSays y (Gone t) = IsOf v y
+  PlaceSays y other = IsOf v y
 
   object_says : (s : Vat Name) (b : Bool) (w i : ℕ) → (b ≡ true → v ≡ w) → PlaceSays (Ref (Object w i)) (spotted Names s (Object w i) (elim b [ true ↦ OwnThing i | false ↦ Foreign w ]))
   unfolding spotted host_of
@@ -151,14 +132,7 @@ module _ (M : Marked) (vats : List (Vat Name)) (v : ℕ) (q : Vat Name) (there :
   place_says s (Ref (Answer w m)) h g = eventual_says s (Answer w m) tt h g.1
   place_says s (Ref (Gift w i)) h g = eventual_says s (Gift w i) tt h g.1
   place_says s (Ref (Sent m)) h g = absurd g.0
-  place_says s Null h g = tt
-  place_says s (Flag b) h g = tt
-  place_says s (Number z) h g = tt
-  place_says s (Letter c) h g = tt
-  place_says s (Text t) h g = tt
-  place_says s (Prim i) h g = tt
-  place_says s (Broken p) h g = tt
-  place_says s (Items k) h g = tt
+  place_says s other h g = tt
 
   -- ---- passing
 
@@ -173,8 +147,7 @@ module _ (M : Marked) (vats : List (Vat Name)) (v : ℕ) (q : Vat Name) (there :
   unfolding refs.address_plain
   fits_plain w y (Away h n o) g k i = away_fits w h n y (h == w) (eqb-true h w) g (record { at = λ s c. (k.at s c).0 }) (record { at = λ s c. (k.at s c).1 }) i
   fits_plain w y (Mine n) g k i = fits_then V nothing (single.to_tell _ w n (record { at = λ s c. k.at s c })) (fits_give V (Plain y) (record { at = λ s c. g.at s c }) (of_either v w v y i (inl refl)))
-  fits_plain w y Near g k i = fits_give V (Plain y) (record { at = λ s c. g.at s c }) (of_either v w v y i (inl refl))
-  fits_plain w y (Gone t) g k i = fits_give V (Plain y) (record { at = λ s c. g.at s c }) (of_either v w v y i (inl refl))
+  fits_plain w y other g k i = fits_give V (Plain y) (record { at = λ s c. g.at s c }) (of_either v w v y i (inl refl))
 
   fits_value : {C : Fact Name} (w : ℕ) (y : Value Name) → Gets V C (IsValue y) → Fits V C (refs.address Names w (Plain y)) DoesPass (PassesBetween v w)
   unfolding refs.address ◌>>=◌ look and_then

@@ -140,15 +140,13 @@ module _ (K : Naming Name Name) (is : (a b : Name) → K.same a b ≡ true → a
       unfolding led_by_wait next
       led_next f (WaitsOn q) e = (q, refl, e)
       led_next f (Viewed q) e = (q, refl, e)
-      led_next f Unsettled e = cc
-      led_next f (Settled y) e = cc
+      led_next f other e = cc
 
       pub next_led : (f : Name → Bool) (t : Standing Name) (q : Name) → next t ≡ Some q → f q ≡ true → led_by_wait K f t ≡ true
       unfolding led_by_wait next
       next_led f (WaitsOn r) q e h = rw (some_same r q e) h
       next_led f (Viewed r) q e h = rw (some_same r q e) h
-      next_led f Unsettled q e h = cc
-      next_led f (Settled y) q e h = cc
+      next_led f other q e h = cc
 
       lead_at : (b : Bool) (f : Name → Bool) (n : Name) → K.same n p ≡ b → (elim b [ true ↦ true | false ↦ led_by_wait K f (standing_of K ks n) ]) ≡ true → ((q : Name) → f q ≡ true → (e : ℕ) × Exact Hits e q) → (e : ℕ) × Exact Hits e n
       lead_at true f n s h g = (zero, s)
@@ -184,15 +182,13 @@ module _ (K : Naming Name Name) (is : (a b : Name) → K.same a b ≡ true → a
     unfolding next
     wait_next P (WaitsOn r) q e h = rw (some_same r q e) at h
     wait_next P (Viewed r) q e h = rw (some_same r q e) at h
-    wait_next P Unsettled q e h = cc
-    wait_next P (Settled y) q e h = cc
+    wait_next P other q e h = cc
 
     pub next_wait : (P : Name → Type 0) (t : Standing Name) → ((q : Name) → next t ≡ Some q → P q) → WaitIs P t
     unfolding next
     next_wait P (WaitsOn q) f = f q refl
     next_wait P (Viewed q) f = f q refl
-    next_wait P Unsettled f = tt
-    next_wait P (Settled y) f = tt
+    next_wait P other f = tt
 
     end_at : (o : Option Name) (n : Name) → next (standing_of K ks n) ≡ o → ((q : Name) → Next n q → (e : ℕ) × Exact Ended e q) → (e : ℕ) × Exact Ended e n
     end_at None n i g = (zero, i)

@@ -52,11 +52,7 @@ among_end n q (x ∷ xs) (inr a) = pick (among_end n q xs a)
 pub answer_eventual : (h : ℕ) (i : Name) → IsMessageName i → IsEventual (answer_of h i)
 unfolding answer_of
 answer_eventual h (Sent m) g = tt
-answer_eventual h (Root w) g = absurd g
-answer_eventual h (Object w j) g = absurd g
-answer_eventual h (Promise w j) g = absurd g
-answer_eventual h (Answer w m) g = absurd g
-answer_eventual h (Gift w j) g = absurd g
+answer_eventual h other g = absurd g
 
 module _ (word : ℕ → ℕ) (v : ℕ) (heed : Bool) (D : ℕ → Type 0) (Seen : Name → Type 0) where
   abbrev N : Naming Name Name
@@ -112,8 +108,7 @@ module _ (word : ℕ → ℕ) (v : ℕ) (heed : Bool) (D : ℕ → Type 0) (Seen
   unfolding still_waits
   waits_spared s q p k (Settled y) r not e i w = absurd (settled_waits y (sym (ap (λ (x : Known Name). still_waits x.standing) (settled_is (WaitOn q) k y i) ∙ ap still_waits i) ∙ w))
   waits_spared s q p k (Viewed g) r not e i w = absurd (not g (standing_found N s.known p k e ∙ i))
-  waits_spared s q p k (WaitsOn o) r not e i w = r.names.spared p k e (ap still_waits i)
-  waits_spared s q p k Unsettled r not e i w = r.names.spared p k e (ap still_waits i)
+  waits_spared s q p k other r not e i w = r.names.spared p k e (ap still_waits i)
 
   view_wait_on : (q g : Name) (k : Known Name) → (changed (WaitOn q) k ≡ k) ⊎ (changed (WaitOn q) k ≡ changed_to (WaitOn q) k) → (changed (WaitOn q) k).standing ≡ Viewed g → k.standing ≡ Viewed g
   unfolding changed_to
@@ -276,14 +271,7 @@ module _ (word : ℕ → ℕ) (v : ℕ) (heed : Bool) (D : ℕ → Type 0) (Seen
   target_same : (s : Vat Name) (p : Name) (x z : Value Name) → ((t : Words) → z ≡ Broken t → ⊥) → target_of N s p x ≡ z → x ≡ z
   unfolding target_of
   target_same s p (Items k) z f e = cut_same _ (Items k) z f e
-  target_same s p Null z f e = e
-  target_same s p (Flag b) z f e = e
-  target_same s p (Number y) z f e = e
-  target_same s p (Letter c) z f e = e
-  target_same s p (Text t) z f e = e
-  target_same s p (Prim i) z f e = e
-  target_same s p (Broken t) z f e = e
-  target_same s p (Ref m) z f e = e
+  target_same s p other z f e = e
 
   pub target_ref : (s : Vat Name) (p : Name) (x : Value Name) (n : Name) → target_of N s p x ≡ Ref n → x ≡ Ref n
   target_ref s p x n e = target_same s p x (Ref n) (λ t i. cc) e
@@ -293,12 +281,9 @@ module _ (word : ℕ → ℕ) (v : ℕ) (heed : Bool) (D : ℕ → Type 0) (Seen
 
   spot_none : (n : Name) → IsEventual n → N.spot n ≡ NoObject
   unfolding naming spot_of
-  spot_none (Root w) h = refl
-  spot_none (Promise w i) h = refl
-  spot_none (Answer w m) h = refl
-  spot_none (Gift w i) h = refl
   spot_none (Object w i) h = absurd h
   spot_none (Sent m) h = absurd h
+  spot_none other h = refl
 
   none_pick : (b : Bool) (t : List ℕ) (n : Name) → b ≡ false → ◌≡◌ {A = Value Name} (elim b [ true ↦ Broken t | false ↦ Ref n ]) (Ref n)
   none_pick true t n e = absurd (no_true (sym e))
@@ -327,8 +312,7 @@ module _ (word : ℕ → ℕ) (v : ℕ) (heed : Bool) (D : ℕ → Type 0) (Seen
   unfolding still_waits
   tested_or on s p x k (Settled z) c r e i unsettled by f = absurd (unsettled z refl)
   tested_or on s p x k (Viewed g) c r e i unsettled by f = let view : standing_of N s.known p ≡ Viewed g = standing_found N s.known p k e ∙ i in absurd ((by c (target_list s p x c f)).0 g view)
-  tested_or on s p x k (WaitsOn q) c r e i unsettled by f = inl (x, refl, ap still_waits (standing_found N s.known p k e ∙ i), self_followed on s p k r e (ap still_waits i))
-  tested_or on s p x k Unsettled c r e i unsettled by f = inl (x, refl, ap still_waits (standing_found N s.known p k e ∙ i), self_followed on s p k r e (ap still_waits i))
+  tested_or on s p x k other c r e i unsettled by f = inl (x, refl, ap still_waits (standing_found N s.known p k e ∙ i), self_followed on s p k r e (ap still_waits i))
 
   -- a list settles only where what was noticed is heeded
   abbrev pub ListIf : Value Name → Type 0

@@ -23,12 +23,7 @@ claims_end v x (k ∷ ks) n h = let rest = claims_end v x ks n h in omega arith
 -- what a change adds
 unfoldable pub added : ℕ → Name → Change Name → ℕ
 added v x (Hold m) = onward v x m.id
-added v x (Wait q) = 0
-added v x (WaitOn q) = 0
-added v x (See q) = 0
-added v x (React m) = 0
-added v x (ToTell w) = 0
-added v x (Settle y) = 0
+added v x other = 0
 
 abbrev at_known : ℕ → Name → Known Name → ℕ
 at_known v x k = one k.name x + onward_all v x k.held
@@ -36,19 +31,12 @@ at_known v x k = one k.name x + onward_all v x k.held
 to_adds : (v : ℕ) (x : Name) (c : Change Name) (k : Known Name) → at_known v x (changed_to c k) ≤ at_known v x k + added v x c
 unfolding changed_to added onward_all
 to_adds v x (Hold m) k = let more = onward_end v x k.held m in omega arith
-to_adds v x (Wait q) k = omega arith
-to_adds v x (WaitOn q) k = omega arith
-to_adds v x (See q) k = omega arith
-to_adds v x (React m) k = omega arith
-to_adds v x (ToTell w) k = omega arith
-to_adds v x (Settle y) k = omega arith
+to_adds v x other k = omega arith
 
 unless_adds : (v : ℕ) (x : Name) (t : Standing Name) (k new : Known Name) (c : ℕ) → at_known v x new ≤ at_known v x k + c → at_known v x (unless_settled t k new) ≤ at_known v x k + c
 unfolding unless_settled
 unless_adds v x (Settled y) k new c h = omega arith
-unless_adds v x Unsettled k new c h = h
-unless_adds v x (WaitsOn q) k new c h = h
-unless_adds v x (Viewed q) k new c h = h
+unless_adds v x other k new c h = h
 
 module _ {W : Type 0} (K : Naming Name W) (v : ℕ) where
   change_adds : (x : Name) (c : Change Name) (k : Known Name) (ks js : List (Known Name)) (b : Bool) → claims v x js ≤ claims v x ks + added v x c
@@ -65,16 +53,12 @@ module _ {W : Type 0} (K : Naming Name W) (v : ℕ) where
   -- what did not settle
   abbrev pub Waits : Standing Name → Type 0
   Waits (Settled y) = ⊥
-  Waits Unsettled = Unit {0}
-  Waits (WaitsOn q) = Unit {0}
-  Waits (Viewed q) = Unit {0}
+  Waits other = Unit {0}
 
   settled_frees : (x : Name) (y : Value Name) (k : Known Name) (t : Standing Name) → Waits t → at_known v x (unless_settled t k (changed_to (Settle y) k)) ≡ one k.name x
   unfolding unless_settled changed_to onward_all
   settled_frees x y k (Settled z) h = absurd h
-  settled_frees x y k Unsettled h = omega arith
-  settled_frees x y k (WaitsOn q) h = omega arith
-  settled_frees x y k (Viewed q) h = omega arith
+  settled_frees x y k other h = omega arith
 
   settle_frees : (x : Name) (y : Value Name) (k j : Known Name) (ks js : List (Known Name)) (o : Option (Known Name)) (b : Bool) → elim b [ true ↦ Some j | false ↦ o ] ≡ Some k → Waits k.standing
       → (o ≡ Some k → claims v x js + onward_all v x k.held ≡ claims v x ks)
@@ -116,11 +100,7 @@ next_where n k false = omega arith
 pub promise_next : (v : ℕ) (x : Name) (p m : ℕ) (d : List ℕ) → one (Promise v p) x + numbered v x p m d ≤ numbered v x (suc p) m d
 unfolding numbered one same_name once
 promise_next v (Promise a b) p m d = next_where b p (v == a)
-promise_next v (Root a) p m d = omega arith
-promise_next v (Object a b) p m d = omega arith
-promise_next v (Sent a) p m d = omega arith
-promise_next v (Answer a b) p m d = omega arith
-promise_next v (Gift a b) p m d = omega arith
+promise_next v other p m d = omega arith
 
 once_none : once false ≡ 0
 unfolding once
@@ -153,11 +133,7 @@ next_gift b k w d e new = new_word (k == b) (is_in (word_of b) d) (is_in (word_o
 pub gift_next : (v c k w : ℕ) (x : Name) (p m : ℕ) (d : List ℕ) → word_of k ≡ w → drawn_at zero w d ≡ None → one (Gift c k) x + numbered v x p m d ≤ numbered v x p m (d ++ w ∷ [])
 unfolding numbered one same_name
 gift_next v c k w (Gift a b) p m d e new = let one = within (c == a) (k == b) in let two = next_gift b k w d e new in omega arith
-gift_next v c k w (Promise a b) p m d e new = let none = once_none in omega arith
-gift_next v c k w (Root a) p m d e new = let none = once_none in omega arith
-gift_next v c k w (Object a b) p m d e new = let none = once_none in omega arith
-gift_next v c k w (Sent a) p m d e new = let none = once_none in omega arith
-gift_next v c k w (Answer a b) p m d e new = let none = once_none in omega arith
+gift_next v c k w other p m d e new = let none = once_none in omega arith
 
 -- One where x is an answer of the message with that number of vat v.
 unfoldable pub answers : ℕ → ℕ → Name → ℕ
@@ -167,17 +143,9 @@ answers v k _ = 0
 pub answer_next : (v : ℕ) (x : Name) (p k : ℕ) (d : List ℕ) → answers v k x + numbered v x p k d ≤ numbered v x p (suc k) d
 unfolding numbered answers
 answer_next v (Answer h a) p k d = next_where a.number k (v == a.sender)
-answer_next v (Promise a b) p k d = omega arith
-answer_next v (Root a) p k d = omega arith
-answer_next v (Object a b) p k d = omega arith
-answer_next v (Sent a) p k d = omega arith
-answer_next v (Gift a b) p k d = omega arith
+answer_next v other p k d = omega arith
 
 pub answer_at : (h v k : ℕ) (x : Name) → one (Answer h (record { sender = v; number = k })) x ≤ answers v k x
 unfolding one answers same_name
 answer_at h v k (Answer g a) = within (h == g) ((v == a.sender) && (k == a.number))
-answer_at h v k (Promise a b) = let none = once_none in omega arith
-answer_at h v k (Root a) = let none = once_none in omega arith
-answer_at h v k (Object a b) = let none = once_none in omega arith
-answer_at h v k (Sent a) = let none = once_none in omega arith
-answer_at h v k (Gift a b) = let none = once_none in omega arith
+answer_at h v k other = let none = once_none in omega arith

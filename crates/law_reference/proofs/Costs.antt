@@ -27,9 +27,7 @@ module _ (v : ℕ) (x : Name) where
   -- in a state of that vat
   pub after_here : {A : Type 0} (c : ℕ) (s : Vat Name) (r : Done Name A) → (s.number ≡ v → After (Knowing v x c) s r) → After (Knowing v x c) s r
   after_here c s (Gives a t) f = record { number = λ e. (f e).number e; kept = λ e. (f e).kept e }
-  after_here c s (Throws p t) f = record { number = λ e. (f e).number e; kept = λ e. (f e).kept e }
-  after_here c s (Ejects n y t) f = record { number = λ e. (f e).number e; kept = λ e. (f e).kept e }
-  after_here c s (Stops z t) f = record { number = λ e. (f e).number e; kept = λ e. (f e).kept e }
+  after_here c s other f = record { number = λ e. (f e).number e; kept = λ e. (f e).kept e }
 
   pub after_more : {A : Type 0} (c d : ℕ) (s : Vat Name) → c ≤ d → (r : Done Name A) → After (Knowing v x c) s r → After (Knowing v x d) s r
   after_more c d s i (Gives a t) h = knowing_more c d s t i h

@@ -55,9 +55,7 @@ module _ (word : ℕ → ℕ) (v : ℕ) (heed : Bool) (Seen : Name → Type 0) w
 
   pub ends_view : (D E : ℕ → Type 0) (s : Vat Name) (d : Done Name (Unit {0})) → ((t : Vat Name) → Under D t → Under E t) → At D s d → AtView D E d
   ends_view D E s (Gives a t) f h = f t h.1
-  ends_view D E s (Throws p t) f h = h.1
-  ends_view D E s (Ejects n x t) f h = h.1
-  ends_view D E s (Stops c t) f h = h.1
+  ends_view D E s other f h = h.1
 
   open_same : (D E : ℕ → Type 0) (i : ℕ) (n : Name) → (E i → D i) → IsObjectName n ⊎ (D i → ⊥) → IsObjectName n ⊎ (E i → ⊥)
   open_same D E i n back (inl o) = inl o
@@ -66,12 +64,7 @@ module _ (word : ℕ → ℕ) (v : ℕ) (heed : Bool) (Seen : Name → Type 0) w
   note_same : (D E : ℕ → Type 0) → ((i : ℕ) → E i → D i) → (ks : List (Known Name)) (n : Note Name) → NoteTells N D ks n → NoteTells N E ks n
   note_same D E back ks (Open i n) h = open_same D E i n (back i) h
   note_same D E back ks (SettledTo n (Many ys)) h = h
-  note_same D E back ks (SettledTo n (Plain y)) h = h
-  note_same D E back ks (SettledTo n (AGift g i)) h = h
-  note_same D E back ks (Elsewhere n c) h = h
-  note_same D E back ks (Deliver m n verb ys) h = h
-  note_same D E back ks (Ask p i n) h = h
-  note_same D E back ks (Shorten n c i) h = h
+  note_same D E back ks other h = h
 
   view_back : (D E : ℕ → Type 0) → ((i : ℕ) → E i → D i) → (n : Name) → IsView E n → IsView D n
   view_back D E back n w = view_into word v heed E Seen D back n w

@@ -57,14 +57,7 @@ module _ {N W : Type 0} (K : Naming N W) where
       where
         unknown : entry_of K ks n ≡ None → led K (λ z. follow_at K d ks z) n (standing_in (entry_of K ks n)) ≡ Ref m → still_waits (standing_in (entry_of K ks m)) ≡ true
         unknown e i = let j : ◌≡◌ {A = Value N} (Ref n) (Ref m) = rw e at i in let same : n ≡ m = same_ref n m j in rw (sym same, e) refl
-    final_ends (suc d) Null m f h = cc
-    final_ends (suc d) (Flag b) m f h = cc
-    final_ends (suc d) (Number z) m f h = cc
-    final_ends (suc d) (Letter c) m f h = cc
-    final_ends (suc d) (Text t) m f h = cc
-    final_ends (suc d) (Prim p) m f h = cc
-    final_ends (suc d) (Broken p) m f h = cc
-    final_ends (suc d) (Items k) m f h = cc
+    final_ends (suc d) other m f h = cc
 
     viewed_open : (n q : N) → standing_of K ks n ≡ Viewed q → IsOpen (standing_of K ks n)
     viewed_open n q i y j = let both : Viewed q ≡ Settled y = sym i ∙ j in cc
@@ -83,11 +76,4 @@ module _ {N W : Type 0} (K : Naming N W) where
     pub following_ends : SettledFinal ks → (x : Value N) (m : N) → follow_at K (suc (length ks)) ks x ≡ Ref m → still_waits (standing_of K ks m) ≡ true
     unfolding follow_at
     following_ends final (Ref n) m h = either_ends final n m (standing_of K ks n) refl h
-    following_ends final Null m h = cc
-    following_ends final (Flag b) m h = cc
-    following_ends final (Number z) m h = cc
-    following_ends final (Letter c) m h = cc
-    following_ends final (Text t) m h = cc
-    following_ends final (Prim p) m h = cc
-    following_ends final (Broken p) m h = cc
-    following_ends final (Items k) m h = cc
+    following_ends final other m h = cc

@@ -132,9 +132,7 @@ module _ {N W : Type 0} (K : Naming N W) where
 pub unless_either : {N : Type 0} (P : Known N → Type 0) (t : Standing N) (k new : Known N) → P k → P new → P (unless_settled t k new)
 unfolding unless_settled
 unless_either P (Settled y) k new h i = h
-unless_either P Unsettled k new h i = i
-unless_either P (WaitsOn q) k new h i = i
-unless_either P (Viewed q) k new h i = i
+unless_either P other k new h i = i
 
 -- a change that settles nothing and views nothing
 pub record Mild {N : Type 0} (c : Change N) : Type 0 where

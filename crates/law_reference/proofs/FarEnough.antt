@@ -68,8 +68,7 @@ module _ (K : Naming Name Name) (is : (a b : Name) → K.same a b ≡ true → a
     unfolding led next leading
     ways_at d n (Settled y) i f e = ways_value d n y i f e
     ways_at d n (Viewed q) i f e = let rest = f q e in (suc rest.0, on_name rest.0 n q (ap (λ t. next (leading t)) i) (λ h. list_view k q (sym i ∙ h)) rest.1)
-    ways_at d n (WaitsOn q) i f e = absurd (name_list n k e)
-    ways_at d n Unsettled i f e = absurd (name_list n k e)
+    ways_at d n other i f e = absurd (name_list n k e)
 
     ways : (d : ℕ) (n : Name) → follow_at K d ks (Ref n) ≡ Items k → (e : ℕ) × Way e n
     unfolding follow_at
@@ -80,21 +79,13 @@ module _ (K : Naming Name Name) (is : (a b : Name) → K.same a b ≡ true → a
     along_value : (d : ℕ) (q : Name) (y : Value Name) → next (leading (Settled y)) ≡ Some q → follow_at K d ks (Ref q) ≡ Items k → follow_at K d ks y ≡ Items k
     unfolding next leading
     along_value d q (Ref m) i e = let same : m ≡ q = cc in subst (λ x. follow_at K d ks (Ref x) ≡ Items k) (sym same) e
-    along_value d q (Items j) i e = cc
-    along_value d q Null i e = cc
-    along_value d q (Flag b) i e = cc
-    along_value d q (Number z) i e = cc
-    along_value d q (Letter c) i e = cc
-    along_value d q (Text t) i e = cc
-    along_value d q (Prim p) i e = cc
-    along_value d q (Broken t) i e = cc
+    along_value d q other i e = cc
 
     along_at : (d : ℕ) (n q : Name) (t : Standing Name) → next (leading t) ≡ Some q → follow_at K d ks (Ref q) ≡ Items k → led K (λ y. follow_at K d ks y) n t ≡ Items k
     unfolding led next leading
     along_at d n q (Settled y) i e = along_value d q y i e
     along_at d n q (Viewed r) i e = let same : r ≡ q = cc in subst (λ x. follow_at K d ks (Ref x) ≡ Items k) (sym same) e
-    along_at d n q (WaitsOn r) i e = cc
-    along_at d n q Unsettled i e = cc
+    along_at d n q other i e = cc
 
     hit : (d : ℕ) (n : Name) → Hits n → follow_at K (suc d) ks (Ref n) ≡ Items k
     unfolding follow_at led
@@ -147,21 +138,13 @@ module _ (K : Naming Name Name) (is : (a b : Name) → K.same a b ≡ true → a
   unfolding led
   led_both f g n (Settled y) h = h y
   led_both f g n (Viewed q) h = h (Ref q)
-  led_both f g n (WaitsOn q) h = refl
-  led_both f g n Unsettled h = refl
+  led_both f g n other h = refl
 
   same_stands : (ks ls : List (Known Name)) → ((m : Name) → standing_of K ls m ≡ standing_of K ks m) → (d : ℕ) (x : Value Name) → follow_at K d ls x ≡ follow_at K d ks x
   unfolding follow_at
   same_stands ks ls f zero x = refl
   same_stands ks ls f (suc d) (Ref n) = ap (λ t. led K (λ y. follow_at K d ls y) n t) (f n) ∙ led_both (λ y. follow_at K d ls y) (λ y. follow_at K d ks y) n (standing_of K ks n) (λ y. same_stands ks ls f d y)
-  same_stands ks ls f (suc d) Null = refl
-  same_stands ks ls f (suc d) (Flag b) = refl
-  same_stands ks ls f (suc d) (Number z) = refl
-  same_stands ks ls f (suc d) (Letter c) = refl
-  same_stands ks ls f (suc d) (Text t) = refl
-  same_stands ks ls f (suc d) (Prim p) = refl
-  same_stands ks ls f (suc d) (Broken t) = refl
-  same_stands ks ls f (suc d) (Items j) = refl
+  same_stands ks ls f (suc d) other = refl
 
   -- a state in which nothing else is followed to a list
   fewer_leads : (s t : Vat Name) → t.lists ≡ s.lists → ((v : Value Name) (k : ℕ) → follow K t v ≡ Items k → follow K s v ≡ Items k) → (a b : ℕ) → Leads K t (Items a) (Items b) → Leads K s (Items a) (Items b)

@@ -60,11 +60,7 @@ module _ (g : ℕ) (m : Msg) where
   answer_is : (h : ℕ) (id : Name) → IsMessageName id → X ≡ answer_of h id → (h ≡ g) × (id ≡ Sent m)
   unfolding answer_of
   answer_is h (Sent n) i e = let a : h ≡ g = cc in let b : n ≡ m = cc in (a, ap Sent b)
-  answer_is h (Root w) i e = absurd i
-  answer_is h (Object w j) i e = absurd i
-  answer_is h (Promise w j) i e = absurd i
-  answer_is h (Answer w n) i e = absurd i
-  answer_is h (Gift w j) i e = absurd i
+  answer_is h other i e = absurd i
 
   -- ---- the notes put are added to
 
@@ -115,9 +111,7 @@ module _ (g : ℕ) (m : Msg) where
   not_alone v abroad (Promise w i) h e = cc
   not_alone v abroad (Gift w i) h e = cc
   not_alone v abroad (Answer w n) h e = let a : g ≡ w = cc in abroad (a ∙ h)
-  not_alone v abroad (Root w) h e = absurd h
-  not_alone v abroad (Object w i) h e = absurd h
-  not_alone v abroad (Sent n) h e = absurd h
+  not_alone v abroad other h e = absurd h
 
   -- a name that is not the answer comes to be known
   pub other_held : (E : Type 0) (a : Name) → Avoids X (Named a) → (h : ℕ) (ks : List (Known Name)) (ps : List (Put Name)) → Held E ks ps → Held E (ks ++ begun a h ∷ []) ps
@@ -156,13 +150,7 @@ module _ (g : ℕ) (m : Msg) where
 
     avoids : (s : Vat Name) → (IsAmong X (names_in s.known) → ⊥) → (b : Bit Name) → T.ok s b → Avoids X b
     avoids s f (Named n) h = λ e. f (rw e at h.1)
-    avoids s f (Mail n) h = tt
-    avoids s f (Drew i) h = tt
-    avoids s f (At w) h = tt
-    avoids s f (Off w) h = tt
-    avoids s f (Entered y) h = tt
-    avoids s f (Owns y j) h = tt
-    avoids s f (Gave j) h = tt
+    avoids s f other h = tt
 
     clean_of : (s : Vat Name) → (IsAmong X (names_in s.known) → ⊥) → Sound T s → Cleans s
     clean_of s f h = let p = h.parts in (all_map (known_up (T.ok s) (Avoids X) (avoids s f)) s.known p.known, all_map (λ ys i. values_up (T.ok s) (Avoids X) (avoids s f) ys i) s.lists p.lists)
@@ -179,9 +167,8 @@ module _ (g : ℕ) (m : Msg) where
     -- the names known are the same, and where it is the message and asks for an answer it was put first
     abbrev OutAt : ℕ → Name → Bool → Vat Name → Done Name (Unit {0}) → Type 0
     OutAt h id asks s (Gives u t) = (names_in t.known ≡ names_in s.known) × (asks ≡ true → h ≡ g → id ≡ Sent m → PutsFirst t.outbox)
-    OutAt h id asks s (Throws p t) = ⊥
-    OutAt h id asks s (Ejects n y t) = ⊥
     OutAt h id asks s (Stops c t) = Unit {0}
+    OutAt h id asks s other = ⊥
 
     out_from : (s : Vat Name) (n : Message Name) (h : ℕ) (to : Name) (d : Done Name (Passeds Name)) → Spared s.outbox → Avoids X (Named to) → PassesAt word v X T under (PassedsOk (Avoids X)) s d
         → OutAt h n.id (is_some n.answer) s (and_then d (λ args. tell (Posted h n.id) >> send_out h (Deliver (refs.delivery_of Names n) to n.verb args)))
@@ -189,9 +176,8 @@ module _ (g : ℕ) (m : Msg) where
     out_from s n h to (Gives args t) o k p = let names = p.0.0 in let ps : List (Put Name) = p.0.1.0 in let grown : t.outbox ≡ s.outbox ++ ps = p.0.1.1 in let spared = p.0.1.2 in
         let all : Spared t.outbox = rw grown (all_append (λ (r : Put Name). NoteOk (Avoids X) r.note) s.outbox ps o spared) in
         (names, λ i e f. ahead_last (Bears m X) X g t.outbox (record { to = h; note = Deliver (refs.delivery_of Names n) to n.verb args }) all (e, (f, i, (tt, k, p.2))))
-    out_from s n h to (Throws z t) o k p = absurd p
-    out_from s n h to (Ejects i y t) o k p = absurd p
     out_from s n h to (Stops c t) o k p = tt
+    out_from s n h to other o k p = absurd p
 
     goes_out : (s : Vat Name) (n : Message Name) (h : ℕ) (to : Name) → Cleans s → Spared s.outbox → Avoids X (Named to) → ValuesOk (Avoids X) n.args → OutAt h n.id (is_some n.answer) s (refs.deliver Names n h to s)
     unfolding refs.deliver ◌>>=◌
@@ -211,41 +197,35 @@ module _ (g : ℕ) (m : Msg) where
     waits_after s s1 h id p (Gives u t) f i names o = let a = answer_of h id in
         found_held s (record t { known = with_change Names (Wait p) a (with_change Names (WaitOn a) p t.known) }) h id f i
         (names_change Names (Wait p) a (with_change Names (WaitOn a) p t.known) ∙ names_change Names (WaitOn a) p t.known ∙ o.0 ∙ names) (o.1 refl)
-    waits_after s s1 h id p (Throws z t) f i names o = absurd o
-    waits_after s s1 h id p (Ejects j y t) f i names o = absurd o
     waits_after s s1 h id p (Stops c t) f i names o = tt
+    waits_after s s1 h id p other f i names o = absurd o
 
     gives_after : (s s1 : Vat Name) (h : ℕ) (id : Name) (y : Value Name) (d : Done Name (Unit {0})) → (IsAmong X (names_in s.known) → ⊥) → IsMessageName id → names_in s1.known ≡ names_in s.known ++ answer_of h id ∷ [] → OutAt h id true s1 d
         → Leaves (and_then d (λ u. give y))
     unfolding and_then give
     gives_after s s1 h id y (Gives u t) f i names o = found_held s t h id f i (o.0 ∙ names) (o.1 refl)
-    gives_after s s1 h id y (Throws z t) f i names o = absurd o
-    gives_after s s1 h id y (Ejects j w t) f i names o = absurd o
     gives_after s s1 h id y (Stops c t) f i names o = tt
+    gives_after s s1 h id y other f i names o = absurd o
 
     -- where the answer is known already, the notes put are added to
     grown : {A : Type 0} (s : Vat Name) (d : Done Name A) → E ⊎ PutsFirst s.outbox → After More s d → Leaves d
     grown s (Gives a t) (inl e) r = λ k. inl e
-    grown s (Gives a t) (inr h) r = λ k. inr (r h)
     grown s (Throws p t) (inl e) r = λ k. inl e
-    grown s (Throws p t) (inr h) r = λ k. inr (r h)
     grown s (Ejects n y t) (inl e) r = λ k. inl e
-    grown s (Ejects n y t) (inr h) r = λ k. inr (r h)
     grown s (Stops c t) o r = tt
+    grown s other (inr h) r = λ k. inr (r h)
 
     -- a message without an answer makes no name known
     lone_out : {A : Type 0} (s s1 : Vat Name) (h : ℕ) (id : Name) (asks : Bool) (d : Done Name (Unit {0})) (y : A) → (IsAmong X (names_in s.known) → ⊥) → names_in s1.known ≡ names_in s.known → OutAt h id asks s1 d → Leaves (and_then d (λ u. give y))
     unfolding and_then give
     lone_out s s1 h id asks (Gives u t) y f e o = λ k. absurd (f (rw (o.0 ∙ e) at k))
-    lone_out s s1 h id asks (Throws z t) y f e o = absurd o
-    lone_out s s1 h id asks (Ejects j w t) y f e o = absurd o
     lone_out s s1 h id asks (Stops c t) y f e o = tt
+    lone_out s s1 h id asks other y f e o = absurd o
 
     out_leaves : (s : Vat Name) (h : ℕ) (id : Name) (asks : Bool) (d : Done Name (Unit {0})) → (IsAmong X (names_in s.known) → ⊥) → OutAt h id asks s d → Leaves d
     out_leaves s h id asks (Gives u t) f o = λ k. absurd (f (rw o.0 at k))
-    out_leaves s h id asks (Throws z t) f o = absurd o
-    out_leaves s h id asks (Ejects j w t) f o = absurd o
     out_leaves s h id asks (Stops c t) f o = tt
+    out_leaves s h id asks other f o = absurd o
 
     passed_by : (s : Vat Name) (n : Message Name) (h : ℕ) (to : Name) (o : Option Name) → (IsAmong X (names_in s.known) → ⊥) → Sound T s → MessageOk (T.ok s) n → T.ok s (Named to)
         → Leaves (for_some o (λ p. come Names (IsAnswer h n.id) h >>= (λ a. refs.deliver Names (record n { answer = Some a }) h to >> refs.wait_on Names p a)) (refs.deliver Names n h to) s)
@@ -299,9 +279,8 @@ module _ (g : ℕ) (m : Msg) where
 
     informed_at : {A : Type 0} (s : Vat Name) (d : Done Name A) → (IsAmong X (names_in s.known) → ⊥) → PassesAt word v X T under (λ a. Unit {0}) s d → Leaves d
     informed_at s (Gives a t) f p = λ k. absurd (f (rw p.0.0 at k))
-    informed_at s (Throws z t) f p = absurd p
-    informed_at s (Ejects n y t) f p = absurd p
     informed_at s (Stops c t) f p = tt
+    informed_at s other f p = absurd p
 
     -- ---- all of it
 

@@ -61,13 +61,7 @@ known_grows s t f (Sent n) h = f (Sent n) h
 
 pub knows_up : (s t : Vat Name) → ((n : Name) → IsAmong n (names_in s.known) → IsAmong n (names_in t.known)) → (b : Bit Name) → KnowsIn s b → KnowsIn t b
 knows_up s t f (Named n) h = known_grows s t f n h
-knows_up s t f (Mail n) h = tt
-knows_up s t f (Drew i) h = tt
-knows_up s t f (At w) h = tt
-knows_up s t f (Off w) h = tt
-knows_up s t f (Entered y) h = tt
-knows_up s t f (Owns y j) h = tt
-knows_up s t f (Gave j) h = tt
+knows_up s t f other h = tt
 
 some_same : (s t : Vat Name) → ◌≡◌ {A = Option (Vat Name)} (Some s) (Some t) → s ≡ t
 some_same s t e = cc

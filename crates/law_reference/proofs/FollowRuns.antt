@@ -138,13 +138,7 @@ module _ (script : Script) where
 
   had_knows : (y : World) (v : ℕ) (t : Vat Name) (b : Bit Name) → Had script y v t b → KnowsIn t b
   had_knows y v t (Named n) h = h.1
-  had_knows y v t (Mail n) h = tt
-  had_knows y v t (Drew i) h = tt
-  had_knows y v t (At u) h = tt
-  had_knows y v t (Off u) h = tt
-  had_knows y v t (Entered n) h = tt
-  had_knows y v t (Owns n j) h = tt
-  had_knows y v t (Gave j) h = tt
+  had_knows y v t other h = tt
 
   pub outs_known : (y : World) (v : ℕ) (t : Vat Name) → Stands script y → slice_get y.vats v ≡ Some t → AllOf (λ (p : Put Name). NoteOk (KnowsIn t) p.note) t.outbox
   outs_known y v t h e = let at = h.vats v t e in let parts = at.parts in all_map (λ p k. note_up (Had script y v t) (KnowsIn t) (had_knows y v t) p.note k.0) t.outbox parts.outbox
@@ -168,11 +162,7 @@ module _ (script : Script) where
 
   bearer_known : (w : World) (a v : ℕ) (s t : Vat Name) (n : Note Name) (m : Msg) → s.number ≡ v → Does script w v s s t (Receives a (read_note (names_of s) n)) → Bears m (Answer v m) n → IsAmong (Answer v m) (names_in t.known)
   bearer_known w a v s t (Deliver r x verb ys) m e d b = delivered w a v s t x verb ys m r.answer e (subst (λ z. does (names script v) (Receives a (read_note (names_of s) (Deliver z x verb ys))) (readied w s) ≡ Gives tt t) (is_delivery r m b.0 b.1) d.gives)
-  bearer_known w a v s t (Open i x) m e d b = absurd b
-  bearer_known w a v s t (Ask p i x) m e d b = absurd b
-  bearer_known w a v s t (SettledTo x y) m e d b = absurd b
-  bearer_known w a v s t (Elsewhere x c) m e d b = absurd b
-  bearer_known w a v s t (Shorten x c i) m e d b = absurd b
+  bearer_known w a v s t other m e d b = absurd b
 
   -- the note that arrives does not name the answer, or its host knows it
   arrives_first : (w : World) (a v : ℕ) (s t : Vat Name) (n : Note Name) (ns : List (Note Name)) (l : Link) → Past w → NotesKnown w.vats w.links → link_at a v w.links ≡ Some l → l.notes ≡ n ∷ ns

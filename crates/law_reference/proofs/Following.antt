@@ -17,14 +17,7 @@ broken_list t k e = cc
 -- no name
 abbrev pub IsPlain : Value Name → Type 0
 IsPlain (Ref n) = ⊥
-IsPlain Null = Unit {0}
-IsPlain (Flag b) = Unit {0}
-IsPlain (Number z) = Unit {0}
-IsPlain (Letter c) = Unit {0}
-IsPlain (Text t) = Unit {0}
-IsPlain (Prim n) = Unit {0}
-IsPlain (Broken p) = Unit {0}
-IsPlain (Items k) = Unit {0}
+IsPlain other = Unit {0}
 
 length_either : (b : Bool) (j k : Known Name) (ks js : List (Known Name)) → length js ≡ length ks → length {A = Known Name} (elim b [ true ↦ j ∷ ks | false ↦ k ∷ js ]) ≡ suc (length ks)
 length_either true j k ks js e = refl
@@ -35,9 +28,7 @@ length_either false j k ks js e = ap suc e
 unless_new : (t : Standing Name) (k new : Known Name) → still_waits t ≡ true → unless_settled t k new ≡ new
 unfolding unless_settled still_waits
 unless_new (Settled y) k new e = absurd (no_true e)
-unless_new Unsettled k new e = refl
-unless_new (WaitsOn q) k new e = refl
-unless_new (Viewed q) k new e = refl
+unless_new other k new e = refl
 
 -- a name that waits settles
 pub settled_new : (y : Value Name) (k : Known Name) → still_waits k.standing ≡ true → (changed (Settle y) k).standing ≡ Settled y
@@ -47,9 +38,7 @@ settled_new y k w = ap (λ (x : Known Name). x.standing) (unless_new k.standing 
 unless_or : (t : Standing Name) (k new : Known Name) → (unless_settled t k new ≡ k) ⊎ (unless_settled t k new ≡ new)
 unfolding unless_settled
 unless_or (Settled y) k new = inl refl
-unless_or Unsettled k new = inr refl
-unless_or (WaitsOn q) k new = inr refl
-unless_or (Viewed q) k new = inr refl
+unless_or other k new = inr refl
 
 -- another change leaves how it stands, or makes that of it
 pub stands_or : (c : Change Name) (k : Known Name) (new : Standing Name) → ((changed_to c k).standing ≡ new) → ((changed c k).standing ≡ k.standing) ⊎ ((changed c k).standing ≡ new)
@@ -80,21 +69,13 @@ module _ (K : Naming Name Name) where
   unfolding follow_at
   plain_stays zero ks x h = refl
   plain_stays (suc d) ks (Ref n) h = absurd h
-  plain_stays (suc d) ks Null h = refl
-  plain_stays (suc d) ks (Flag b) h = refl
-  plain_stays (suc d) ks (Number z) h = refl
-  plain_stays (suc d) ks (Letter c) h = refl
-  plain_stays (suc d) ks (Text t) h = refl
-  plain_stays (suc d) ks (Prim p) h = refl
-  plain_stays (suc d) ks (Broken p) h = refl
-  plain_stays (suc d) ks (Items k) h = refl
+  plain_stays (suc d) ks other h = refl
 
   waits_led : (f : Value Name → Value Name) (n : Name) (t : Standing Name) → still_waits t ≡ true → led K f n t ≡ Ref n
   unfolding led still_waits
-  waits_led f n (Settled y) e = absurd (no_true e)
-  waits_led f n (Viewed q) e = absurd (no_true e)
   waits_led f n (WaitsOn q) e = refl
   waits_led f n Unsettled e = refl
+  waits_led f n other e = absurd (no_true e)
 
   -- a name that waits is followed to itself
   pub waits_stays : (d : ℕ) (ks : List (Known Name)) (n : Name) → still_waits (standing_of K ks n) ≡ true → follow_at K d ks (Ref n) ≡ Ref n
@@ -122,8 +103,7 @@ module _ (K : Naming Name Name) where
     unfolding led
     on_led d k n (Settled y) f e = f y e
     on_led d k n (Viewed q) f e = f (Ref q) e
-    on_led d k n (WaitsOn q) f e = absurd (name_list n k e)
-    on_led d k n Unsettled f e = absurd (name_list n k e)
+    on_led d k n other f e = absurd (name_list n k e)
 
     at_name : (d k : ℕ) (n : Name) → LeadsOn → WaitedIf → ((z : Value Name) → follow_at K d ls z ≡ Items k → OrBy d z k) → (standing_of K ls n ≡ standing_of K ks n) ⊎ ((n ≡ p) × (standing_of K ls n ≡ new)) → follow_at K (suc d) ls (Ref n) ≡ Items k → OrBy (suc d) (Ref n) k
     unfolding follow_at
@@ -137,14 +117,7 @@ module _ (K : Naming Name Name) where
     unfolding follow_at
     follows_or on waited zero v k e = inl e
     follows_or on waited (suc d) (Ref n) k e = at_name d k n on waited (λ z i. follows_or on waited d z k i) (moves n) e
-    follows_or on waited (suc d) Null k e = inl e
-    follows_or on waited (suc d) (Flag b) k e = inl e
-    follows_or on waited (suc d) (Number z) k e = inl e
-    follows_or on waited (suc d) (Letter c) k e = inl e
-    follows_or on waited (suc d) (Text t) k e = inl e
-    follows_or on waited (suc d) (Prim n) k e = inl e
-    follows_or on waited (suc d) (Broken t) k e = inl e
-    follows_or on waited (suc d) (Items j) k e = inl e
+    follows_or on waited (suc d) other k e = inl e
 
     -- ---- to what it leads on
 
@@ -197,14 +170,7 @@ module _ (K : Naming Name Name) where
   pub severed_list : (s : Vat Name) (x : Value Name) (k : ℕ) → severed K s x ≡ Items k → x ≡ Items k
   unfolding severed
   severed_list s (Ref n) k e = absurd (severed_name s n (K.spot n) k e)
-  severed_list s Null k e = e
-  severed_list s (Flag b) k e = e
-  severed_list s (Number z) k e = e
-  severed_list s (Letter c) k e = e
-  severed_list s (Text t) k e = e
-  severed_list s (Prim n) k e = e
-  severed_list s (Broken t) k e = e
-  severed_list s (Items j) k e = e
+  severed_list s other k e = e
 
   pub list_severed : (s : Vat Name) (k : ℕ) → severed K s (Items k) ≡ Items k
   unfolding severed

@@ -30,7 +30,7 @@ use Rattle.law_name.proofs.Facts.{PlaceOk, Fact, Also, IsVat, IsValue, AreValues
 use Rattle.law_name.proofs.Care.{Care, Under, Makes, Sound, Ends, Gets, Fine, rise, fine_bind, fine_give, then_unit, fine_tell, fine_new_message, fine_promise, fine_lone_message}
 use Rattle.law_name.proofs.CareRefs.{fine_settle, fine_resolve, fine_send, fine_react, fine_send_first, fine_send_only}
 use Rattle.law_name.proofs.Looks.{follow_ok, place_ok}
-use Rattle.law_name.proofs.Serves.{Serves}
+use Rattle.law_name.proofs.Serves.{Serves, Closing}
 use Rattle.law_name.proofs.Tracked.{Marked, tracked, tracked_under, tracked_makes}
 use Rattle.law_reference.proofs.CareMore.{Leaves, KeptQuiet, More, lift_of}
 use Rattle.law_reference.proofs.Follow.{eq_dec}
@@ -138,9 +138,8 @@ module _ (v : ℕ) (m : Msg) (mine : m.sender ≡ v) where
     none_made : {A : Type 0} (G : A → Fact Name) (s : Vat Name) (d : Done Name A) → Ends F G s d → LightAt v Id 0 s d → After (Knowing v X 0) s d → After (Accounted (λ u. false) v Id 0) s d → Kept s → Leaves Kept d
     none_made G s (Gives a t) f l k c o = let r = f.0 in let e : s.messages ≡ t.messages = r.messages in let w = o.0 in
         (l.sound, one_on 0 s t w.same (same_sames s t (ap (λ n. nat_le (suc m.number) n) e)) (λ i. rw e i) (λ i. rw e i) l k c o.1)
-    none_made G s (Throws p t) f l k c o = absurd l
-    none_made G s (Ejects n y t) f l k c o = absurd l
     none_made G s (Stops r t) f l k c o = tt
+    none_made G s other f l k c o = absurd l
 
     -- ---- a new promise
 
@@ -183,9 +182,8 @@ module _ (v : ℕ) (m : Msg) (mine : m.sender ≡ v) where
             at_most : (m.number < t.messages) ⊎ (t.messages ≤ m.number) → t.messages ≤ m.number
             at_most (inl i) = let g = e a t refl in absurd (f (omega arith))
             at_most (inr i) = i
-    other_made c s (Throws p t) f o l k r e = absurd l
-    other_made c s (Ejects n y t) f o l k r e = absurd l
     other_made c s (Stops z t) f o l k r e = tt
+    other_made c s other f o l k r e = absurd l
 
     made_facts : (ev : Name × Name → Happened Name) (h : ℕ) → Fine T (IsVat h) (new_message Names h >>= (λ new. tell (ev new) >> give new)) new_names
     made_facts ev h = fine_bind T new_names (fine_new_message Names T under makes h (record { at = λ s c. c })) (λ new. then_unit T (fine_tell Names T under (ev new)) (fine_give T new (record { at = λ s c. c.1 })))
@@ -215,18 +213,16 @@ module _ (v : ℕ) (m : Msg) (mine : m.sender ≡ v) where
       unfolding and_then give
       goes_away c y (Gives u t) none f l k = let w = o.0 in let r = f.0 in let g : S2.messages ≡ t.messages = r.messages in let same = same_sames S2 t (ap (λ n. nat_le (suc m.number) n) g) in let i = k.kept w.same in let j = same.1 in
           (l.sound, ((λ x. inr (omega arith)), (λ x. absurd (omega arith))))
-      goes_away c y (Throws p t) none f l k = absurd l
-      goes_away c y (Ejects n z t) none f l k = absurd l
       goes_away c y (Stops z t) none f l k = tt
+      goes_away c y other none f l k = absurd l
 
       -- it stays: it weighs one at most
       stays_here : (c : ℕ) (b : ℕ) (y : Value Name) (d : Done Name (Unit {0})) → c ≤ 1 → Ends F nothing S2 d → LightAt v Id c S2 d → After (Accounted (λ u. false) v Id b) S2 d → Leaves Kept (and_then d (λ u. give y))
       unfolding and_then give
       stays_here c b y (Gives u t) i f l a = let r = f.0 in let g : S2.messages ≡ t.messages = r.messages in let same = same_sames S2 t (ap (λ n. nat_le (suc m.number) n) g) in let j = same.0 in let k = l.kept in let n = a.fresh in let x = empty.0 in
           (l.sound, ((λ z. inl (omega arith)), (λ z. absurd (omega arith))))
-      stays_here c b y (Throws p t) i f l a = absurd l
-      stays_here c b y (Ejects n z t) i f l a = absurd l
       stays_here c b y (Stops z t) i f l a = tt
+      stays_here c b y other i f l a = absurd l
 
     pass_all_free : (w : ℕ) (ys : List (Value Name)) → Keeps (Knowing v X 0) (refs.pass_all Names w ys)
     unfolding refs.pass_all
@@ -265,9 +261,7 @@ module _ (v : ℕ) (m : Msg) (mine : m.sender ≡ v) where
       messages_after : (ks : List (Known Name)) (l : Happened Name) (y : Value Name) (d : Done Name (Unit {0})) → Ends F nothing (After_ s ks l) d → (a : Value Name) (t : Vat Name) → and_then d (λ u. give y) ≡ Gives a t → t.messages ≡ suc s.messages
       unfolding and_then give
       messages_after ks l y (Gives u r) f a t e = let k = f.0 in let g : suc s.messages ≡ r.messages = k.messages in sym (ap (λ z. z.messages) (gives_same y a r t e)) ∙ sym g
-      messages_after ks l y (Throws w r) f a t e = cc
-      messages_after ks l y (Ejects n z r) f a t e = cc
-      messages_after ks l y (Stops c r) f a t e = cc
+      messages_after ks l y other f a t e = cc
 
       first_ends : (p : Place Name) → Sound T s → T.ok s (At (refs.answer_host Names s.number p)) → ValueOk (T.ok s) At_ → PlaceOk (T.ok s) p → ValuesOk (T.ok s) args → Ends F nothing (With s (refs.answer_host Names s.number p) (LineAt (refs.answer_host Names s.number p))) (First p)
       unfolding ◌>>=◌ ◌>>◌ and_then new_message tell give naming mail_of name_of
@@ -283,10 +277,9 @@ module _ (v : ℕ) (m : Msg) (mine : m.sender ≡ v) where
 
       rides : (p : Place Name) → (w : ℕ) → w ≤ 1 → (Away_not : (h : ℕ) (n : Name) (o : Bool) → p ≡ Away h n o → ⊥) → ride p w ≤ 1
       unfolding ride
-      rides Near w i f = omega arith
       rides (Mine n) w i f = i
       rides (Away h n o) w i f = absurd (f h n o refl)
-      rides (Gone r) w i f = omega arith
+      rides other w i f = omega arith
 
       flip : (h : ℕ) → (v == h) ≡ false → (h == v) ≡ false
       flip h e = either (h == v) refl
@@ -323,9 +316,7 @@ module _ (v : ℕ) (m : Msg) (mine : m.sender ≡ v) where
         where
           host_ok : (p : Place Name) → PlaceOk (T.ok s) p → T.ok s (At (refs.answer_host Names s.number p))
           host_ok (Away w n o) g = T.near s w g.1
-          host_ok Near g = T.here s h.more
-          host_ok (Mine n) g = T.here s h.more
-          host_ok (Gone r) g = T.here s h.more
+          host_ok other g = T.here s h.more
 
       -- by where it goes, where it is the message
       sent_by : (p : Place Name) → refs.place Names s At_ ≡ p → Kept s → m.number ≡ s.messages → Ends F nothing (With s (refs.answer_host Names s.number p) (LineAt (refs.answer_host Names s.number p))) (First p) → (y : Value Name) → Leaves Kept (and_then (First p) (λ u. give y))
@@ -409,24 +400,18 @@ module _ (v : ℕ) (m : Msg) (mine : m.sender ≡ v) where
     unfolding refs.react_at
     react_light n (Mine z) = light_react v Id Names global n z
     react_light n (Away h z false) = light_react v Id Names global n z
-    react_light n (Away h z true) = light_enqueue v Id n
-    react_light n Near = light_enqueue v Id n
-    react_light n (Gone r) = light_enqueue v Id n
+    react_light n other = light_enqueue v Id n
 
     -- nothing is sent, and no message is made
     abbrev Quiet : Vat Name → Done Name (Unit {0}) → Type 0
     Quiet s (Gives u t) = (t.messages ≡ s.messages) × (t.happened ≡ s.happened)
-    Quiet s (Throws p t) = Unit {0}
-    Quiet s (Ejects n y t) = Unit {0}
-    Quiet s (Stops c t) = Unit {0}
+    Quiet s other = Unit {0}
 
     react_quiet : (n : Message Name) (p : Place Name) (s : Vat Name) → Quiet s (refs.react_at Names n p s)
     unfolding refs.react_at alter enqueue
     react_quiet n (Mine z) s = (refl, refl)
     react_quiet n (Away h z false) s = (refl, refl)
-    react_quiet n (Away h z true) s = (refl, refl)
-    react_quiet n Near s = (refl, refl)
-    react_quiet n (Gone r) s = (refl, refl)
+    react_quiet n other s = (refl, refl)
 
     module _ (act : ℕ) (x o near : Value Name) (s : Vat Name) where
       abbrev It : Message Name
@@ -438,17 +423,14 @@ module _ (v : ℕ) (m : Msg) (mine : m.sender ≡ v) where
       quiet_after : (y : Value Name) (d : Done Name (Unit {0})) → Quiet S3 d → (a : Value Name) (t : Vat Name) → and_then d (λ u. give y) ≡ Gives a t → t.messages ≡ suc s.messages
       unfolding and_then give
       quiet_after y (Gives u r) f a t e = sym (ap (λ z. z.messages) (gives_same y a r t e)) ∙ f.0
-      quiet_after y (Throws w r) f a t e = cc
-      quiet_after y (Ejects n z r) f a t e = cc
-      quiet_after y (Stops c r) f a t e = cc
+      quiet_after y other f a t e = cc
 
       reacted_new : Kept s → m.number ≡ s.messages → (y : Value Name) (d : Done Name (Unit {0})) → Quiet S3 d → LightAt v Id 0 S3 d → Leaves Kept (and_then d (λ u. give y))
       unfolding and_then give
       reacted_new k new y (Gives u t) f l = let i = l.kept in let none = empty s (Ks s s.number) (Reacts act x o It) (held_with s s.number) k new in let less = none.0 in let same : sent_in Id t.happened ≡ sent_in Id S3.happened = ap (λ es. sent_in Id es) f.1 in let g : t.messages ≡ suc s.messages = f.0 in
           (l.sound, ((λ j. inl (omega arith)), (λ j. absurd (omega arith))))
-      reacted_new k new y (Throws p t) f l = absurd l
-      reacted_new k new y (Ejects n z t) f l = absurd l
       reacted_new k new y (Stops c t) f l = tt
+      reacted_new k new y other f l = absurd l
 
       weighed_three : Weighed v s → Weighed v S3
       unfolding answer_of host_of
@@ -462,15 +444,21 @@ module _ (v : ℕ) (m : Msg) (mine : m.sender ≡ v) where
 
     -- ---- what evaluation does with references
 
+    pub closes : (p : Name) → Closing Names Z p
+    closes p = record {
+      breaks = λ C g t. lift_of T Kept quiet (fine_settle Names T under p (record { at = λ s c. g.at s c }) (Broken t) (record { at = λ s c. tt }))
+          (λ s h c k. none_made nothing s _ ((fine_settle Names F under_none {C = C} p (record { at = λ s c. g.at s c }) (Broken t) (record { at = λ s c. tt })).after s (none_sound s h) c) ((light_break Names v global Id p t).after s k.0) ((table.free_settle v X word p (Broken t)).after s) ((account.free_settle (λ u. false) v Id Names p (Broken t)).after s) k);
+      closes = λ C g y i. lift_of T Kept quiet (fine_resolve Names T under p (record { at = λ s c. g.at s c }) y (gets_names i))
+          (λ s h c k. none_made nothing s _ ((fine_resolve Names F under_none {C = C} p (record { at = λ s c. g.at s c }) y (gets_none i)).after s (none_sound s h) c) ((light_resolve Names v global Id p y).after s k.0) ((table.free_resolve v X word p y).after s) ((account.free_resolve (λ u. false) v Id Names p y).after s) k);
+    }
+
     pub serves : Serves Names Z
     serves = record {
       spots = record { alike = λ a b e. let spots = under.spots in spots.alike a b e; placed = λ s k n i. let spots = under.spots in spots.placed s k.0 n i };
       object = λ s i l. under.object s i l;
       promises = λ C. lift_of T Kept quiet (fine_promise Names T under makes) (λ s h c k. promised s k);
-      breaks = λ C p g t. lift_of T Kept quiet (fine_settle Names T under p (record { at = λ s c. g.at s c }) (Broken t) (record { at = λ s c. tt }))
-          (λ s h c k. none_made nothing s _ ((fine_settle Names F under_none {C = C} p (record { at = λ s c. g.at s c }) (Broken t) (record { at = λ s c. tt })).after s (none_sound s h) c) ((light_break Names v global Id p t).after s k.0) ((table.free_settle v X word p (Broken t)).after s) ((account.free_settle (λ u. false) v Id Names p (Broken t)).after s) k);
-      resolves = λ C p g y i. lift_of T Kept quiet (fine_resolve Names T under p (record { at = λ s c. g.at s c }) y (gets_names i))
-          (λ s h c k. none_made nothing s _ ((fine_resolve Names F under_none {C = C} p (record { at = λ s c. g.at s c }) y (gets_none i)).after s (none_sound s h) c) ((light_resolve Names v global Id p y).after s k.0) ((table.free_resolve v X word p y).after s) ((account.free_resolve (λ u. false) v Id Names p y).after s) k);
+      smashes = λ C p g t s h c e. let closing = closes p in (closing.breaks C g t).after s h c;
+      resolves = λ C p g y i s h c e. let closing = closes p in (closing.closes C g y i).after s h c;
       sends = λ C act x g verb args i. lift_of T Kept quiet (fine_send Names T under makes act x (gets_names g) verb args (gets_names i)) (λ s h c k. sent_kept act x verb args s h (g.at s c) (i.at s c) k);
       sends_only = λ C act x g verb args i. lift_of T Kept quiet (fine_send_only Names T under makes act x (gets_names g) verb args (gets_names i)) (λ s h c k. lone_kept act x verb args s h (g.at s c) (i.at s c) k);
       reacts = λ C act x g o i near j. lift_of T Kept quiet (fine_react Names T under makes act x (gets_names g) o (gets_names i) near (gets_names j)) (λ s h c k. reacted_either act x o near s k (eq_dec m.number s.messages));

@@ -1,5 +1,5 @@
 -- In each turn of a run, a message that is made in it and goes to a promise of another vat has no answer at its sender.
-use Rattle.std.proofs.Common.{◌≡◌, ℕ, ◌≤◌, ◌<◌, List, ◌∷◌, Some, ◌⊎◌, arith}
+use Rattle.std.proofs.Common.{◌≡◌, ℕ, ◌≤◌, ◌<◌, List, ◌∷◌, ◌++◌, Some, ◌⊎◌, arith}
 use Rattle.std.specs.Prelude.{slice_get}
 use Rattle.def_machine.specs.Values.{Name, Root, Answer, Sent, Msg}
 use Rattle.def_machine.specs.State.{Message, Vat, Done}
@@ -10,10 +10,11 @@ use Rattle.def_run.specs.World.{Script, Program, World, names, readied}
 use Rattle.law_fate.specs.Carry.{held_at, put_weight, load}
 use Rattle.law_fate.proofs.WorldLight.{VatSound}
 use Rattle.law_reference.specs.Knowing.{claims}
+use Rattle.law_name.proofs.Serves.{closing_some}
 use Rattle.law_name.proofs.Run.{inside, low_at, Stands}
 use Rattle.law_reference.proofs.Gentle.{AfterGives, gives_map}
 use Rattle.law_reference.proofs.CareMore.{KeptQuiet}
-use Rattle.law_reference.proofs.Fresh.{Kept, quiet, serves}
+use Rattle.law_reference.proofs.Fresh.{Kept, quiet, serves, closes}
 use Rattle.law_reference.proofs.StepsMore.{turn_keeps, opening_keeps}
 
 -- where the message was made it weighs one at most, or its answer here is not known
@@ -39,15 +40,17 @@ module _ (script : Script) (m : Msg) (v : ℕ) (mine : m.sender ≡ v) where
     abbrev keeps_quiet : KeptQuiet Keeps
     keeps_quiet = quiet v m mine (inside script) w.vats s there (low_at script w h v s there) word
 
-    starts : (ms : List (Message Name)) → Keeps (readied w (record s { queue = ms }))
+    starts : (fs ms : List (Message Name)) → s.queue ≡ fs ++ ms → Keeps (readied w (record s { queue = ms }))
     unfolding readied load put_weight
-    starts ms = (sound, ((λ i. absurd (omega arith)), (λ i. (omega arith, free))))
+    starts fs ms e = (sound, ((λ i. absurd (omega arith)), (λ i. (omega arith, free))))
 
     one_leg : (d : Done Name (Unit {0})) → AfterGives Keeps d → AfterGives (OneLeg v m) d
     one_leg d h = gives_map Keeps (OneLeg v m) d (λ t k. let one = k.1 in one.0) h
 
     pub turn_fresh : (n : Message Name) (ms : List (Message Name)) → s.queue ≡ n ∷ ms → AfterGives (OneLeg v m) (taking (names script v) (world.tree_at script.vats v) script.depth n (readied w (record s { queue = ms })))
-    turn_fresh n ms e = one_leg _ (turn_keeps script w v s there h Keeps keeps_quiet starts (serves v m mine (inside script) w.vats s there (low_at script w h v s there) word) n ms e)
+    turn_fresh n ms e = one_leg _ (turn_keeps script w v s there h Keeps keeps_quiet starts (serves v m mine (inside script) w.vats s there (low_at script w h v s there) word) n ms e
+        (closing_some _ _ (closes v m mine (inside script) w.vats s there (low_at script w h v s there) word) n.answer))
 
     pub opening_fresh : (p : Program) → slice_get script.vats v ≡ Some p → AfterGives (OneLeg v m) (opening (names script v) p.tree script.depth (Root v) (world.given script.vats p.knows) (readied w s))
-    opening_fresh p t = one_leg _ (opening_keeps script w v s there h Keeps keeps_quiet starts (serves v m mine (inside script) w.vats s there (low_at script w h v s there) word) p t)
+    opening_fresh p t = one_leg _ (opening_keeps script w v s there h Keeps keeps_quiet starts (serves v m mine (inside script) w.vats s there (low_at script w h v s there) word) p t
+        (closes v m mine (inside script) w.vats s there (low_at script w h v s there) word (Root v)))

@@ -13,16 +13,12 @@ use Rattle.law_reference.proofs.Entries.{Mild, mild_hold, mild_wait, mild_wait_o
 -- by R where it gives
 abbrev pub GivesBy : {N A : Type 0} → (Vat N → Vat N → Type 0) → Vat N → Done N A → Type 0
 GivesBy R s (Gives a t) = R s t
-GivesBy R s (Throws p t) = Unit {0}
-GivesBy R s (Ejects n v t) = Unit {0}
-GivesBy R s (Stops c t) = Unit {0}
+GivesBy R s other = Unit {0}
 
 -- of the state that it gives
 abbrev pub AfterGives : {N A : Type 0} → (Vat N → Type 0) → Done N A → Type 0
 AfterGives P (Gives a t) = P t
-AfterGives P (Throws p t) = Unit {0}
-AfterGives P (Ejects n v t) = Unit {0}
-AfterGives P (Stops c t) = Unit {0}
+AfterGives P other = Unit {0}
 
 abbrev pub GentleBy : {N : Type 0} → (Vat N → Vat N → Type 0) → Property N
 GentleBy {N} R A m = (s : Vat N) → GivesBy R s (m s)
@@ -56,16 +52,12 @@ IsGentle K R = GoesBy K Mild R
 module _ {N W : Type 0} (K : Naming N W) (Can : Change N → Type 0) (R : Vat N → Vat N → Type 0) (law : GoesBy K Can R) where
   pub widen : {A : Type 0} {s t : Vat N} → R s t → (d : Done N A) → GivesBy R t d → GivesBy R s d
   widen r (Gives a u) h = law.trans r h
-  widen r (Throws p u) h = tt
-  widen r (Ejects n v u) h = tt
-  widen r (Stops c u) h = tt
+  widen r other h = tt
 
   pub bind_gives : {A B : Type 0} (s : Vat N) (d : Done N A) (f : A → Act N B) → GivesBy R s d → ((a : A) → Gentle R (f a)) → GivesBy R s (and_then d f)
   unfolding and_then
   bind_gives s (Gives a t) f h k = widen h (f a t) ((k a).after t)
-  bind_gives s (Throws p t) f h k = tt
-  bind_gives s (Ejects n v t) f h k = tt
-  bind_gives s (Stops c t) f h k = tt
+  bind_gives s other f h k = tt
 
   pub goes_bind : {A B : Type 0} {m : Act N A} {f : A → Act N B} → Gentle R m → ((a : A) → Gentle R (f a)) → Gentle R (m >>= f)
   unfolding ◌>>=◌
@@ -203,10 +195,9 @@ module _ {N W : Type 0} (K : Naming N W) (R : Vat N → Vat N → Type 0) (law :
   mild (Hold m) n h = gentle_hold m n
   mild (Wait q) n h = gentle_wait q n
   mild (WaitOn q) n h = gentle_wait_on q n
-  mild (See q) n h = absurd h
   mild (React m) n h = gentle_react m n
   mild (ToTell w) n h = gentle_to_tell w n
-  mild (Settle y) n h = absurd h
+  mild other n h = absurd h
 
   pub gentle_sending : InSending (GentleBy R) K
   gentle_sending = record { messages = goes_message K Mild R law; lone_messages = goes_lone_message K Mild R law; sends = λ a m. goes_tell K Mild R law (Sends a m); reacts = λ a x o m. goes_tell K Mild R law (Reacts a x o m) }
@@ -221,33 +212,23 @@ pub ruleset gentle = (goes, gentle_hold, gentle_wait, gentle_wait_on, gentle_rea
 pub gives_then : {N A B : Type 0} (P Q : Vat N → Type 0) (d : Done N A) (f : A → Act N B) → AfterGives P d → ((a : A) (t : Vat N) → P t → AfterGives Q (f a t)) → AfterGives Q (and_then d f)
 unfolding and_then
 gives_then P Q (Gives a t) f h k = k a t h
-gives_then P Q (Throws p t) f h k = tt
-gives_then P Q (Ejects n v t) f h k = tt
-gives_then P Q (Stops c t) f h k = tt
+gives_then P Q other f h k = tt
 
 pub gives_after : {N A : Type 0} (R : Vat N → Vat N → Type 0) (P : Vat N → Type 0) (s : Vat N) (d : Done N A) → ((t : Vat N) → R s t → P t) → After R s d → AfterGives P d
 gives_after R P s (Gives a t) f h = f t h
-gives_after R P s (Throws p t) f h = tt
-gives_after R P s (Ejects n v t) f h = tt
-gives_after R P s (Stops c t) f h = tt
+gives_after R P s other f h = tt
 
 pub gives_map : {N A : Type 0} (P Q : Vat N → Type 0) (d : Done N A) → ((t : Vat N) → P t → Q t) → AfterGives P d → AfterGives Q d
 gives_map P Q (Gives a t) f h = f t h
-gives_map P Q (Throws p t) f h = tt
-gives_map P Q (Ejects n v t) f h = tt
-gives_map P Q (Stops c t) f h = tt
+gives_map P Q other f h = tt
 
 pub gives_by : {N A : Type 0} (R : Vat N → Vat N → Type 0) (P : Vat N → Type 0) (s : Vat N) (d : Done N A) → ((t : Vat N) → R s t → P t) → GivesBy R s d → AfterGives P d
 gives_by R P s (Gives a t) f h = f t h
-gives_by R P s (Throws p t) f h = tt
-gives_by R P s (Ejects n v t) f h = tt
-gives_by R P s (Stops c t) f h = tt
+gives_by R P s other f h = tt
 
 pub by_gives : {N A : Type 0} (R Q : Vat N → Vat N → Type 0) (P : Vat N → Type 0) (s r : Vat N) (d : Done N A) → ((t : Vat N) → R s t → P t → Q r t) → GivesBy R s d → AfterGives P d → GivesBy Q r d
 by_gives R Q P s r (Gives a t) f h i = f t h i
-by_gives R Q P s r (Throws p t) f h i = tt
-by_gives R Q P s r (Ejects n v t) f h i = tt
-by_gives R Q P s r (Stops c t) f h i = tt
+by_gives R Q P s r other f h i = tt
 
 -- a stop may leave any state
 abbrev pub Any : {N : Type 0} → Vat N → Vat N → Type 0
@@ -255,9 +236,8 @@ Any s t = Unit {0}
 
 quiet_ends : {N A : Type 0} (R : Vat N → Vat N → Type 0) (s : Vat N) (d : Done N A) → IsQuiet d → GivesBy R s d → Ends Any R s d
 quiet_ends R s (Gives a t) q h = h
-quiet_ends R s (Throws p t) q h = absurd q
-quiet_ends R s (Ejects n v t) q h = absurd q
 quiet_ends R s (Stops c t) q h = tt
+quiet_ends R s other q h = absurd q
 
 -- what throws nothing leads by R
 pub leads_gentle : {N A : Type 0} (R : Vat N → Vat N → Type 0) (m : Act N A) → Quiet m → Gentle R m → Leads Any R m
@@ -269,9 +249,7 @@ leads_at R m q s h = quiet_ends R s (m s) (q.after s) h
 
 ends_give : {N A : Type 0} (R : Vat N → Vat N → Type 0) (s : Vat N) (d : Done N A) → Ends Any R s d → GivesBy R s d
 ends_give R s (Gives a t) h = h
-ends_give R s (Throws p t) h = tt
-ends_give R s (Ejects n v t) h = tt
-ends_give R s (Stops c t) h = tt
+ends_give R s other h = tt
 
 pub gentle_leads : {N A : Type 0} (R : Vat N → Vat N → Type 0) (m : Act N A) → Leads Any R m → Gentle R m
 gentle_leads R m h = record { after = λ s. ends_give R s (m s) (h.after s) }

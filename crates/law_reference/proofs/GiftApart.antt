@@ -131,9 +131,6 @@ module _ (script : Script) where
         by (suc c) a l f = let e = f (omega arith) in omega arith
 
     entry_news : (front : List Entry) (w : World) → NotesBringNew script front k0 w0 → world.steps_from script front k0 w0 ≡ Going w → (e : Entry) → EntryApart w e → EntryBringsNew w e
-    entry_news front w b st (Turn v) a = tt
-    entry_news front w b st (CutLink v u) a = tt
-    entry_news front w b st (NoticeLink v u) a = tt
     entry_news front w b st (Carry from to) a = λ l n ns s i j q. news l n ns s i j q
       where
         others : (l : world.Link) (n : Note Name) (ns : List (Note Name)) (s : Vat Name) → world.link_at from to w.links ≡ Some l → l.notes ≡ n ∷ ns → slice_get w.vats to ≡ Some s → (x : Name) → IsNoGift x → claims to x s.known + brings_here to x from s.gifts (read_note (names_of s) n) ≤ allowed to x s w.drawn
@@ -146,6 +143,7 @@ module _ (script : Script) where
         news l n ns s i j q (Promise u m) = others l n ns s i j q (Promise u m) tt
         news l n ns s i j q (Answer u m) = others l n ns s i j q (Answer u m) tt
         news l n ns s i j q (Sent m) = others l n ns s i j q (Sent m) tt
+    entry_news front w b st other a = tt
 
     goes_on : (es front : List Entry) (k : ℕ) (w : World) → k ≡ k0 + length front → NotesBringNew script front k0 w0 → world.steps_from script front k0 w0 ≡ Going w → AllApart script es k w → NotesBringNew script es k w
     goes_on [] front k w n b st a = tt

@@ -76,24 +76,18 @@ module _ (K : Naming Name Name) (from h i : ℕ) where
 
   ends_asked : {A : Type 0} (s : Vat Name) (d : Done Name A) → Done' s → After Stays s d → ThenAsked h i from d
   ends_asked s (Gives a t) q f = f q
-  ends_asked s (Throws x t) q f = tt
-  ends_asked s (Ejects n v t) q f = tt
-  ends_asked s (Stops c t) q f = tt
+  ends_asked s other q f = tt
 
   -- what follows leaves it asked for, and what comes before does not matter
   asked_then : {A B : Type 0} (d : Done Name A) (f : A → Act Name B) → ThenAsked h i from d → ((a : A) → Keeps Stays (f a)) → ThenAsked h i from (and_then d f)
   unfolding and_then
   asked_then (Gives a t) f q k = ends_asked t (f a t) q ((k a).after t)
-  asked_then (Throws x t) f q k = tt
-  asked_then (Ejects n v t) f q k = tt
-  asked_then (Stops c t) f q k = tt
+  asked_then other f q k = tt
 
   any_then : {A B : Type 0} (d : Done Name A) (f : A → Act Name B) → ((a : A) (t : Vat Name) → ThenAsked h i from (f a t)) → ThenAsked h i from (and_then d f)
   unfolding and_then
   any_then (Gives a t) f k = k a t
-  any_then (Throws x t) f k = tt
-  any_then (Ejects n v t) f k = tt
-  any_then (Stops c t) f k = tt
+  any_then other f k = tt
 
   -- ---- learning
 
@@ -151,10 +145,7 @@ module _ (K : Naming Name Name) (from h i : ℕ) where
   unfolding arrive.arrive arrive.arrive_settled ◌>>=◌
   note_asks (Deliver d x verb ys) s p = deliver_asks d.message d.asks d.answer x verb ys s p
   note_asks (SettledTo x y) s p = any_then (arrive.learn_name K x s) (λ n. arrive.learn K from y >>= (λ z. refs.settle K n z)) (λ n t. asked_then (arrive.learn K from y t) (λ z. refs.settle K n z) (learn_asks y t p) (λ z. keeps_settle K Stays base law n z))
-  note_asks (Open j x) s p = absurd p
-  note_asks (Ask q j x) s p = absurd p
-  note_asks (Elsewhere x c) s p = absurd p
-  note_asks (Shorten x c j) s p = absurd p
+  note_asks other s p = absurd p
 
 pub who_learns_asks : WhoLearnsAGiftAsks
 who_learns_asks K from h i n s p = note_asks K from h i n s p

@@ -60,9 +60,7 @@ put_back_fits P q v w head n s (Gives a t) h e g f k = (
 
     others : (u : ℕ) (r : Vat Name) → slice_get w.vats u ≡ Some r → Vat_ok u r
     others u r i = let o = h.vats u r i in (o.0, up_gifts t.drawn more r.gifts o.1, o.2)
-put_back_fits P q v w head n s (Throws p t) h e g f k = (P, h)
-put_back_fits P q v w head n s (Ejects m y t) h e g f k = (P, h)
-put_back_fits P q v w head n s (Stops c t) h e g f k = (P, h)
+put_back_fits P q v w head n s other h e g f k = (P, h)
 
 module _ (script : Script) where
   idle_fits : (k : ℕ) (w : World) → Fits w → Reached Fits (world.idle script k w)
@@ -249,10 +247,7 @@ module _ (P : ℕ → ℕ) (d : List ℕ) (i : ℕ) where
   unfolding gifts_in_note
   note_gift v w (Deliver m n verb ys) h l = all_gifts v w ys h l
   note_gift v w (SettledTo n y) h l = passed_gift v w y h l
-  note_gift v w (Open j n) h l = absurd (omega arith)
-  note_gift v w (Ask p j n) h l = absurd (omega arith)
-  note_gift v w (Elsewhere n c) h l = absurd (omega arith)
-  note_gift v w (Shorten n c j) h l = absurd (omega arith)
+  note_gift v w other h l = absurd (omega arith)
 
   notes_gift : (v w : ℕ) (ns : List (Note Name)) → Each (Provides P d v w) ns → 1 ≤ gifts_in_notes i ns → Tells
   unfolding gifts_in_notes

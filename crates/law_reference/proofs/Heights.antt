@@ -101,22 +101,8 @@ module _ (K : Naming Name Name) (s : Vat Name) (none : NoListLeadsBack K s) wher
   ends_in zero (Items k) ws h = below_or k (length s.lists) (λ l. absurd (full k ws h l)) (λ f. past s.lists k f)
   ends_in (suc d) (Items k) ws h = below_or k (length s.lists) (λ l. all_members (λ v. LeadingEndsIn K d s (follow K s v)) (list_at s.lists k) (λ v a. ends_in d (follow K s v) (k ∷ ws) (on d k ws v a l h)))
       (λ f. subst (λ vs. AllOf (λ v. LeadingEndsIn K d s (follow K s v)) vs) (sym (past s.lists k f)) tt)
-  ends_in zero Null ws h = tt
-  ends_in zero (Flag b) ws h = tt
-  ends_in zero (Number z) ws h = tt
-  ends_in zero (Letter c) ws h = tt
-  ends_in zero (Text t) ws h = tt
-  ends_in zero (Prim n) ws h = tt
-  ends_in zero (Broken p) ws h = tt
-  ends_in zero (Ref n) ws h = tt
-  ends_in (suc d) Null ws h = tt
-  ends_in (suc d) (Flag b) ws h = tt
-  ends_in (suc d) (Number z) ws h = tt
-  ends_in (suc d) (Letter c) ws h = tt
-  ends_in (suc d) (Text t) ws h = tt
-  ends_in (suc d) (Prim n) ws h = tt
-  ends_in (suc d) (Broken p) ws h = tt
-  ends_in (suc d) (Ref n) ws h = tt
+  ends_in zero other ws h = tt
+  ends_in (suc d) other ws h = tt
 
   pub leading_ends : (x : Value Name) → LeadingEndsIn K (length s.lists) s x
   unfolding IsDistinct

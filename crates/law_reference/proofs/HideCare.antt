@@ -26,20 +26,12 @@ use Rattle.law_reference.proofs.Arrivals.{NoteTells, Brings, IsNews, note_read}
 module _ (i : ℕ) where
   pub not_other : (v : ℕ) (n : Name) → IsNotOf i n → IsOfNoOther i v n
   not_other v (Gift h j) f = λ e. absurd (f e)
-  not_other v (Root w) f = tt
-  not_other v (Object w j) f = tt
-  not_other v (Promise w j) f = tt
-  not_other v (Answer h m) f = tt
-  not_other v (Sent m) f = tt
+  not_other v other f = tt
 
   answer_not : (h : ℕ) (m : Name) → IsMessageName m → IsNotOf i (answer_of h m)
   unfolding answer_of
   answer_not h (Sent m) o = tt
-  answer_not h (Root w) o = absurd o
-  answer_not h (Object w j) o = absurd o
-  answer_not h (Promise w j) o = absurd o
-  answer_not h (Answer w m) o = absurd o
-  answer_not h (Gift w j) o = absurd o
+  answer_not h other o = absurd o
 
   -- Where O holds the draw was made, so that no view is of it.
   module _ (v : ℕ) (O : Type 0) where
@@ -187,10 +179,7 @@ module _ (i : ℕ) where
       unfolding gifts_in_note
       plain_none (Deliver d n verb ys) h = absurd h
       plain_none (SettledTo n y) h = absurd h
-      plain_none (Open j n) h = refl
-      plain_none (Ask p j n) h = refl
-      plain_none (Elsewhere n c) h = refl
-      plain_none (Shorten n c j) h = refl
+      plain_none other h = refl
 
       none_stays : Stays word v PassesNone
       none_stays = record { altered = λ c n ks ps e. e; knows = λ n h k ks ps e. e; puts = λ p k ks ps e. put_none ps p (plain_none p.note k) e }
@@ -200,15 +189,11 @@ module _ (i : ℕ) where
 
       ends_goes : (s : Vat Name) (d : Done Name (Unit {0})) → Ends Hides nothing s d → AfterGives Goes d
       ends_goes s (Gives u t) h = inl h.1
-      ends_goes s (Throws p t) h = tt
-      ends_goes s (Ejects n y t) h = tt
-      ends_goes s (Stops c t) h = tt
+      ends_goes s other h = tt
 
       none_goes : (d : Done Name (Unit {0})) → Leaves word v PassesNone d → AfterGives Goes d
       none_goes (Gives u t) h = inr h
-      none_goes (Throws p t) h = tt
-      none_goes (Ejects n y t) h = tt
-      none_goes (Stops c t) h = tt
+      none_goes other h = tt
 
       settle_goes : (s : Vat Name) (n : Name) (t : List ℕ) → IsNotOf i n → Sound Hides s → AfterGives Goes (refs.settle K n (Broken t) s)
       settle_goes s n t f h = ends_goes s _ ((fine_settle K Hides hides_under {C = Nothing} n (record { at = λ r c. not_other v n f }) (Broken t) (record { at = λ r c. tt })).after s h tt)

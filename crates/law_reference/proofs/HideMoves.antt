@@ -108,31 +108,21 @@ module _ (i : ℕ) where
 
   made_not : (us : List (Vat Name)) (d : List ℕ) → (WasDrawn d i → ⊥) → (n : Name) → WasMade us d n → IsNotOf i n
   made_not us d l (Gift h j) m = other_key j d m l
-  made_not us d l (Root w) m = tt
-  made_not us d l (Object w j) m = tt
-  made_not us d l (Promise w j) m = tt
-  made_not us d l (Answer h x) m = tt
-  made_not us d l (Sent x) m = tt
+  made_not us d l other m = tt
 
   made_shuns : (us : List (Vat Name)) (d : List ℕ) → (WasDrawn d i → ⊥) → (v : ℕ) (b : Bit Name) → IsMade us d b → Shuns i v b
   made_shuns us d l v (Named n) m = made_not us d l n m
   made_shuns us d l v (Mail n) m = made_message us n m
-  made_shuns us d l v (Drew j) m = tt
-  made_shuns us d l v (At h) m = tt
-  made_shuns us d l v (Off h) m = tt
   made_shuns us d l v (Entered n) m = not_other i v n (made_not us d l n m)
   made_shuns us d l v (Owns n j) m = (not_other i v n (made_not us d l n m), λ f. made_not us d l n m)
   made_shuns us d l v (Gave j) m = other_key j d m l
+  made_shuns us d l v other m = tt
 
   shuns_spares : (v : ℕ) (b : Bit Name) → Shuns i v b → Spares i b
   shuns_spares v (Named n) h = h
   shuns_spares v (Mail n) h = h
-  shuns_spares v (Drew j) h = tt
-  shuns_spares v (At w) h = tt
-  shuns_spares v (Off w) h = tt
-  shuns_spares v (Entered n) h = tt
-  shuns_spares v (Owns n j) h = tt
   shuns_spares v (Gave j) h = h
+  shuns_spares v other h = tt
 
   pub new_hidden : (script : Script) (w : World) → Stands script w → (WasDrawn w.drawn i → ⊥) → HiddenAt w.vats w.links
   new_hidden script w h l = (
@@ -178,10 +168,8 @@ module _ (i : ℕ) where
   unfolding gifts_in_note
   note_tells v O word (Deliver m n verb ys) f e = (f.0, f.1, passeds_tell ys f.2 e)
   note_tells v O word (Open j n) f e = f.1
-  note_tells v O word (Ask p j n) f e = f.0
   note_tells v O word (SettledTo n y) f e = (f.0, passed_tells y f.1 e)
-  note_tells v O word (Elsewhere n c) f e = f.0
-  note_tells v O word (Shorten n c j) f e = f.0
+  note_tells v O word other f e = f.0
 
   -- ---- a step
 

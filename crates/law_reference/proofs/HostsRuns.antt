@@ -39,9 +39,7 @@ module _ (script : Script) where
 
   both_rest : (v : ℕ) (d : Done Name (Unit {0})) → AfterGives (Its script v) d → AfterGives (Spared v) d → AfterGives (Rests v) d
   both_rest v (Gives a t) h k = (h, k)
-  both_rest v (Throws p t) h k = tt
-  both_rest v (Ejects n y t) h k = tt
-  both_rest v (Stops c t) h k = tt
+  both_rest v other h k = tt
 
   -- ---- the steps of one vat, which did not notice itself
 

@@ -46,23 +46,14 @@ module _ (word : ℕ → ℕ) (v : ℕ) where
 
   pub spared_by : (r : Vat Name) (d : Done Name (Unit {0})) → Missed r v → Whole word v (Missed r) r → WaitsSpared r → GivesBy (KeepsOwn word v (Missed r)) r d → GivesBy SameNoticed r d → AfterGives WaitsSpared d
   spared_by r (Gives a t) near o h k e = spared_on r t near e h (k o).1
-  spared_by r (Throws p t) near o h k e = tt
-  spared_by r (Ejects n y t) near o h k e = tt
-  spared_by r (Stops c t) near o h k e = tt
+  spared_by r other near o h k e = tt
 
   -- ---- a note that names nothing whose host was noticed
 
   module _ (s : Vat Name) where
     value_missed : (y : Value Name) → ValueSpared s y → FreeValue word v (Missed s) y
     value_missed (Ref n) h = inr h
-    value_missed Null h = tt
-    value_missed (Flag b) h = tt
-    value_missed (Number z) h = tt
-    value_missed (Letter c) h = tt
-    value_missed (Text t) h = tt
-    value_missed (Prim i) h = tt
-    value_missed (Broken t) h = tt
-    value_missed (Items k) h = tt
+    value_missed other h = tt
 
     mutual
       passed_missed : (y : Passed Name) → PassesSpared s y → FreePassed word v (Missed s) y
@@ -76,11 +67,10 @@ module _ (word : ℕ → ℕ) (v : ℕ) where
 
     pub note_missed : (vats : List (Vat Name)) (d : List ℕ) (ks : List Name) (n : Note Name) → NoteOk (IsMade vats d) n → NoteSpared s n → NoteFree word v (Missed s) ks n
     note_missed vats d ks (Deliver e n verb ys) k h = (message_named vats e.message k.0, inr h.0, all_missed ys h.1)
-    note_missed vats d ks (Open i n) k h = inr h
     note_missed vats d ks (Ask p i n) k h = tt
     note_missed vats d ks (SettledTo n y) k h = (inr h.0, passed_missed y h.1)
-    note_missed vats d ks (Elsewhere n c) k h = inr h
     note_missed vats d ks (Shorten n c i) k h = λ e. inr (h (new_eventual ks vats d n e k.0))
+    note_missed vats d ks other k h = inr h
 
   -- ---- notices
 
@@ -134,9 +124,7 @@ module _ (word : ℕ → ℕ) (v : ℕ) where
       pick n w (inl x) = missed_more to (host_of n) r (h n x) (not_hosted to r t own (notice_breaks Names to r t once gives).0 n x w)
       pick n w (inr (inl e)) = let one : Missed (Marked to r) v = missed_more to v r near other in rw (sym e) at one
       pick n w (inr (inr f)) = f
-  after_breaks to r (Throws p t) gives once near other own h k same o = tt
-  after_breaks to r (Ejects n y t) gives once near other own h k same o = tt
-  after_breaks to r (Stops c t) gives once near other own h k same o = tt
+  after_breaks to r another gives once near other own h k same o = tt
 
   notice_either : (to : ℕ) (r : Vat Name) (b : Bool) → is_in to r.noticed ≡ b → Missed r v → (v ≡ to → ⊥) → AllOf (IsOwnKnown v) r.known → WaitsSpared r → Whole word v (Missed (Marked to r)) (Marked to r) → AfterGives WaitsSpared (arrive.notice Names to r)
   notice_either to r true e near other own h o = subst (λ d. AfterGives WaitsSpared d) (sym (again_gives to r e)) h

@@ -24,16 +24,12 @@ some_known j k e = cc
 unless_either : (P : Known Name → Type 0) (t : Standing Name) (k new : Known Name) → P k → P new → P (unless_settled t k new)
 unfolding unless_settled
 unless_either P (Settled y) k new h i = h
-unless_either P Unsettled k new h i = i
-unless_either P (WaitsOn q) k new h i = i
-unless_either P (Viewed q) k new h i = i
+unless_either P other k new h i = i
 
 unless_settled_is : (t : Standing Name) (y : Value Name) (k new : Known Name) → t ≡ Settled y → unless_settled t k new ≡ k
 unfolding unless_settled
 unless_settled_is (Settled z) y k new e = refl
-unless_settled_is Unsettled y k new e = cc
-unless_settled_is (WaitsOn q) y k new e = cc
-unless_settled_is (Viewed q) y k new e = cc
+unless_settled_is other y k new e = cc
 
 -- what settled stays as it is
 pub settled_is : (c : Change Name) (k : Known Name) (y : Value Name) → k.standing ≡ Settled y → changed c k ≡ k
@@ -43,9 +39,7 @@ settled_is c k y e = unless_settled_is k.standing y k (changed_to c k) e
 unless_is : (t : Standing Name) (k new : Known Name) → (unless_settled t k new ≡ k) ⊎ (unless_settled t k new ≡ new)
 unfolding unless_settled
 unless_is (Settled y) k new = inl refl
-unless_is Unsettled k new = inr refl
-unless_is (WaitsOn q) k new = inr refl
-unless_is (Viewed q) k new = inr refl
+unless_is other k new = inr refl
 
 -- it is as it was, or as the change makes it
 pub changed_or : (c : Change Name) (k : Known Name) → (changed c k ≡ k) ⊎ (changed c k ≡ changed_to c k)
@@ -55,9 +49,7 @@ changed_or c k = unless_is k.standing k (changed_to c k)
 unless_open : (t : Standing Name) (k new : Known Name) → ((z : Value Name) → t ≡ Settled z → ⊥) → unless_settled t k new ≡ new
 unfolding unless_settled
 unless_open (Settled y) k new f = absurd (f y refl)
-unless_open Unsettled k new f = refl
-unless_open (WaitsOn q) k new f = refl
-unless_open (Viewed q) k new f = refl
+unless_open other k new f = refl
 
 -- what did not settle changes
 pub open_changed : (c : Change Name) (k : Known Name) → ((z : Value Name) → k.standing ≡ Settled z → ⊥) → changed c k ≡ changed_to c k
@@ -74,22 +66,15 @@ module _ (v : ℕ) where
   -- a message that comes to be held is one whose answer the vat hosts
   abbrev pub HoldsBy : Change Name → Type 0
   HoldsBy (Hold m) = IsOwn v m
-  HoldsBy (Wait q) = Unit {0}
-  HoldsBy (WaitOn q) = Unit {0}
-  HoldsBy (See q) = Unit {0}
   HoldsBy (React m) = IsOwn v m
-  HoldsBy (ToTell w) = Unit {0}
-  HoldsBy (Settle y) = Unit {0}
+  HoldsBy other = Unit {0}
 
   to_held : (c : Change Name) (k : Known Name) → HoldsBy c → HoldsOwn v k → HoldsOwn v (changed_to c k)
   unfolding changed_to
   to_held (Hold m) k g h = (all_end (IsOwn v) k.held m h.0 g, h.1)
-  to_held (Wait q) k g h = h
-  to_held (WaitOn q) k g h = h
-  to_held (See q) k g h = h
   to_held (React m) k g h = (h.0, all_end (IsOwn v) k.reactions m h.1 g)
-  to_held (ToTell w) k g h = h
   to_held (Settle y) k g h = (tt, tt)
+  to_held other k g h = h
 
   pub held_changed : (c : Change Name) (k : Known Name) → HoldsBy c → HoldsOwn v k → HoldsOwn v (changed c k)
   unfolding changed
@@ -165,12 +150,8 @@ module _ (word : ℕ → ℕ) (v : ℕ) (heed : Bool) (D : ℕ → Type 0) (Seen
   pub note_stays : (ks ls : List (Known Name)) → Stays ks ls → (n : Note Name) → NoteTells N D ks n → NoteTells N D ls n
   note_stays ks ls f (Open i n) h = h
   note_stays ks ls f (SettledTo n (Many ys)) h = (h.0, f n (Items h.0) h.1)
-  note_stays ks ls f (SettledTo n (Plain y)) h = tt
-  note_stays ks ls f (SettledTo n (AGift g i)) h = tt
   note_stays ks ls f (Elsewhere n c) h = (h.0, f n (Ref h.0) h.1)
-  note_stays ks ls f (Deliver m n verb ys) h = tt
-  note_stays ks ls f (Ask p i n) h = tt
-  note_stays ks ls f (Shorten n c i) h = tt
+  note_stays ks ls f other h = tt
 
   pub puts_stay : (ks ls : List (Known Name)) → Stays ks ls → (ps : List (Put Name)) (ds : List ℕ) → PutsSo N D ks ps ds → PutsSo N D ls ps ds
   puts_stay ks ls f ps ds h = (h.0, all_map {P = λ (p : Put Name). NoteTells N D ks p.note} {Q = λ (p : Put Name). NoteTells N D ls p.note} (λ p i. note_stays ks ls f p.note i) ps h.1)
@@ -329,14 +310,7 @@ module _ (word : ℕ → ℕ) (v : ℕ) (heed : Bool) (D : ℕ → Type 0) (Seen
   severed_same : (s t : Vat Name) → t.number ≡ s.number → t.known ≡ s.known → t.noticed ≡ s.noticed → (x : Value Name) → severed N t x ≡ severed N s x
   unfolding severed
   severed_same s t a b c (Ref n) = spot_same s t a b c n (N.spot n)
-  severed_same s t a b c Null = refl
-  severed_same s t a b c (Flag f) = refl
-  severed_same s t a b c (Number z) = refl
-  severed_same s t a b c (Letter l) = refl
-  severed_same s t a b c (Text w) = refl
-  severed_same s t a b c (Prim n) = refl
-  severed_same s t a b c (Broken w) = refl
-  severed_same s t a b c (Items k) = refl
+  severed_same s t a b c other = refl
 
   follow_same : (s t : Vat Name) → t.number ≡ s.number → t.known ≡ s.known → t.noticed ≡ s.noticed → (x : Value Name) → follow N t x ≡ follow N s x
   unfolding follow

@@ -36,9 +36,7 @@ put_back_bounded v w x head n q came (Gives a t) h e same k draws b i =
     let all : AllStay q.drawn t.drawn = stays_all q.drawn t.drawn draws in let l : AllStay w.drawn t.drawn = rw same at all in
     moved (record { fuel = t.fuel; drawn = t.drawn; vats = put_at v t w.vats; links = world.push_all v t.outbox w.links; connections = world.connections_after v t head w.connections; history = w.history ++ head ++ world.events_of w.links v t.happened }) x
     (λ u r j. put_one (λ (x : ℕ) (y : Vat Name). Bounded t.drawn x y) v w.vats t (step_bounded v q t came e k b) (λ x y i. bounded_more w.drawn t.drawn x y l (h x y i)) u r (put_at_or v t w.vats u r j)) i
-put_back_bounded v w x head n q came (Throws p t) h e same k draws b i = cc
-put_back_bounded v w x head n q came (Ejects m y t) h e same k draws b i = cc
-put_back_bounded v w x head n q came (Stops c t) h e same k draws b i = cc
+put_back_bounded v w x head n q came other h e same k draws b i = cc
 
 module _ (script : Script) where
   idle_bounded : (k : ℕ) (w x : World) → AllBounded w → world.idle script k w ≡ Going x → AllBounded x

@@ -136,65 +136,41 @@ module _ (vs : List (Vat Name)) (ls : List Link) (a v : ℕ) (n : Note Name) (ns
 
 pub alone_leaves : (x : Name) (what : Step Name Name) → IsAlone what → leaves x what ≤ 0
 unfolding leaves
-alone_leaves x (Starts tree depth root given) h = omega arith
-alone_leaves x (Takes tree depth n) h = omega arith
 alone_leaves x (Receives from n) h = absurd h
-alone_leaves x (Notices w) h = omega arith
+alone_leaves x other h = omega arith
 
 pub alone_came : (x : Name) (what : Step Name Name) → IsAlone what → fate_brought x what ≤ waiting x what + 0
 unfolding fate_brought waiting
-alone_came x (Starts tree depth root given) h = omega arith
-alone_came x (Takes tree depth n) h = omega arith
 alone_came x (Receives from n) h = absurd h
-alone_came x (Notices w) h = omega arith
+alone_came x other h = omega arith
 
 pub alone_comes : (what : Step Name Name) → IsAlone what → StepComes what
-alone_comes (Starts tree depth root given) h = tt
-alone_comes (Takes tree depth n) h = tt
 alone_comes (Receives from n) h = absurd h
-alone_comes (Notices w) h = tt
+alone_comes other h = tt
 
 pub alone_arrives : (v : ℕ) (what : Step Name Name) → IsAlone what → StepArrives v what
-alone_arrives v (Starts tree depth root given) h = tt
-alone_arrives v (Takes tree depth n) h = tt
 alone_arrives v (Receives from n) h = absurd h
-alone_arrives v (Notices w) h = tt
+alone_arrives v other h = tt
 
 pub alone_brings : (v : ℕ) (x : Name) (gs : List (GiftEntry Name)) (what : Step Name Name) → IsAlone what → brought v x gs what ≤ 0
 unfolding brought
-alone_brings v x gs (Starts tree depth root given) h = omega arith
-alone_brings v x gs (Takes tree depth n) h = omega arith
 alone_brings v x gs (Receives from n) h = absurd h
-alone_brings v x gs (Notices w) h = omega arith
+alone_brings v x gs other h = omega arith
 
 bears_names : (m : Msg) (x : Name) (n : Note Name) → Bears m x n → NamesNot x n
 bears_names m x (Deliver d n verb ys) b = b.2
-bears_names m x (Open i n) b = absurd b
-bears_names m x (Ask p i n) b = absurd b
-bears_names m x (SettledTo n y) b = absurd b
-bears_names m x (Elsewhere n c) b = absurd b
-bears_names m x (Shorten n c i) b = absurd b
+bears_names m x other b = absurd b
 
 -- names that messages are named by
 abbrev pub MailBits : Bit Name → Type 0
-MailBits (Named n) = Unit {0}
 MailBits (Mail n) = IsMessageName n
-MailBits (Drew i) = Unit {0}
-MailBits (At h) = Unit {0}
-MailBits (Off h) = Unit {0}
-MailBits (Entered y) = Unit {0}
-MailBits (Owns y j) = Unit {0}
-MailBits (Gave j) = Unit {0}
+MailBits other = Unit {0}
 
 -- the answers that the message of a note brings
 pub mails_most : (v g : ℕ) (m : Msg) (ks : List Name) (n : Note Name) → NoteOk MailBits n → mails v (Answer g m) (read_note ks n) ≤ of_note (Sent m) n
 unfolding mails read_note new_answer of_note in_note
 mails_most v g m ks (Deliver d x verb ys) h = mail_most v g m d.message h.0
-mails_most v g m ks (Open i x) h = omega arith
-mails_most v g m ks (Ask p i x) h = omega arith
-mails_most v g m ks (SettledTo x y) h = omega arith
-mails_most v g m ks (Elsewhere x c) h = omega arith
-mails_most v g m ks (Shorten x c i) h = omega arith
+mails_most v g m ks other h = omega arith
 
 -- a note that does not name an answer brings it by its message alone
 pub brings_mail : (v g : ℕ) (m : Msg) (from : ℕ) (gs : List (GiftEntry Name)) (ks : List Name) (n : Note Name) → NoteOk MailBits n → NamesNot (Answer g m) n → brings v (Answer g m) from gs (read_note ks n) ≤ of_note (Sent m) n
@@ -215,11 +191,7 @@ module _ (script : Script) where
   told_mails w (Named x) h = tt
   told_mails w (Mail x) h = made_message w.vats x h.0
   told_mails w (Drew i) h = tt
-  told_mails w (At h) k = tt
-  told_mails w (Off h) k = tt
-  told_mails w (Entered y) k = tt
-  told_mails w (Owns y j) k = tt
-  told_mails w (Gave j) k = tt
+  told_mails w other k = tt
 
   -- the first note of a link
   pub first_mails : (w : World) (a v : ℕ) (n : Note Name) (ns : List (Note Name)) (l : Link) → Before w → link_at a v w.links ≡ Some l → l.notes ≡ n ∷ ns → NoteOk MailBits n

@@ -324,11 +324,7 @@ module _ (vs : List (Vat Name)) (v : ℕ) (s t : Vat Name) (ls : List Link) (the
       where
         is_one : (id : Name) → id ≡ M → 1 ≤ same_one id M
         is_one id e = rw e (self_least m)
-    bears_not g (Open i x) b = absurd b
-    bears_not g (Ask q i x) b = absurd b
-    bears_not g (SettledTo x y) b = absurd b
-    bears_not g (Elsewhere x c) b = absurd b
-    bears_not g (Shorten x c i) b = absurd b
+    bears_not g other b = absurd b
 
     first_self : (g : ℕ) (ps : List (Put Name)) → PutsFirst g m ps → total (λ (p : Put Name). of_note M p.note) ps ≤ 1 → AllOf (λ (p : Put Name). SelfNot g p.note) ps
     unfolding total

@@ -100,9 +100,7 @@ module _ (v u : ℕ) where
     put_back_cut : (w x : World) (a : ℕ) (head : List Event) (n : ℕ) (d : Done Name (Unit {0})) → IsCutThere v u w.links → world.put_back a w head n d ≡ Going x → IsCutThere v u x.links
     unfolding world.put_back
     put_back_cut w x a head n (Gives r t) h i = moved (record { fuel = t.fuel; drawn = t.drawn; vats = put_at a t w.vats; links = world.push_all a t.outbox w.links; connections = world.connections_after a t head w.connections; history = w.history ++ head ++ world.events_of w.links a t.happened }) x (push_stays_cut a t.outbox w.links h) i
-    put_back_cut w x a head n (Throws p t) h i = cc
-    put_back_cut w x a head n (Ejects m y t) h i = cc
-    put_back_cut w x a head n (Stops c t) h i = cc
+    put_back_cut w x a head n other h i = cc
 
     idle_cut : (k : ℕ) (w x : World) → IsCutThere v u w.links → world.idle script k w ≡ Going x → IsCutThere v u x.links
     unfolding world.idle

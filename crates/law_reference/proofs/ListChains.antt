@@ -36,14 +36,7 @@ module _ (K : Naming Name Name) (s : Vat Name) (p : Name) where
   reached_more : (f g : Value Name → Bool) → ((v : Value Name) → f v ≡ true → g v ≡ true) → (y : Value Name) → reached K (Any f) s.lists p y ≡ true → reached K (Any g) s.lists p y ≡ true
   unfolding reached
   reached_more f g h (Items k) e = any_more f g h (list_at s.lists k) e
-  reached_more f g h (Ref n) e = e
-  reached_more f g h Null e = e
-  reached_more f g h (Flag b) e = e
-  reached_more f g h (Number z) e = e
-  reached_more f g h (Letter c) e = e
-  reached_more f g h (Text t) e = e
-  reached_more f g h (Prim n) e = e
-  reached_more f g h (Broken t) e = e
+  reached_more f g h other e = e
 
   never : false ≡ true → ⊥
   never e = cc
@@ -113,13 +106,7 @@ module _ (K : Naming Name Name) (s : Vat Name) (p : Name) where
   unfolding reached
   way_at e (Items k) h i f = let at = member (Test (suc e)) (Test e) (list_at s.lists k) h i in longer e k (h, i) (f at.0 at.1 at.2)
   way_at e (Ref n) h i f = absurd (both_false (K.same n p) h i)
-  way_at e Null h i f = absurd (never h)
-  way_at e (Flag b) h i f = absurd (never h)
-  way_at e (Number z) h i f = absurd (never h)
-  way_at e (Letter c) h i f = absurd (never h)
-  way_at e (Text t) h i f = absurd (never h)
-  way_at e (Prim n) h i f = absurd (never h)
-  way_at e (Broken t) h i f = absurd (never h)
+  way_at e other h i f = absurd (never h)
 
   way : (e : ℕ) (x : Value Name) → Test (suc e) x ≡ true → Test e x ≡ false → Way e
   unfolding reaches

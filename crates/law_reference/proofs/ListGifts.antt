@@ -170,9 +170,7 @@ module _ (word : ℕ → ℕ) (v : ℕ) (heed : Bool) (D : ℕ → Type 0) (Seen
   then_ref : (ls : List Mark) (s : Vat Name) (n : Name) (d : Done Name (Unit {0})) → Ends N (keeper word v heed D Seen ls) nothing s d → Ends N (keeper word v heed D Seen ls) IsValue s (and_then d (λ u. give (Ref n)))
   unfolding and_then give
   then_ref ls s n (Gives a t) h = (h.0, h.1, tt)
-  then_ref ls s n (Throws p t) h = h
-  then_ref ls s n (Ejects j x t) h = h
-  then_ref ls s n (Stops c t) h = h
+  then_ref ls s n other h = h
 
   asked_or : (ls : List Mark) (s : Vat Name) (n : Name) (p h i : ℕ) (b : Bool) → b ≡ true → Ends N (keeper word v heed D Seen ls) nothing s (refs.settle N n (Broken (codes "partition")) s) → Ends N (keeper word v heed D Seen ls) nothing s ((if b then refs.settle N n (Broken (codes "partition")) else send_out h (Ask p i n)) s)
   asked_or ls s n p h i true e k = k

@@ -41,14 +41,7 @@ module _ (K : Naming Name Name) where
   pub list_only : (d : ℕ) (t : Vat Name) (z : Value Name) (b : ℕ) → LeadsIn K d t z (Items b) → (c : ℕ) × (z ≡ Items c)
   list_only zero t z b h = (b, h)
   list_only (suc d) t (Items c) b h = (c, refl)
-  list_only (suc d) t Null b h = absurd h.1
-  list_only (suc d) t (Flag c) b h = absurd h.1
-  list_only (suc d) t (Number c) b h = absurd h.1
-  list_only (suc d) t (Letter c) b h = absurd h.1
-  list_only (suc d) t (Text c) b h = absurd h.1
-  list_only (suc d) t (Prim c) b h = absurd h.1
-  list_only (suc d) t (Broken c) b h = absurd h.1
-  list_only (suc d) t (Ref c) b h = absurd h.1
+  list_only (suc d) t other b h = absurd h.1
 
   -- ---- the test
 
@@ -62,14 +55,7 @@ module _ (K : Naming Name Name) where
   unfolding reached reaches
   leads_test p self zero s z h = subst (λ w. reached K (any_of K (λ v. reaches K zero s p v)) s.lists p w ≡ true) (sym h) self
   leads_test p self (suc e) s (Items k) h = any_true (λ v. reaches K (suc e) s p v) (list_at s.lists k) h.1.0 h.1.1 (subst (λ w. reached K (any_of K (λ v. reaches K e s p v)) s.lists p w ≡ true) (sym h.1.2) (leads_test p self e s h.0 h.2))
-  leads_test p self (suc e) s Null h = absurd h.1
-  leads_test p self (suc e) s (Flag c) h = absurd h.1
-  leads_test p self (suc e) s (Number c) h = absurd h.1
-  leads_test p self (suc e) s (Letter c) h = absurd h.1
-  leads_test p self (suc e) s (Text c) h = absurd h.1
-  leads_test p self (suc e) s (Prim c) h = absurd h.1
-  leads_test p self (suc e) s (Broken c) h = absurd h.1
-  leads_test p self (suc e) s (Ref c) h = absurd h.1
+  leads_test p self (suc e) s other h = absurd h.1
 
   -- where members lead from a list to a name, the test finds it
   found : (p : Name) → K.same p p ≡ true → (e : ℕ) (s : Vat Name) (c : ℕ) → LeadsIn K e s (Items c) (Ref p) → reaches K (suc (length s.lists)) s p (Items c) ≡ true
@@ -85,14 +71,7 @@ module _ (K : Naming Name Name) where
   untested : (s : Vat Name) (p : Name) (x : Value Name) (c : ℕ) → target_of K s p x ≡ Items c → reaches K (suc (length s.lists)) s p (Items c) ≡ false
   unfolding target_of
   untested s p (Items k) c e = let h = cut_false (reaches K (suc (length s.lists)) s p (Items k)) k c e in subst (λ j. reaches K (suc (length s.lists)) s p (Items j) ≡ false) h.1 h.0
-  untested s p Null c e = cc
-  untested s p (Flag b) c e = cc
-  untested s p (Number z) c e = cc
-  untested s p (Letter l) c e = cc
-  untested s p (Text t) c e = cc
-  untested s p (Prim n) c e = cc
-  untested s p (Broken t) c e = cc
-  untested s p (Ref n) c e = cc
+  untested s p other c e = cc
 
   -- ---- one name stands otherwise
 

@@ -22,25 +22,20 @@ use Rattle.law_reference.proofs.FirstSteps.{FirstOut, turn_first, notice_first, 
 
 -- a step that no note begins
 abbrev pub IsAlone : Step Name Name → Type 0
-IsAlone (Starts tree depth root given) = Unit {0}
-IsAlone (Takes tree depth n) = Unit {0}
 IsAlone (Receives from n) = ⊥
-IsAlone (Notices w) = Unit {0}
+IsAlone other = Unit {0}
 
 -- the message that is taken from the queue
 unfoldable pub waiting : Name → Step Name Name → ℕ
-waiting x (Starts tree depth root given) = 0
 waiting x (Takes tree depth n) = same_one n.id x
-waiting x (Receives from n) = 0
-waiting x (Notices w) = 0
+waiting x other = 0
 
 module _ (script : Script) (w : World) where
   -- From what a step begins: an opening turn of the vat's program, the first message of its queue, or the vat as it is.
   abbrev pub Begins : ℕ → Vat Name → Vat Name → Step Name Name → Type 0
   Begins v s q (Starts tree depth root given) = (p : Program) × (slice_get script.vats v ≡ Some p) × (q ≡ s) × (root ≡ Root v) × (given ≡ world.given script.vats p.knows)
   Begins v s q (Takes tree depth n) = (ms : List (Message Name)) × (s.queue ≡ n ∷ ms) × (q ≡ record s { queue = ms })
-  Begins v s q (Receives from n) = q ≡ s
-  Begins v s q (Notices u) = q ≡ s
+  Begins v s q other = q ≡ s
 
   -- a step of vat v, from s, which is readied as q, to t
   pub record Does (v : ℕ) (s q t : Vat Name) (what : Step Name Name) : Type 0 where
@@ -93,9 +88,7 @@ module _ (script : Script) where
   unfolding world.put_back
   alone_moves w y v head k s q what (Gives u t) a f g n e = moved_to w (record { fuel = t.fuel; drawn = t.drawn; vats = put_at v t w.vats; links = push_all v t.outbox w.links; connections = world.connections_after v t head w.connections; history = w.history ++ head ++ world.events_of w.links v t.happened }) y
       (Steps v s q t what a (f t refl) refl refl refl (g t refl) (n t refl)) e
-  alone_moves w y v head k s q what (Throws p t) a f g i e = cc
-  alone_moves w y v head k s q what (Ejects n z t) a f g i e = cc
-  alone_moves w y v head k s q what (Stops c t) a f g i e = cc
+  alone_moves w y v head k s q what other a f g i e = cc
 
   turn_queue_moves : (k v : ℕ) (w y : World) (s : Vat Name) → slice_get w.vats v ≡ Some s → Stands script w → (qs : List (Message Name)) → s.queue ≡ qs → world.turn_queue script k v w s qs ≡ Going y → Moved script w y
   unfolding world.turn_queue world.within does waiting
@@ -116,9 +109,7 @@ module _ (script : Script) where
   carried_moves w y a v head k s n ns l (Gives u t) i c j f g z e =
       moved_to w (record { fuel = t.fuel; drawn = t.drawn; vats = put_at v t w.vats; links = push_all v t.outbox (with_link (with_notes ns) a v w.links); connections = world.connections_after v t head w.connections; history = w.history ++ head ++ world.events_of (with_link (with_notes ns) a v w.links) v t.happened }) y
       (Arrives a v s t n ns l i c j (f t refl) refl refl refl (g t refl) (z t refl)) e
-  carried_moves w y a v head k s n ns l (Throws p t) i c j f g o e = cc
-  carried_moves w y a v head k s n ns l (Ejects x z t) i c j f g o e = cc
-  carried_moves w y a v head k s n ns l (Stops r t) i c j f g o e = cc
+  carried_moves w y a v head k s n ns l other i c j f g o e = cc
 
   arrives_moves : (k a v : ℕ) (w y : World) (n : Note Name) (ns : List (Note Name)) (l : Link) → Stands script w → NoteOk (Told script w) n → link_at a v w.links ≡ Some l → l.cut ≡ false → l.notes ≡ n ∷ ns → (o : Option (Vat Name)) → slice_get w.vats v ≡ o
       → world.arrives script k a v (record w { links = with_link (with_notes ns) a v w.links }) n o ≡ Going y → Moved script w y

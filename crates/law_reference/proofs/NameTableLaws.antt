@@ -55,12 +55,7 @@ positions_are_of_one_name word = in_all_runs _ (λ w h v u. positions_fine word 
 object_is : (v : ℕ) (o : Option Name) (j : ℕ) → ((n : Name) → o ≡ Some n → host_of n ≡ v) → object_of o ≡ Some j → o ≡ Some (Object v j)
 unfolding object_of host_of
 object_is v (Some (Object w i)) j f e = let a : w ≡ v = f (Object w i) refl in let b : i ≡ j = cc in rw (a, b) refl
-object_is v (Some (Root w)) j f e = cc
-object_is v (Some (Promise w i)) j f e = cc
-object_is v (Some (Answer w m)) j f e = cc
-object_is v (Some (Gift w i)) j f e = cc
-object_is v (Some (Sent m)) j f e = cc
-object_is v None j f e = cc
+object_is v other j f e = cc
 
 module _ (ls : List Link) (rooted : AllOf Rooted ls) (v : ℕ) where
   abbrev Given : ℕ → List Name

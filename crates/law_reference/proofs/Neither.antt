@@ -24,31 +24,21 @@ true_false e = cc
 
 -- it is neither an answer nor a gift
 abbrev pub IsNeither : Name → Type 0
-IsNeither (Root w) = Unit {0}
-IsNeither (Object w i) = Unit {0}
-IsNeither (Promise w i) = Unit {0}
 IsNeither (Answer h m) = ⊥
 IsNeither (Gift h i) = ⊥
-IsNeither (Sent m) = Unit {0}
+IsNeither other = Unit {0}
 
 no_gift : (x : Name) → IsNeither x → IsNoGift x
-no_gift (Root w) h = tt
-no_gift (Object w i) h = tt
-no_gift (Promise w i) h = tt
-no_gift (Answer g m) h = tt
 no_gift (Gift g i) h = h
-no_gift (Sent m) h = tt
+no_gift other h = tt
 
 -- ---- a message has no such name for an answer
 
 no_answer : (x : Name) (h : ℕ) (m : Msg) → IsNeither x → one (Answer h m) x ≡ 0
 unfolding one same_name once
-no_answer (Root w) h m n = refl
-no_answer (Object w i) h m n = refl
-no_answer (Promise w i) h m n = refl
 no_answer (Answer g k) h m n = absurd n
 no_answer (Gift g i) h m n = absurd n
-no_answer (Sent k) h m n = refl
+no_answer other h m n = refl
 
 zero_either : (b : Bool) (c : ℕ) → c ≡ 0 → ◌≡◌ {A = ℕ} (elim b [ true ↦ 0 | false ↦ c ]) 0
 zero_either true c e = refl
@@ -57,40 +47,22 @@ zero_either false c e = e
 no_onward : (v : ℕ) (x id : Name) → IsNeither x → IsMessageName id → onward v x id ≡ 0
 unfolding onward
 no_onward v x (Sent m) n i = zero_either (host_of x == v) (one (Answer (host_of x) m) x) (no_answer x (host_of x) m n)
-no_onward v x (Root w) n i = absurd i
-no_onward v x (Object w j) n i = absurd i
-no_onward v x (Promise w j) n i = absurd i
-no_onward v x (Answer g m) n i = absurd i
-no_onward v x (Gift g j) n i = absurd i
+no_onward v x other n i = absurd i
 
 no_answer_of : (v : ℕ) (x id : Name) → IsNeither x → IsMessageName id → one (answer_of v id) x ≡ 0
 unfolding answer_of
 no_answer_of v x (Sent m) n i = no_answer x v m n
-no_answer_of v x (Root w) n i = absurd i
-no_answer_of v x (Object w j) n i = absurd i
-no_answer_of v x (Promise w j) n i = absurd i
-no_answer_of v x (Answer g m) n i = absurd i
-no_answer_of v x (Gift g j) n i = absurd i
+no_answer_of v x other n i = absurd i
 
 -- names that messages are named by
 abbrev Mails : Bit Name → Type 0
-Mails (Named n) = Unit {0}
 Mails (Mail n) = IsMessageName n
-Mails (Drew i) = Unit {0}
-Mails (At h) = Unit {0}
-Mails (Off h) = Unit {0}
-Mails (Entered y) = Unit {0}
-Mails (Owns y j) = Unit {0}
-Mails (Gave j) = Unit {0}
+Mails other = Unit {0}
 
 no_mails : (v : ℕ) (x : Name) (ks : List Name) (n : Note Name) → IsNeither x → NoteOk Mails n → mails v x (read_note ks n) ≡ 0
 unfolding mails read_note new_answer
 no_mails v x ks (Deliver d n verb ys) k h = let a = no_answer_of v x d.message k h.0 in let b = no_onward v x d.message k h.0 in omega arith
-no_mails v x ks (Open i n) k h = refl
-no_mails v x ks (Ask p i n) k h = refl
-no_mails v x ks (SettledTo n y) k h = refl
-no_mails v x ks (Elsewhere n c) k h = refl
-no_mails v x ks (Shorten n c i) k h = refl
+no_mails v x ks other k h = refl
 
 -- ---- claims
 
@@ -138,11 +110,7 @@ module _ (script : Script) (w : World) (from to : ℕ) (l : Link) (n : Note Name
   told_mails (Named x) h = tt
   told_mails (Mail x) h = made_message w.vats x h.0
   told_mails (Drew i) h = tt
-  told_mails (At h) k = tt
-  told_mails (Off h) k = tt
-  told_mails (Entered y) k = tt
-  told_mails (Owns y j) k = tt
-  told_mails (Gave j) k = tt
+  told_mails other k = tt
 
   note_mails : NoteOk Mails n
   note_mails = note_up (Told script w) Mails told_mails n told
@@ -203,24 +171,12 @@ module _ (script : Script) (w : World) (from to : ℕ) (l : Link) (n : Note Name
       either true = refl
       either false = refl
   object_never v i (Named (Sent m)) h = absurd h.0
-  object_never v i (Mail x) h = tt
-  object_never v i (Drew j) h = tt
-  object_never v i (At u) h = tt
-  object_never v i (Off u) h = tt
-  object_never v i (Entered y) h = tt
-  object_never v i (Owns y j) h = tt
-  object_never v i (Gave j) h = tt
+  object_never v i other h = tt
 
   -- a promise that was not made is in no note
   unmade_never : (i : ℕ) → s.promises ≤ i → (b : Bit Name) → Told script w b → NeverNew (Promise to i) b
   unmade_never i l (Named x) h = avoids_never (Promise to i) (Named x) (λ e. let made : WasMade w.vats w.drawn (Promise to i) = rw e at h.0 in let p = promises_at w.vats to s there in let low : i < promises_of w.vats to = made in omega arith)
-  unmade_never i l (Mail x) h = tt
-  unmade_never i l (Drew j) h = tt
-  unmade_never i l (At u) h = tt
-  unmade_never i l (Off u) h = tt
-  unmade_never i l (Entered y) h = tt
-  unmade_never i l (Owns y j) h = tt
-  unmade_never i l (Gave j) h = tt
+  unmade_never i l other h = tt
 
   own_promise : (i : ℕ) (b : Bool) → nat_le (suc i) s.promises ≡ b → claims to (Promise to i) s.known + Brings (Promise to i) ≤ once b
   unfolding once
@@ -255,8 +211,6 @@ module _ (script : Script) (w : World) (from to : ℕ) (l : Link) (n : Note Name
   brings_neither (Root u) k = let h = plain_once (Root u) tt tt in omega arith
   brings_neither (Object u i) k = let none = none_at (Object u i) tt (λ a. eventual (Object u i) a) (note_up (Told script w) (NeverNew (Object u i)) (object_never u i) n told) in omega arith
   brings_neither (Promise u i) k = promise_either u i (to == u) refl
-  brings_neither (Answer h m) k = absurd k
-  brings_neither (Gift h i) k = absurd k
   brings_neither (Sent m) k = let none = none_at (Sent m) tt (λ a. eventual (Sent m) a) (note_up (Told script w) (NeverNew (Sent m)) sent_never n told) in omega arith
     where
       sent_never : (b : Bit Name) → Told script w b → NeverNew (Sent m) b
@@ -268,3 +222,4 @@ module _ (script : Script) (w : World) (from to : ℕ) (l : Link) (n : Note Name
       sent_never (Entered y) h = tt
       sent_never (Owns y j) h = tt
       sent_never (Gave j) h = tt
+  brings_neither other k = absurd k

@@ -50,11 +50,7 @@ deliver_or false p q m n e f = omega arith
 -- a message brings no gift
 sent_is : (vats : List (Vat Name)) (m : Name) → IsMessageMade vats m → (x : Msg) × (m ≡ Sent x)
 sent_is vats (Sent x) h = (x, refl)
-sent_is vats (Root w) h = absurd h
-sent_is vats (Object w j) h = absurd h
-sent_is vats (Promise w j) h = absurd h
-sent_is vats (Answer w x) h = absurd h
-sent_is vats (Gift w j) h = absurd h
+sent_is vats other h = absurd h
 
 here_none : (v h i : ℕ) (m : Msg) → answer_here v (Gift h i) (New (Sent m) (host_of (Sent m))) ≡ 0
 unfolding answer_here answer_of one same_name once

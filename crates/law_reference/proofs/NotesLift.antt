@@ -137,9 +137,7 @@ module _ (script : Script) (P : ℕ → Vat Name → Type 0) (B : ℕ → ℕ �
     unfolding world.put_back
     put_back_fits w x v head n (Gives a t) h k i = moved (record { fuel = t.fuel; drawn = t.drawn; vats = world.put_at v t w.vats; links = world.push_all v t.outbox w.links; connections = world.connections_after v t head w.connections; history = w.history ++ head ++ world.events_of w.links v t.happened }) x
         (λ u r e. put_one P v w.vats t k h.0 u r (put_at_or v t w.vats u r e), push_all_fits B v t.outbox w.links (law.outs v t k) h.1) i
-    put_back_fits w x v head n (Throws p t) h k i = cc
-    put_back_fits w x v head n (Ejects m y t) h k i = cc
-    put_back_fits w x v head n (Stops c t) h k i = cc
+    put_back_fits w x v head n other h k i = cc
 
     idle_fits : (k : ℕ) (w x : World) → InBoth w → world.idle script k w ≡ Going x → InBoth x
     unfolding world.idle

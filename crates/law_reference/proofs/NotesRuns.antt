@@ -61,9 +61,7 @@ module _ (script : Script) where
 
   both_give : (v : ℕ) (d : Done Name (Unit {0})) → AfterGives (InScript script v) d → AfterGives (CarriesOut v) d → AfterGives (Its v) d
   both_give v (Gives a t) h k = (h, k)
-  both_give v (Throws p t) h k = tt
-  both_give v (Ejects n y t) h k = tt
-  both_give v (Stops c t) h k = tt
+  both_give v other h k = tt
 
   pub both_all : {A : Type 0} (P Q : A → Type 0) (xs : List A) → AllOf P xs → AllOf Q xs → AllOf (λ (x : A). P x × Q x) xs
   both_all P Q [] h k = tt

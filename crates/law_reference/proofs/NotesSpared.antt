@@ -29,14 +29,7 @@ module _ (u v : ℕ) (s : Vat Name) (near : is_in v s.noticed ≡ false) (far : 
   value_spared : (y : Value Name) → IsOfEither u v y → ValueSpared s y
   value_spared (Ref n) (inl e) = of_sender n e
   value_spared (Ref n) (inr e) = of_receiver n e
-  value_spared Null h = tt
-  value_spared (Flag b) h = tt
-  value_spared (Number z) h = tt
-  value_spared (Letter c) h = tt
-  value_spared (Text t) h = tt
-  value_spared (Prim i) h = tt
-  value_spared (Broken t) h = tt
-  value_spared (Items k) h = tt
+  value_spared other h = tt
 
   mutual
     passes_spared : (y : Passed Name) → PassesBetween u v y → PassesSpared s y

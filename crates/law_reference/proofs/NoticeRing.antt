@@ -29,10 +29,9 @@ module _ (word : ℕ → ℕ) (v : ℕ) (D : ℕ → Type 0) (Seen : Name → Ty
 
   broke_hosted : {C : Fact Name} (w : ℕ) (n : Name) (p : Words) (t : Standing Name) → Fine N M C (arrive.break_hosted N w n p t) nothing
   unfolding arrive.break_hosted
-  broke_hosted {C = C} w n p Unsettled = settle_broken word v false D Seen ls C n p
-  broke_hosted {C = C} w n p (WaitsOn q) = settle_broken word v false D Seen ls C n p
   broke_hosted {C = C} w n p (Viewed q) = search (fine, looks) depth 30
   broke_hosted {C = C} w n p (Settled y) = search (fine, looks) depth 30
+  broke_hosted {C = C} w n p other = settle_broken word v false D Seen ls C n p
 
   broke_name : {C : Fact Name} (w : ℕ) (k : Known Name) → Fine N M C (arrive.notice_name N w k) nothing
   unfolding arrive.notice_name
@@ -52,9 +51,7 @@ module _ (word : ℕ → ℕ) (v : ℕ) (D : ℕ → Type 0) (Seen : Name → Ty
 
   ends_after : (s : Vat Name) (d : Done Name (Unit {0})) → Ends N M nothing s d → After (λ r t. Sound N t × Ringless N v D Seen [] t × TellsSo N D t) s d
   ends_after s (Gives a t) h = (h.1.0, h.1.1, h.1.2)
-  ends_after s (Throws p t) h = (h.1.0, h.1.1, h.1.2)
-  ends_after s (Ejects n x t) h = (h.1.0, h.1.1, h.1.2)
-  ends_after s (Stops c t) h = (h.1.0, h.1.1, h.1.2)
+  ends_after s other h = (h.1.0, h.1.1, h.1.2)
 
 pub notices_keep : (D : ℕ → Type 0) (Seen : Name → Type 0) → NoticesKeep D Seen
 unfolding does

@@ -50,11 +50,7 @@ once_and false r e = cc
 pub onward_least : (v g : ℕ) (m : Msg) (id : Name) → (g ≡ v → ⊥) → same_one id (Sent m) ≤ onward v (Answer g m) id
 unfolding onward one same_one same_name host_of
 onward_least v g m (Sent n) f = at_least (g == v) (g == g) (same_msg n m) (not_equal g v f) (eq-eqb g g refl)
-onward_least v g m (Root w) f = let z = nothing in omega arith
-onward_least v g m (Object w i) f = let z = nothing in omega arith
-onward_least v g m (Promise w i) f = let z = nothing in omega arith
-onward_least v g m (Answer w n) f = let z = nothing in omega arith
-onward_least v g m (Gift w i) f = let z = nothing in omega arith
+onward_least v g m other f = let z = nothing in omega arith
 
 zero_or : (b : Bool) (c d : ℕ) → c ≤ d → elim b [ true ↦ 0 | false ↦ c ] ≤ d
 zero_or true c d h = omega arith
@@ -67,20 +63,12 @@ same_answer g n m = once_and (g == g) (same_msg n m) (eq-eqb g g refl)
 pub onward_most : (v g : ℕ) (m : Msg) (id : Name) → IsMessageName id → onward v (Answer g m) id ≤ same_one id (Sent m)
 unfolding onward same_one same_name host_of
 onward_most v g m (Sent n) i = zero_or (g == v) (one (Answer g n) (Answer g m)) (same_once (same_msg n m)) (same_answer g n m)
-onward_most v g m (Root w) i = absurd i
-onward_most v g m (Object w j) i = absurd i
-onward_most v g m (Promise w j) i = absurd i
-onward_most v g m (Answer w n) i = absurd i
-onward_most v g m (Gift w j) i = absurd i
+onward_most v g m other i = absurd i
 
 pub onward_own : (v : ℕ) (m : Msg) (id : Name) → IsMessageName id → onward v (Answer v m) id ≡ 0
 unfolding onward host_of
 onward_own v m (Sent n) i = zero_when (v == v) (one (Answer v n) (Answer v m)) (eq-eqb v v refl)
-onward_own v m (Root w) i = absurd i
-onward_own v m (Object w j) i = absurd i
-onward_own v m (Promise w j) i = absurd i
-onward_own v m (Answer w n) i = absurd i
-onward_own v m (Gift w j) i = absurd i
+onward_own v m other i = absurd i
 
 -- the answers that a message brings: here, or elsewhere
 pub mail_most : (v g : ℕ) (m : Msg) (id : Name) → IsMessageName id → one (answer_of v id) (Answer g m) + onward v (Answer g m) id ≤ same_one id (Sent m)
@@ -92,11 +80,7 @@ mail_most v g m (Sent n) i = either (v == g) (g == v) refl refl
     either false true e f = omega arith
     either false false e f = let l = once_and (g == g) (same_msg n m) (eq-eqb g g refl) in omega arith
     either true false e f = absurd (true_false (sym (eq-eqb g v (sym (eqb-true v g e))) ∙ f))
-mail_most v g m (Root w) i = absurd i
-mail_most v g m (Object w j) i = absurd i
-mail_most v g m (Promise w j) i = absurd i
-mail_most v g m (Answer w n) i = absurd i
-mail_most v g m (Gift w j) i = absurd i
+mail_most v g m other i = absurd i
 
 -- ---- sums
 

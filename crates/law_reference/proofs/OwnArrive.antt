@@ -82,9 +82,7 @@ module _ (word : ℕ → ℕ) (v : ℕ) (Spares : ℕ → Type 0) where
   then_given : {A : Type 0} (s : Vat Name) (d : Done Name (Unit {0})) (a : A) → GivesBy (KeepsOwn word v Spares) s d → GivesBy (KeepsOwn word v Spares) s (and_then d (λ _. give a))
   unfolding and_then give
   then_given s (Gives b t) a h = h
-  then_given s (Throws q t) a h = tt
-  then_given s (Ejects n y t) a h = tt
-  then_given s (Stops c t) a h = tt
+  then_given s other a h = tt
 
   abbrev CameGift : ℕ → ℕ → Vat Name → Vat Name
   CameGift h i s = record s { known = s.known ++ begun (Gift h i) h ∷ [] }
@@ -176,9 +174,7 @@ module _ (word : ℕ → ℕ) (v : ℕ) (Spares : ℕ → Type 0) where
   own_break_at : (n : Name) (p : Words) (t : Standing Name) → Keeping (arrive.break_at Names n p t)
   unfolding arrive.break_at
   own_break_at n p (Settled y) = own_give word v Spares tt
-  own_break_at n p (Viewed q) = own_settle word v Spares n _
-  own_break_at n p (WaitsOn q) = own_settle word v Spares n _
-  own_break_at n p Unsettled = own_settle word v Spares n _
+  own_break_at n p other = own_settle word v Spares n _
 
   own_break_unopened : (n : Name) (b : Bool) → Keeping (arrive.break_unopened Names n b)
   unfolding arrive.break_unopened
@@ -192,9 +188,7 @@ module _ (word : ℕ → ℕ) (v : ℕ) (Spares : ℕ → Type 0) where
   own_tell_asker : (n : Name) (w : ℕ) (t : Standing Name) → host_of n ≡ v → Keeping (arrive.tell_asker Names n w t)
   unfolding arrive.tell_asker
   own_tell_asker n w (Settled y) e = own_inform word v Spares n w e
-  own_tell_asker n w (Viewed q) e = own_to_tell word v Spares w n e
-  own_tell_asker n w (WaitsOn q) e = own_to_tell word v Spares w n e
-  own_tell_asker n w Unsettled e = own_to_tell word v Spares w n e
+  own_tell_asker n w other e = own_to_tell word v Spares w n e
 
   -- ---- the notes
 
@@ -205,11 +199,7 @@ module _ (word : ℕ → ℕ) (v : ℕ) (Spares : ℕ → Type 0) where
   answer_own : (u : ℕ) (m : Name) → IsMessageName m → host_of (answer_of u m) ≡ u
   unfolding answer_of host_of
   answer_own u (Sent m) i = refl
-  answer_own u (Root w) i = absurd i
-  answer_own u (Object w j) i = absurd i
-  answer_own u (Promise w j) i = absurd i
-  answer_own u (Answer w m) i = absurd i
-  answer_own u (Gift w j) i = absurd i
+  answer_own u other i = absurd i
 
   came_answer : (u : ℕ) (m : Name) (f : Name → Act Name (Unit {0})) → IsMessageName m → host_of (answer_of u m) ≡ v → Keeping (f (answer_of u m)) → Keeping (come Names (IsAnswer u m) u >>= f)
   unfolding ◌>>=◌ come and_then naming name_of
@@ -256,10 +246,7 @@ module _ (word : ℕ → ℕ) (v : ℕ) (Spares : ℕ → Type 0) where
   own_shorten : (i : ℕ) (p : Place Name) → PlaceFits word v Spares p → Keeping (arrive.shorten_to Names i p)
   unfolding arrive.shorten_to
   own_shorten i (Away h n true) e = own_out word v Spares h (Open i n) e.0
-  own_shorten i (Away h n false) e = own_give word v Spares tt
-  own_shorten i Near e = own_give word v Spares tt
-  own_shorten i (Mine n) e = own_give word v Spares tt
-  own_shorten i (Gone t) e = own_give word v Spares tt
+  own_shorten i other e = own_give word v Spares tt
 
   -- a note whose message is named as one, and whose names are free to wait where they are new
   abbrev pub NoteFree : List Name → Note Name → Type 0
@@ -301,11 +288,7 @@ module _ (word : ℕ → ℕ) (v : ℕ) (Spares : ℕ → Type 0) where
   -- a note that tells of no move of an object
   abbrev IsNoMove : Note Name → Type 0
   IsNoMove (Elsewhere n c) = ⊥
-  IsNoMove (Deliver m n verb ys) = Unit {0}
-  IsNoMove (Open i n) = Unit {0}
-  IsNoMove (Ask p i n) = Unit {0}
-  IsNoMove (SettledTo n y) = Unit {0}
-  IsNoMove (Shorten n c i) = Unit {0}
+  IsNoMove other = Unit {0}
 
   arrives : (from : ℕ) (ks : List Name) (n : Note Name) → NoteFree ks n → IsNoMove n → Keeping (arrive.arrive Names from (world.read_note ks n))
   unfolding arrive.arrive world.read_note arrive.arrive_deliver arrive.arrive_open arrive.arrive_ask arrive.arrive_settled arrive.arrive_shorten
@@ -342,10 +325,9 @@ module _ (word : ℕ → ℕ) (v : ℕ) (Spares : ℕ → Type 0) where
 
   own_break_hosted : (w : ℕ) (n : Name) (p : Words) (t : Standing Name) → Keeping (arrive.break_hosted Names w n p t)
   unfolding arrive.break_hosted
-  own_break_hosted w n p Unsettled = own_settle word v Spares n _
-  own_break_hosted w n p (WaitsOn q) = own_settle word v Spares n _
   own_break_hosted w n p (Viewed q) = own_give word v Spares tt
   own_break_hosted w n p (Settled y) = own_give word v Spares tt
+  own_break_hosted w n p other = own_settle word v Spares n _
 
   own_notice_name : (w : ℕ) (k : Known Name) → Keeping (arrive.notice_name Names w k)
   unfolding arrive.notice_name

@@ -43,16 +43,12 @@ module _ (word : ℕ → ℕ) (v : ℕ) (Spares : ℕ → Type 0) where
 
   pub widen : {A : Type 0} (s t : Vat Name) (d : Done Name A) → KeepsOwn s t → GivesBy KeepsOwn t d → GivesBy KeepsOwn s d
   widen s t (Gives a u) r h = λ o. let b = r o in let c = h b.0 in (c.0, wakes_on word v IsFree s.known t.known u.known b.1 c.1)
-  widen s t (Throws p u) r h = tt
-  widen s t (Ejects n y u) r h = tt
-  widen s t (Stops c u) r h = tt
+  widen s t other r h = tt
 
   bind_gives : {A B : Type 0} (s : Vat Name) (d : Done Name A) (f : A → Act Name B) → GivesBy KeepsOwn s d → ((a : A) → Gentle KeepsOwn (f a)) → GivesBy KeepsOwn s (and_then d f)
   unfolding and_then
   bind_gives s (Gives a t) f h k = widen s t (f a t) h ((k a).after t)
-  bind_gives s (Throws p t) f h k = tt
-  bind_gives s (Ejects n y t) f h k = tt
-  bind_gives s (Stops c t) f h k = tt
+  bind_gives s other f h k = tt
 
   pub own_bind : {A B : Type 0} {m : Act Name A} {f : A → Act Name B} → Gentle KeepsOwn m → ((a : A) → Gentle KeepsOwn (f a)) → Gentle KeepsOwn (m >>= f)
   unfolding ◌>>=◌
@@ -121,9 +117,7 @@ module _ (word : ℕ → ℕ) (v : ℕ) (Spares : ℕ → Type 0) where
   -- where what is kept of the state is asked for
   pub with_own : {A : Type 0} (s : Vat Name) (d : Done Name A) → (Whole s → GivesBy KeepsOwn s d) → GivesBy KeepsOwn s d
   with_own s (Gives a t) f = λ o. f o o
-  with_own s (Throws p t) f = tt
-  with_own s (Ejects n y t) f = tt
-  with_own s (Stops c t) f = tt
+  with_own s other f = tt
 
   -- ---- changes of what is known
 
@@ -224,11 +218,7 @@ module _ (word : ℕ → ℕ) (v : ℕ) (Spares : ℕ → Type 0) where
   foreign_host : (n : Name) (h : ℕ) → Names.spot n ≡ Foreign h → host_of n ≡ h
   unfolding naming spot_of host_of
   foreign_host (Object w i) h e = spot_host (v == w) w i h e
-  foreign_host (Root w) h e = cc
-  foreign_host (Promise w i) h e = cc
-  foreign_host (Answer w m) h e = cc
-  foreign_host (Gift w i) h e = cc
-  foreign_host (Sent m) h e = cc
+  foreign_host other h e = cc
 
   no_away : (n m : Name) (h : ℕ) (o : Bool) → Mine n ≡ Away h m o → ⊥
   no_away n m h o e = cc
@@ -255,21 +245,12 @@ module _ (word : ℕ → ℕ) (v : ℕ) (Spares : ℕ → Type 0) where
   pub away_hosted : (s : Vat Name) (y : Value Name) (m : Name) (h : ℕ) (o : Bool) → Whole s → place Names s y ≡ Away h m o → host_of m ≡ h
   unfolding place
   away_hosted s (Ref n) m h o w e = away_spot s n m h o (Names.spot n) refl w e
-  away_hosted s (Broken p) m h o w e = cc
-  away_hosted s Null m h o w e = cc
-  away_hosted s (Flag b) m h o w e = cc
-  away_hosted s (Number z) m h o w e = cc
-  away_hosted s (Letter c) m h o w e = cc
-  away_hosted s (Text t) m h o w e = cc
-  away_hosted s (Prim i) m h o w e = cc
-  away_hosted s (Items i) m h o w e = cc
+  away_hosted s other m h o w e = cc
 
   -- a place whose host, where it is away, is that of its name
   abbrev pub PlaceFits : Place Name → Type 0
   PlaceFits (Away h n o) = (host_of n ≡ h) × Spares h
-  PlaceFits Near = Unit {0}
-  PlaceFits (Mine n) = Unit {0}
-  PlaceFits (Gone t) = Unit {0}
+  PlaceFits other = Unit {0}
 
   not_true : (b : Bool) → (b ≡ true → ⊥) → b ≡ false
   not_true true f = absurd (f refl)
@@ -277,9 +258,7 @@ module _ (word : ℕ → ℕ) (v : ℕ) (Spares : ℕ → Type 0) where
 
   fits_at : (s : Vat Name) (x : Value Name) (p : Place Name) → Whole s → place Names s (refs.follow Names s x) ≡ p → PlaceFits p
   fits_at s x (Away h n o) w e = (away_hosted s (refs.follow Names s x) n h o w e, w.5 h (not_true (is_in h s.noticed) (λ i. nothing_of Names s h i x n o e)))
-  fits_at s x Near w e = tt
-  fits_at s x (Mine n) w e = tt
-  fits_at s x (Gone t) w e = tt
+  fits_at s x other w e = tt
 
   -- where a value is followed to
   pub place_fits : (s : Vat Name) (x : Value Name) → Whole s → PlaceFits (place Names s (refs.follow Names s x))
@@ -306,10 +285,7 @@ module _ (word : ℕ → ℕ) (v : ℕ) (Spares : ℕ → Type 0) where
   pub eventual_known : (ns : List Name) (n : Name) → IsEventual n → IsKnownIn ns n → IsAmong n ns
   eventual_known ns (Object w i) e a = absurd e
   eventual_known ns (Sent m) e a = absurd e
-  eventual_known ns (Root w) e a = a
-  eventual_known ns (Promise w i) e a = a
-  eventual_known ns (Answer w m) e a = a
-  eventual_known ns (Gift w i) e a = a
+  eventual_known ns other e a = a
 
   -- ---- passing
 
@@ -319,22 +295,14 @@ module _ (word : ℕ → ℕ) (v : ℕ) (Spares : ℕ → Type 0) where
 
   place_spot : (s : Vat Name) (n m : Name) (t : Spot) → spotted Names s n t ≡ Mine m → host_at Names s.number s.known m ≡ s.number
   unfolding spotted hosted
-  place_spot s n m (OwnThing i) e = cc
-  place_spot s n m (Foreign h) e = cc
   place_spot s n m NoObject e = let both = place_hosted (s.number == host_at Names s.number s.known n) n m (host_at Names s.number s.known n) s.number (λ i. sym (eqb-true s.number (host_at Names s.number s.known n) i)) e in ap (λ x. host_at Names s.number s.known x) (sym both.0) ∙ both.1
+  place_spot s n m other e = cc
 
   -- what is placed as a promise of this vat has this vat as its host
   place_mine : (s : Vat Name) (y : Value Name) (m : Name) → place Names s y ≡ Mine m → host_at Names s.number s.known m ≡ s.number
   unfolding place
   place_mine s (Ref n) m e = place_spot s n m (Names.spot n) e
-  place_mine s (Broken p) m e = cc
-  place_mine s Null m e = cc
-  place_mine s (Flag b) m e = cc
-  place_mine s (Number z) m e = cc
-  place_mine s (Letter c) m e = cc
-  place_mine s (Text t) m e = cc
-  place_mine s (Prim i) m e = cc
-  place_mine s (Items i) m e = cc
+  place_mine s other m e = cc
 
   drawn_gift : (w h : ℕ) (y : Value Name) (n : Name) → host_of n ≡ h → Gentle KeepsOwn (if h == w then give (Plain y) else (draw Names >>= (λ i. send_out h (Open i n) >> give (AGift h i))))
   drawn_gift w h y n e = own_if (h == w) (own_give (Plain y)) (own_bind own_draw (λ i. own_then (own_out h (Open i n) e) (own_give (AGift h i))))
@@ -347,8 +315,7 @@ module _ (word : ℕ → ℕ) (v : ℕ) (Spares : ℕ → Type 0) where
   unfolding refs.address_plain
   address_placed w y (Away h n o) s e = with_own s _ (λ k. (drawn_gift w h y n (away_hosted s y n h o k e)).after s)
   address_placed w y (Mine n) s e = told_plain w y n s (place_mine s y n e)
-  address_placed w y Near s e = (own_give (Plain y)).after s
-  address_placed w y (Gone p) s e = (own_give (Plain y)).after s
+  address_placed w y other s e = (own_give (Plain y)).after s
 
   own_address_plain : (w : ℕ) (y : Value Name) → Gentle KeepsOwn (refs.address Names w (Plain y))
   unfolding refs.address ◌>>=◌ look and_then
@@ -391,11 +358,7 @@ module _ (word : ℕ → ℕ) (v : ℕ) (Spares : ℕ → Type 0) where
   answer_hosted : (h : ℕ) (m : Name) → IsMessageName m → h ≡ host_of (answer_of h m)
   unfolding answer_of host_of
   answer_hosted h (Sent m) i = refl
-  answer_hosted h (Root w) i = absurd i
-  answer_hosted h (Object w j) i = absurd i
-  answer_hosted h (Promise w j) i = absurd i
-  answer_hosted h (Answer w m) i = absurd i
-  answer_hosted h (Gift w j) i = absurd i
+  answer_hosted h other i = absurd i
 
   pub own_answer : (h : ℕ) (m : Name) → IsMessageName m → Spares h → Gentle KeepsOwn (come Names (IsAnswer h m) h)
   unfolding come naming name_of
@@ -437,10 +400,7 @@ module _ (word : ℕ → ℕ) (v : ℕ) (Spares : ℕ → Type 0) where
   own_inform_of : (p : Name) (w : ℕ) (y : Value Name) (q : Place Name) → host_of p ≡ v → Gentle KeepsOwn (refs.inform_of Names p w y q)
   unfolding refs.inform_of
   own_inform_of p w y (Away h n true) e = own_out w (Elsewhere p h) e
-  own_inform_of p w y (Away h n false) e = own_told p w y e
-  own_inform_of p w y Near e = own_told p w y e
-  own_inform_of p w y (Mine n) e = own_told p w y e
-  own_inform_of p w y (Gone t) e = own_told p w y e
+  own_inform_of p w y other e = own_told p w y e
 
   pub own_inform : (p : Name) (w : ℕ) → host_of p ≡ v → Gentle KeepsOwn (refs.inform Names p w)
   unfolding refs.inform
@@ -454,9 +414,7 @@ module _ (word : ℕ → ℕ) (v : ℕ) (Spares : ℕ → Type 0) where
   own_standing : (settle : Name → Value Name → Act Name (Unit {0})) → OwnSettler settle → (p : Name) (y : Value Name) (k : Known Name) (t : Standing Name) → k.name ≡ p → IsOwnKnown v k → Gentle KeepsOwn (refs.settle_standing Names settle p y k t)
   unfolding refs.settle_standing
   own_standing settle good p y k (Settled z) e h = own_give tt
-  own_standing settle good p y k (Viewed q) e h = own_settle_known settle good p y k e h
-  own_standing settle good p y k (WaitsOn q) e h = own_settle_known settle good p y k e h
-  own_standing settle good p y k Unsettled e h = own_settle_known settle good p y k e h
+  own_standing settle good p y k other e h = own_settle_known settle good p y k e h
 
   gives_entry : (settle : Name → Value Name → Act Name (Unit {0})) → OwnSettler settle → (p : Name) (y : Value Name) (o : Option (Known Name)) (s : Vat Name) → entry_of Names s.known p ≡ o → GivesBy KeepsOwn s (refs.settle_entry Names settle p y o s)
   unfolding refs.settle_entry give
@@ -484,9 +442,7 @@ module _ (word : ℕ → ℕ) (v : ℕ) (Spares : ℕ → Type 0) where
   unfolding refs.resolve_to
   own_resolve_to p y (Mine q) f = own_wait_unless p q f
   own_resolve_to p y (Away h q false) f = own_wait_unless p q f
-  own_resolve_to p y (Away h q true) f = own_settle p y
-  own_resolve_to p y Near f = own_settle p y
-  own_resolve_to p y (Gone t) f = own_settle p y
+  own_resolve_to p y other f = own_settle p y
 
   pub own_resolve : (p : Name) (x : Value Name) → IsFree p → Gentle KeepsOwn (refs.resolve Names p x)
   unfolding refs.resolve
@@ -515,9 +471,7 @@ module _ (word : ℕ → ℕ) (v : ℕ) (Spares : ℕ → Type 0) where
   unfolding refs.resolve_to
   open_resolve_to p y (Mine q) s e = open_unless p q s e
   open_resolve_to p y (Away h q false) s e = open_unless p q s e
-  open_resolve_to p y (Away h q true) s e = (own_settle p y).after s
-  open_resolve_to p y Near s e = (own_settle p y).after s
-  open_resolve_to p y (Gone t) s e = (own_settle p y).after s
+  open_resolve_to p y other s e = (own_settle p y).after s
 
   pub open_resolve : (p : Name) (x : Value Name) (s : Vat Name) → standing_of Names s.known p ≡ Unsettled → GivesBy KeepsOwn s (refs.resolve Names p x s)
   unfolding refs.resolve ◌>>=◌ look and_then

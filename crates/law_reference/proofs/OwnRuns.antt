@@ -17,11 +17,7 @@ use Rattle.law_reference.proofs.RunLift.{StepsKeep, InVats, steps_keep, opens_ke
 
 pub message_named : (vats : List (Vat Name)) (m : Name) → IsMessageMade vats m → IsMessageName m
 message_named vats (Sent m) h = tt
-message_named vats (Root w) h = absurd h
-message_named vats (Object w i) h = absurd h
-message_named vats (Promise w i) h = absurd h
-message_named vats (Answer w m) h = absurd h
-message_named vats (Gift w i) h = absurd h
+message_named vats other h = absurd h
 
 -- each host
 abbrev pub Each : ℕ → Type 0
@@ -30,14 +26,7 @@ Each h = Unit {0}
 module _ (word : ℕ → ℕ) (v : ℕ) where
   value_free : (y : Value Name) → FreeValue word v Each y
   value_free (Ref n) = inr tt
-  value_free Null = tt
-  value_free (Flag b) = tt
-  value_free (Number z) = tt
-  value_free (Letter c) = tt
-  value_free (Text t) = tt
-  value_free (Prim i) = tt
-  value_free (Broken t) = tt
-  value_free (Items k) = tt
+  value_free other = tt
 
   mutual
     passed_free : (y : Passed Name) → FreePassed word v Each y
@@ -51,11 +40,10 @@ module _ (word : ℕ → ℕ) (v : ℕ) where
 
   note_free : (vats : List (Vat Name)) (d : List ℕ) (ks : List Name) (n : Note Name) → NoteOk (IsMade vats d) n → NoteFree word v Each ks n
   note_free vats d ks (Deliver e n verb ys) h = (message_named vats e.message h.0, inr tt, all_free ys)
-  note_free vats d ks (Open i n) h = inr tt
   note_free vats d ks (Ask p i n) h = tt
   note_free vats d ks (SettledTo n y) h = (inr tt, passed_free y)
-  note_free vats d ks (Elsewhere n c) h = inr tt
   note_free vats d ks (Shorten n c i) h = λ e. inr tt
+  note_free vats d ks other h = inr tt
 
 after_own : {A : Type 0} (word : ℕ → ℕ) (v : ℕ) (s : Vat Name) (d : Done Name A) → GivesBy (KeepsOwn word v Each) s d → Whole word v Each s → AfterGives (Whole word v Each) d
 after_own word v s d h o = gives_by (KeepsOwn word v Each) (Whole word v Each) s d (λ t k. (k o).0) h

@@ -18,11 +18,7 @@ use Rattle.law_reference.proofs.ArriveCosts.{arrive_after, costs_learn_all}
 same_less : (a b : Name) → once (same_reference a b) ≤ once (same_name a b)
 unfolding same_reference once
 same_less (Root w) b = omega arith
-same_less (Object w i) b = omega arith
-same_less (Promise w i) b = omega arith
-same_less (Answer w m) b = omega arith
-same_less (Gift w i) b = omega arith
-same_less (Sent m) b = omega arith
+same_less other b = omega arith
 
 module _ (v : ℕ) (word : ℕ → ℕ) (i : ℕ) where
   abbrev K : Naming Name Name
@@ -50,14 +46,12 @@ module _ (v : ℕ) (word : ℕ → ℕ) (i : ℕ) where
   severed_own : (u : Vat Name) (p : Spot) → p ≡ Own i → refs.severed_at K u It p ≡ Ref It
   unfolding refs.severed_at
   severed_own u (Own j) e = refl
-  severed_own u (Foreign w) e = cc
-  severed_own u NoObject e = cc
+  severed_own u other e = cc
 
   spotted_own : (u : Vat Name) (p : Spot) → p ≡ Own i → refs.spotted K u It p ≡ Near
   unfolding refs.spotted
   spotted_own u (Own j) e = refl
-  spotted_own u (Foreign w) e = cc
-  spotted_own u NoObject e = cc
+  spotted_own u other e = cc
 
   follows_itself : (u : Vat Name) → claims v It u.known ≤ 0 → refs.follow K u (Ref It) ≡ Ref It
   unfolding refs.follow refs.follow_at refs.standing_of refs.standing_in refs.led refs.severed naming

@@ -30,9 +30,7 @@ module _ (word : ℕ → ℕ) (v : ℕ) (Spares : ℕ → Type 0) where
   -- the message, whose answer the vat hosts where its target is not away
   abbrev OwnAt : Place Name → Message Name → Type 0
   OwnAt (Away h n o) m = IsMessageName m.id × ((host_of n ≡ h) × Spares h)
-  OwnAt Near m = IsOwnMail v m
-  OwnAt (Mine n) m = IsOwnMail v m
-  OwnAt (Gone t) m = IsOwnMail v m
+  OwnAt other m = IsOwnMail v m
 
   own_first : (m : Message Name) (y : Value Name) (p : Place Name) → OwnAt p m → Gentle (KeepsOwn word v Spares) (refs.send_first Names m y p)
   unfolding refs.send_first
@@ -53,16 +51,12 @@ module _ (word : ℕ → ℕ) (v : ℕ) (Spares : ℕ → Type 0) where
       → OwnAt p (record { id = Sent (record { sender = v; number = i }); target = y; verb = verb; args = args; answer = Some (Answer (answer_host Names u p) (record { sender = v; number = i })) })
   unfolding answer_host host_of
   own_at u i (Away h n o) y verb args e f = (tt, f)
-  own_at u i Near y verb args e f = (tt, e)
-  own_at u i (Mine n) y verb args e f = (tt, e)
-  own_at u i (Gone t) y verb args e f = (tt, e)
+  own_at u i other y verb args e f = (tt, e)
 
   host_free : (u : ℕ) (p : Place Name) → u ≡ v → PlaceFits word v Spares p → (answer_host Names u p ≡ v) ⊎ Spares (answer_host Names u p)
   unfolding answer_host
   host_free u (Away h n o) e f = inr f.1
-  host_free u Near e f = inl e
-  host_free u (Mine n) e f = inl e
-  host_free u (Gone t) e f = inl e
+  host_free u other e f = inl e
 
   abbrev SendNew : ℕ → Value Name → Value Name → Words → List (Value Name) → Place Name → ℕ → Act Name (Value Name)
   SendNew act x y verb args p u = new_message Names (answer_host Names u p) >>= (λ new. tell (Sends act (record { id = new.0; target = x; verb = verb; args = args; answer = Some new.1 }))
@@ -84,9 +78,7 @@ module _ (word : ℕ → ℕ) (v : ℕ) (Spares : ℕ → Type 0) where
 
   lone_at : (i : ℕ) (p : Place Name) (y : Value Name) (verb : Words) (args : List (Value Name)) → PlaceFits word v Spares p → OwnAt p (record { id = Sent (record { sender = v; number = i }); target = y; verb = verb; args = args; answer = None })
   lone_at i (Away h n o) y verb args f = (tt, f)
-  lone_at i Near y verb args f = (tt, tt)
-  lone_at i (Mine n) y verb args f = (tt, tt)
-  lone_at i (Gone t) y verb args f = (tt, tt)
+  lone_at i other y verb args f = (tt, tt)
 
   abbrev SendLone : ℕ → Value Name → Value Name → Words → List (Value Name) → Place Name → Act Name (Value Name)
   SendLone act x y verb args p = new_lone_message Names >>= (λ id. tell (Sends act (record { id = id; target = x; verb = verb; args = args; answer = None }))
@@ -103,9 +95,7 @@ module _ (word : ℕ → ℕ) (v : ℕ) (Spares : ℕ → Type 0) where
   unfolding refs.react_at
   own_react_at m (Mine n) i = own_react word v Spares m n i
   own_react_at m (Away h n false) i = own_react word v Spares m n i
-  own_react_at m (Away h n true) i = own_enqueue word v Spares m i
-  own_react_at m Near i = own_enqueue word v Spares m i
-  own_react_at m (Gone t) i = own_enqueue word v Spares m i
+  own_react_at m other i = own_enqueue word v Spares m i
 
   abbrev ReactNew : ℕ → Value Name → Value Name → Value Name → ℕ → Act Name (Value Name)
   ReactNew act x o near u = new_message Names u >>= (λ new. tell (Reacts act x o (refs.reaction Names new.0 near x new.1)) >> (look (λ s. refs.place Names s (refs.follow Names s x)) >>= (λ p. refs.react_at Names (refs.reaction Names new.0 near x new.1) p >> give (Ref new.1))))

@@ -27,12 +27,8 @@ module _ (v : ℕ) where
   to_held : (c : Change Name) (k : Known Name) → HoldsBy IsOwnPair c → HoldsOwn k → HoldsOwn (changed_to c k)
   unfolding changed_to
   to_held (Hold m) k g h = all_end (IsOwnMail v) k.held m h g
-  to_held (Wait q) k g h = h
-  to_held (WaitOn q) k g h = h
-  to_held (See q) k g h = h
-  to_held (React m) k g h = h
-  to_held (ToTell w) k g h = h
   to_held (Settle y) k g h = tt
+  to_held other k g h = h
 
   held_changed : (c : Change Name) (k : Known Name) → HoldsBy IsOwnPair c → HoldsOwn k → HoldsOwn (changed c k)
   unfolding changed

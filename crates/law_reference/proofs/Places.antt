@@ -55,38 +55,22 @@ held_places x s = let h = held_names x s.known in omega arith
 fare_most : (n : Name) (c : ℕ) → fare n c ≤ c + c
 unfolding fare
 fare_most (Object w i) c = omega arith
-fare_most (Root w) c = omega arith
-fare_most (Promise w i) c = omega arith
-fare_most (Answer w m) c = omega arith
-fare_most (Gift w i) c = omega arith
-fare_most (Sent m) c = omega arith
+fare_most other c = omega arith
 
 fare_least : (n : Name) (c : ℕ) → c ≤ fare n c
 unfolding fare
 fare_least (Object w i) c = omega arith
-fare_least (Root w) c = omega arith
-fare_least (Promise w i) c = omega arith
-fare_least (Answer w m) c = omega arith
-fare_least (Gift w i) c = omega arith
-fare_least (Sent m) c = omega arith
+fare_least other c = omega arith
 
 pub note_most : (x : Name) (n : Note Name) → weight x n ≤ of_note x n + of_note x n
 unfolding weight of_note in_note
 note_most x (Deliver d n verb ys) = fare_most n (one d.message x)
-note_most x (Open i n) = omega arith
-note_most x (Ask p i n) = omega arith
-note_most x (SettledTo n y) = omega arith
-note_most x (Elsewhere n c) = omega arith
-note_most x (Shorten n c i) = omega arith
+note_most x other = omega arith
 
 pub note_least : (x : Name) (n : Note Name) → of_note x n ≤ weight x n
 unfolding weight of_note in_note
 note_least x (Deliver d n verb ys) = fare_least n (one d.message x)
-note_least x (Open i n) = omega arith
-note_least x (Ask p i n) = omega arith
-note_least x (SettledTo n y) = omega arith
-note_least x (Elsewhere n c) = omega arith
-note_least x (Shorten n c i) = omega arith
+note_least x other = omega arith
 
 notes_most : (x : Name) (ns : List (Note Name)) → total (weight x) ns ≤ total (of_note x) ns + total (of_note x) ns
 unfolding total
@@ -182,11 +166,7 @@ module _ (g : ℕ) (m : Msg) where
     where
       is_one : (id : Name) → id ≡ Sent m → one id (Sent m) ≡ 1
       is_one id e = rw (e, same_self (Sent m)) refl
-  bears_weighs (Open i n) b = absurd b
-  bears_weighs (Ask p i n) b = absurd b
-  bears_weighs (SettledTo n y) b = absurd b
-  bears_weighs (Elsewhere n c) b = absurd b
-  bears_weighs (Shorten n c i) b = absurd b
+  bears_weighs other b = absurd b
 
   pub first_weighs : (ps : List (Put Name)) → PutsFirst g m ps → 1 ≤ put_to (Sent m) g ps
   unfolding put_to

@@ -46,14 +46,7 @@ module _ (v : ℕ) (asked : List Name) where
   value_fine : (y : Value Name) (ns : List Name) → Fine v ns → Fine v (wire.with_value v asked y ns)
   unfolding wire.with_value
   value_fine (Ref n) ns h = export_fine n ns h
-  value_fine Null ns h = h
-  value_fine (Flag b) ns h = h
-  value_fine (Number z) ns h = h
-  value_fine (Letter c) ns h = h
-  value_fine (Text t) ns h = h
-  value_fine (Prim n) ns h = h
-  value_fine (Broken p) ns h = h
-  value_fine (Items k) ns h = h
+  value_fine other ns h = h
 
   mutual
     unfolding wire.with_passed wire.with_all

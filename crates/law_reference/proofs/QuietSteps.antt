@@ -28,16 +28,12 @@ module _ (script : Script) (v : ℕ) (w : World) (s : Vat Name) (there : slice_g
   quiet_ends : (d : Done Name (Unit {0})) → Ends F nothing (readied w s) d → AfterGives (λ t. t.messages ≡ s.messages) d
   unfolding readied
   quiet_ends (Gives a t) e = let r = e.0 in let i : s.messages ≡ t.messages = r.messages in sym i
-  quiet_ends (Throws p t) e = tt
-  quiet_ends (Ejects n y t) e = tt
-  quiet_ends (Stops c t) e = tt
+  quiet_ends other e = tt
 
   learnt_ends : (d : Done Name (Unit {0})) → Ended false (inside script) w.vats v s there (low_at script w h v s there) (draw_word script.key) w.vats w.drawn (readied w s) d → AfterGives (λ t. t.messages ≡ s.messages) d
   unfolding readied
   learnt_ends (Gives a t) e = let r = e.0 in let i : s.messages ≡ t.messages = r.messages in sym i
-  learnt_ends (Throws p t) e = tt
-  learnt_ends (Ejects n y t) e = tt
-  learnt_ends (Stops c t) e = tt
+  learnt_ends other e = tt
 
   pub notice_quiet : (to : ℕ) → AfterGives (λ t. t.messages ≡ s.messages) (notice (names script v) to (readied w s))
   unfolding names

@@ -113,14 +113,7 @@ module _ (h i : ℕ) where
   value_reads : (y : Value Name) (ks : List Name) → new_in_value X (read_value ks y).read + seen ks ≤ seen (read_value ks y).known
   unfolding new_in_value read_value
   value_reads (Ref n) ks = name_reads ks n
-  value_reads Null ks = omega arith
-  value_reads (Flag b) ks = omega arith
-  value_reads (Number z) ks = omega arith
-  value_reads (Letter c) ks = omega arith
-  value_reads (Text t) ks = omega arith
-  value_reads (Prim n) ks = omega arith
-  value_reads (Broken p) ks = omega arith
-  value_reads (Items k) ks = omega arith
+  value_reads other ks = omega arith
 
   mutual
     unfolding new_in new_in_all read_passed read_all plain_read many_read more_read passing passing_all
@@ -148,14 +141,7 @@ module _ (h i : ℕ) where
   value_unnamed : (y : Value Name) (ks : List Name) → (IsRefTo X y → ⊥) → new_in_value X (read_value ks y).read ≡ 0
   unfolding new_in_value read_value
   value_unnamed (Ref n) ks f = name_unnamed ks n f
-  value_unnamed Null ks f = refl
-  value_unnamed (Flag b) ks f = refl
-  value_unnamed (Number z) ks f = refl
-  value_unnamed (Letter c) ks f = refl
-  value_unnamed (Text t) ks f = refl
-  value_unnamed (Prim n) ks f = refl
-  value_unnamed (Broken p) ks f = refl
-  value_unnamed (Items k) ks f = refl
+  value_unnamed other ks f = refl
 
   mutual
     unfolding new_in new_in_all read_passed read_all plain_read many_read more_read passing passing_all
@@ -227,14 +213,7 @@ module _ (h i : ℕ) where
     value_made : (y : Value Name) (ks : List Name) → ValueOk (IsMade vats d) y → 1 ≤ new_in_value X (read_value ks y).read → WasDrawn d i
     unfolding new_in_value read_value
     value_made (Ref n) ks m l = named_made n (name_brought ks n l) m
-    value_made Null ks m l = absurd (no_one l)
-    value_made (Flag b) ks m l = absurd (no_one l)
-    value_made (Number z) ks m l = absurd (no_one l)
-    value_made (Letter c) ks m l = absurd (no_one l)
-    value_made (Text t) ks m l = absurd (no_one l)
-    value_made (Prim n) ks m l = absurd (no_one l)
-    value_made (Broken p) ks m l = absurd (no_one l)
-    value_made (Items k) ks m l = absurd (no_one l)
+    value_made other ks m l = absurd (no_one l)
 
     gift_made : (g j : ℕ) → WasDrawn d j → Gift g j ≡ X → WasDrawn d i
     gift_made g j l e = subst (WasDrawn d) (gift_draw g j e) l

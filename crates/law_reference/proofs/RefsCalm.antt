@@ -67,9 +67,7 @@ module _ {N W : Type 0} (K : Naming N W) (G : N → Option N → Type 0) (Far : 
   -- what is away is far
   abbrev pub IsFarPlace : Place N → Type 0
   IsFarPlace (Away h n o) = Far h
-  IsFarPlace Near = Unit {0}
-  IsFarPlace (Mine n) = Unit {0}
-  IsFarPlace (Gone p) = Unit {0}
+  IsFarPlace other = Unit {0}
 
   pub calm_send_to : (settle : N → Value N → Act N (Unit {0})) → GoodSettler R settle → (m : Message N) → G m.id m.answer → (y : Value N) (p : Place N) → IsFarPlace p → Gentle R (refs.send_to K settle m y p)
   unfolding refs.send_to
@@ -99,9 +97,7 @@ module _ {N W : Type 0} (K : Naming N W) (G : N → Option N → Type 0) (Far : 
   calm_settle_standing : (settle : N → Value N → Act N (Unit {0})) → GoodSettler R settle → (p : N) (y : Value N) (k : Known N) (t : Standing N) → AllHeld k → Gentle R (refs.settle_standing K settle p y k t)
   unfolding refs.settle_standing
   calm_settle_standing settle good p y k (Settled z) h = goes_give K (CalmWith G) R law tt
-  calm_settle_standing settle good p y k (Viewed q) h = calm_settle_known settle good p y k h
-  calm_settle_standing settle good p y k (WaitsOn q) h = calm_settle_known settle good p y k h
-  calm_settle_standing settle good p y k Unsettled h = calm_settle_known settle good p y k h
+  calm_settle_standing settle good p y k other h = calm_settle_known settle good p y k h
 
   settle_found : (settle : N → Value N → Act N (Unit {0})) → GoodSettler R settle → (p : N) (y : Value N) (s : Vat N) (o : Option (Known N)) → entry_of K s.known p ≡ o → GivesBy R s (refs.settle_entry K settle p y o s)
   unfolding refs.settle_entry

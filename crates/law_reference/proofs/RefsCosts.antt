@@ -40,20 +40,12 @@ sent_onward v h m (Answer g a) e = same (h == g) refl
     same : (b : Bool) → (h == g) ≡ b → once (b && same_msg m a) ≤ elim (g == v) [ true ↦ 0 | false ↦ one (Answer g m) (Answer g a) ]
     same true f = let i : h ≡ g = eqb-true h g f in at_most (g == v) (once (same_msg m a)) (one (Answer g m) (Answer g a)) (rw i at (other_host v h e)) (let r = eq-eqb g g refl in rw (r, one, same_name) (omega arith))
     same false f = omega arith
-sent_onward v h m (Promise a b) e = omega arith
-sent_onward v h m (Root a) e = omega arith
-sent_onward v h m (Object a b) e = omega arith
-sent_onward v h m (Sent a) e = omega arith
-sent_onward v h m (Gift a b) e = omega arith
+sent_onward v h m other e = omega arith
 
 pub onward_covers : (v h : ℕ) (id x : Name) → (v == h) ≡ false → one (answer_of h id) x ≤ onward v x id
 unfolding onward answer_of
 onward_covers v h (Sent m) x e = sent_onward v h m x e
-onward_covers v h (Promise a b) x e = omega arith
-onward_covers v h (Root a) x e = omega arith
-onward_covers v h (Object a b) x e = omega arith
-onward_covers v h (Answer a b) x e = omega arith
-onward_covers v h (Gift a b) x e = omega arith
+onward_covers v h other x e = omega arith
 
 module _ (v : ℕ) (x : Name) where
   -- a settler makes no name known that is not claimed
@@ -154,9 +146,7 @@ module _ (v : ℕ) (x : Name) where
       settled_standing : (p : Name) (y : Value Name) (k : Known Name) (s : Vat Name) → entry_of K s.known p ≡ Some k → (t : Standing Name) → k.standing ≡ t → After (Knowing v x 0) s (refs.settle_standing K settle p y k t s)
       unfolding refs.settle_standing give
       settled_standing p y k s e (Settled z) i = none v x s
-      settled_standing p y k s e Unsettled i = settled_known p y k s e (rw i tt)
-      settled_standing p y k s e (WaitsOn q) i = settled_known p y k s e (rw i tt)
-      settled_standing p y k s e (Viewed q) i = settled_known p y k s e (rw i tt)
+      settled_standing p y k s e other i = settled_known p y k s e (rw i tt)
 
       settled_entry : (p : Name) (y : Value Name) (s : Vat Name) (o : Option (Known Name)) → entry_of K s.known p ≡ o → After (Knowing v x 0) s (refs.settle_entry K settle p y o s)
       unfolding refs.settle_entry give
@@ -195,9 +185,7 @@ module _ (v : ℕ) (x : Name) where
     -- what is left to pay for a new message: its answer elsewhere, where it is held
     unfoldable rest_of : Place Name → Name → ℕ
     rest_of (Mine n) id = onward v x id
-    rest_of (Away h n o) id = 0
-    rest_of Near id = 0
-    rest_of (Gone p) id = 0
+    rest_of other id = 0
 
     costs_send_first : (m : Message Name) (y : Value Name) (p : Place Name) → Keeps (Knowing v x (rest_of p m.id)) (refs.send_first K m y p)
     unfolding refs.send_first rest_of refs.send_to
@@ -210,9 +198,7 @@ module _ (v : ℕ) (x : Name) where
     unfolding refs.react_at
     free_react_at m (Mine n) = free_react v x K m n
     free_react_at m (Away h n false) = free_react v x K m n
-    free_react_at m (Away h n true) = free_enqueue v x m
-    free_react_at m Near = free_enqueue v x m
-    free_react_at m (Gone p) = free_enqueue v x m
+    free_react_at m other = free_enqueue v x m
 
     -- the answer of a new message here, and elsewhere, are no more than one
     here_or_there : (k : ℕ) (y : Name) → one (Answer v (record { sender = v; number = k })) y + onward v y (Sent (record { sender = v; number = k })) ≤ answers v k y
@@ -237,8 +223,7 @@ module _ (v : ℕ) (x : Name) where
     unfolding rest_of refs.answer_host
     new_costs u (Mine n) k e = rw e (here_or_there k x)
     new_costs u (Away h n o) k e = let a = answer_at h v k x in omega arith
-    new_costs u Near k e = let a = answer_at u v k x in omega arith
-    new_costs u (Gone p) k e = let a = answer_at u v k x in omega arith
+    new_costs u other k e = let a = answer_at u v k x in omega arith
 
     -- a message that is numbered, and not placed yet
     owes_new : (s : Vat Name) (h c : ℕ) (e : Happened Name) → one (Answer h (record { sender = v; number = s.messages })) x + c ≤ answers v s.messages x

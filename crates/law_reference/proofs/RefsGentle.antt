@@ -29,9 +29,7 @@ module _ {N W : Type 0} (K : Naming N W) (R : Vat N → Vat N → Type 0) (law :
   gives_standing : (settle : N → Value N → Act N (Unit {0})) → GoodSettler R settle → LastingSettler (Lasts K) settle → Settling K settle → (p : N) (y : Value N) (k : Known N) (t : Standing N) (s : Vat N) → entry_of K s.known p ≡ Some k → GivesBy R s (refs.settle_standing K settle p y k t s)
   unfolding refs.settle_standing give
   gives_standing settle good lasts settles p y k (Settled z) s e = law.same s
-  gives_standing settle good lasts settles p y k (Viewed q) s e = block settle good lasts settles p y k s e
-  gives_standing settle good lasts settles p y k (WaitsOn q) s e = block settle good lasts settles p y k s e
-  gives_standing settle good lasts settles p y k Unsettled s e = block settle good lasts settles p y k s e
+  gives_standing settle good lasts settles p y k other s e = block settle good lasts settles p y k s e
 
   gives_entry : (settle : N → Value N → Act N (Unit {0})) → GoodSettler R settle → LastingSettler (Lasts K) settle → Settling K settle → (p : N) (y : Value N) (o : Option (Known N)) (s : Vat N) → entry_of K s.known p ≡ o → GivesBy R s (refs.settle_entry K settle p y o s)
   unfolding refs.settle_entry give

@@ -32,15 +32,8 @@ abbrev mutual
 module _ (K : Naming Name Name) where
   by_unmade : (f : List (Value Name) → Passed Name) (ls : List (List (Value Name))) (y : Value Name) → ((vs : List (Value Name)) → IsUnmade (f vs)) → IsUnmade (refs.shape_by K f ls y)
   unfolding refs.shape_by
-  by_unmade f ls Null h = tt
-  by_unmade f ls (Flag b) h = tt
-  by_unmade f ls (Number z) h = tt
-  by_unmade f ls (Letter c) h = tt
-  by_unmade f ls (Text t) h = tt
-  by_unmade f ls (Prim p) h = tt
-  by_unmade f ls (Broken p) h = tt
-  by_unmade f ls (Ref n) h = tt
   by_unmade f ls (Items k) h = h (list_at ls k)
+  by_unmade f ls other h = tt
 
   shapes_unmade : (f : Value Name → Passed Name) (vs : List (Value Name)) → ((y : Value Name) → IsUnmade (f y)) → AreUnmade (refs.shapes K f vs)
   unfolding refs.shapes
@@ -59,15 +52,8 @@ module _ (K : Naming Name Name) where
 
   at_unmade : (s : Vat Name) (y : Value Name) → IsUnmade (refs.parcel_at K s y).value
   unfolding refs.parcel_at
-  at_unmade s Null = tt
-  at_unmade s (Flag b) = tt
-  at_unmade s (Number z) = tt
-  at_unmade s (Letter c) = tt
-  at_unmade s (Text t) = tt
-  at_unmade s (Prim p) = tt
-  at_unmade s (Broken p) = tt
-  at_unmade s (Ref n) = tt
   at_unmade s (Items k) = of_list_unmade s (Items k) _
+  at_unmade s other = tt
 
   parcel_unmade : (s : Vat Name) (x : Value Name) → IsUnmade (refs.parcel K s x).value
   unfolding refs.parcel
@@ -100,16 +86,12 @@ module _ (v : ℕ) (d0 : List ℕ) (F : ℕ → ℕ) (fresh : (x : ℕ) → (IsA
   yields_bind : {A B : Type 0} (c : A → ℕ → ℕ) (Ok : A → List ℕ → Type 0) (e : B → ℕ → ℕ) (Ok' : B → List ℕ → Type 0) (s : Vat Name) (d : Done Name A) (f : A → Act Name B) → Yields c Ok s d → ((a : A) (t : Vat Name) → Puts v d0 F (c a) (Ok a) s t → Yields e Ok' s (f a t)) → Yields e Ok' s (and_then d f)
   unfolding and_then
   yields_bind c Ok e Ok' s (Gives a t) f h k = k a t h
-  yields_bind c Ok e Ok' s (Throws p t) f h k = h
-  yields_bind c Ok e Ok' s (Ejects n y t) f h k = h
-  yields_bind c Ok e Ok' s (Stops z t) f h k = h
+  yields_bind c Ok e Ok' s other f h k = h
 
   -- with something done before it
   yields_widen : {A : Type 0} (c : A → ℕ → ℕ) (Ok : A → List ℕ → Type 0) (s t : Vat Name) → R s t → (d : Done Name A) → Yields c Ok t d → Yields c Ok s d
   yields_widen c Ok s t r (Gives a u) h = first_fair v d0 F (c a) (Ok a) s t u r h
-  yields_widen c Ok s t r (Throws p u) h = fair_trans v d0 F r h
-  yields_widen c Ok s t r (Ejects n y u) h = fair_trans v d0 F r h
-  yields_widen c Ok s t r (Stops z u) h = fair_trans v d0 F r h
+  yields_widen c Ok s t r other h = fair_trans v d0 F r h
 
   abbrev In : Passed Name → ℕ → ℕ
   In y i = gifts_in i y
@@ -162,8 +144,7 @@ module _ (v : ℕ) (d0 : List ℕ) (F : ℕ → ℕ) (fresh : (x : ℕ) → (IsA
   unfolding refs.address_plain give
   place_given w y s (Away h n o) e = away_given w h n y s (h == w) (λ f. away_abroad v word s y h n o f e) refl
   place_given w y s (Mine n) e = told_plain w n y s
-  place_given w y s Near e = plain w s y
-  place_given w y s (Gone t) e = plain w s y
+  place_given w y s other e = plain w s y
 
   -- two of them
   both : (w : ℕ) (y : Passed Name) (ys : Passeds Name) (s t u : Vat Name) → Puts v d0 F (In y) (Ok w y) s t → Puts v d0 F (InAll ys) (AllOk w ys) t u → Puts v d0 F (InAll (More y ys)) (AllOk w (More y ys)) s u
@@ -173,16 +154,12 @@ module _ (v : ℕ) (d0 : List ℕ) (F : ℕ → ℕ) (fresh : (x : ℕ) → (IsA
   joined : (w : ℕ) (y : Passed Name) (s t : Vat Name) → Puts v d0 F (In y) (Ok w y) s t → (d : Done Name (Passeds Name)) → Yields InAll (AllOk w) t d → Yields InAll (AllOk w) s (and_then d (λ zs. give (More y zs)))
   unfolding and_then give
   joined w y s t h (Gives zs u) k = both w y zs s t u h k
-  joined w y s t h (Throws p u) k = fair_trans v d0 F (less_fair v d0 F (In y) (Ok w y) s t h) k
-  joined w y s t h (Ejects n x u) k = fair_trans v d0 F (less_fair v d0 F (In y) (Ok w y) s t h) k
-  joined w y s t h (Stops z u) k = fair_trans v d0 F (less_fair v d0 F (In y) (Ok w y) s t h) k
+  joined w y s t h other k = fair_trans v d0 F (less_fair v d0 F (In y) (Ok w y) s t h) k
 
   many : (w : ℕ) (s : Vat Name) (d : Done Name (Passeds Name)) → Yields InAll (AllOk w) s d → Yields In (Ok w) s (and_then d (λ zs. give (Many zs)))
   unfolding and_then give gifts_in
   many w s (Gives zs t) h = h
-  many w s (Throws p t) h = h
-  many w s (Ejects n y t) h = h
-  many w s (Stops z t) h = h
+  many w s other h = h
 
   none_more : (w : ℕ) (s : Vat Name) → Puts v d0 F (InAll NoMore) (AllOk w NoMore) s s
   unfolding gifts_in_all
@@ -233,9 +210,7 @@ module _ (v : ℕ) (d0 : List ℕ) (F : ℕ → ℕ) (fresh : (x : ℕ) → (IsA
   deliver_then : (m : Message Name) (w : ℕ) (n : Name) (s : Vat Name) (d : Done Name (Passeds Name)) → Yields InAll (AllOk w) s d → After R s (and_then d (λ args. tell (Posted w m.id) >> send_out w (Deliver (refs.delivery_of K m) n m.verb args)))
   unfolding and_then ◌>>◌ tell send_out gifts_in_note
   deliver_then m w n s (Gives args t) h = put_in_hand w (InAll args) (AllOk w args) (record { to = w; note = Deliver (refs.delivery_of K m) n m.verb args }) s t _ refl refl refl refl (λ i. refl) (λ d o. o) h
-  deliver_then m w n s (Throws p t) h = h
-  deliver_then m w n s (Ejects i y t) h = h
-  deliver_then m w n s (Stops z t) h = h
+  deliver_then m w n s other h = h
 
   fair_deliver : (m : Message Name) (w : ℕ) (n : Name) → Keeps R (refs.deliver K m w n)
   unfolding refs.deliver ◌>>=◌
@@ -244,9 +219,7 @@ module _ (v : ℕ) (d0 : List ℕ) (F : ℕ → ℕ) (fresh : (x : ℕ) → (IsA
   settled_then : (p : Name) (w : ℕ) (s : Vat Name) (d : Done Name (Passed Name)) → Yields In (Ok w) s d → After R s (and_then d (λ z. send_out w (SettledTo p z)))
   unfolding and_then send_out gifts_in_note
   settled_then p w s (Gives z t) h = put_in_hand w (In z) (Ok w z) (record { to = w; note = SettledTo p z }) s t _ refl refl refl refl (λ i. refl) (λ d o. o) h
-  settled_then p w s (Throws q t) h = h
-  settled_then p w s (Ejects i y t) h = h
-  settled_then p w s (Stops z t) h = h
+  settled_then p w s other h = h
 
   fair_settled_to : (p : Name) (w : ℕ) (y : Value Name) → Keeps R (refs.pass K w y >>= (λ z. send_out w (SettledTo p z)))
   unfolding ◌>>=◌
@@ -255,10 +228,7 @@ module _ (v : ℕ) (d0 : List ℕ) (F : ℕ → ℕ) (fresh : (x : ℕ) → (IsA
   fair_inform_of : (p : Name) (w : ℕ) (y : Value Name) (q : Place Name) → Keeps R (refs.inform_of K p w y q)
   unfolding refs.inform_of
   fair_inform_of p w y (Away h n true) = search fair depth 14
-  fair_inform_of p w y (Away h n false) = fair_settled_to p w y
-  fair_inform_of p w y (Mine n) = fair_settled_to p w y
-  fair_inform_of p w y Near = fair_settled_to p w y
-  fair_inform_of p w y (Gone t) = fair_settled_to p w y
+  fair_inform_of p w y other = fair_settled_to p w y
 
   pub fair_inform : (p : Name) (w : ℕ) → Keeps R (refs.inform K p w)
   unfolding refs.inform
@@ -280,10 +250,8 @@ module _ (v : ℕ) (d0 : List ℕ) (F : ℕ → ℕ) (fresh : (x : ℕ) → (IsA
   module _ (settle : Name → Value Name → Act Name (Unit {0})) (good : FairSettler settle) where
     fair_send_to : (m : Message Name) (y : Value Name) (p : Place Name) → Keeps R (refs.send_to K settle m y p)
     unfolding refs.send_to
-    fair_send_to m y Near = search (fair, spared) depth 14
-    fair_send_to m y (Mine n) = search (fair, spared) depth 14
     fair_send_to m y (Away h n o) = fair_pass_on m h n
-    fair_send_to m y (Gone p) = search (fair, spared) depth 14
+    fair_send_to m y other = search (fair, spared) depth 14
 
     pub fair_send_on : (m : Message Name) → Keeps R (refs.send_on K settle m)
     unfolding refs.send_on
@@ -349,9 +317,7 @@ module _ (v : ℕ) (d0 : List ℕ) (F : ℕ → ℕ) (fresh : (x : ℕ) → (IsA
   unfolding refs.react_at
   fair_react_at m (Mine n) = search (fair, spared) depth 14
   fair_react_at m (Away h n false) = search (fair, spared) depth 14
-  fair_react_at m (Away h n true) = search (fair, spared) depth 14
-  fair_react_at m Near = search (fair, spared) depth 14
-  fair_react_at m (Gone p) = search (fair, spared) depth 14
+  fair_react_at m other = search (fair, spared) depth 14
 
   fair_react : (act : ℕ) (y o near : Value Name) → Keeps R (refs.react K act y o near)
   unfolding refs.react

@@ -85,12 +85,8 @@ module _ (word : ℕ → ℕ) (v : ℕ) (heed : Bool) (D : ℕ → Type 0) (Seen
   -- ---- a message that is sent on
 
   pub answer_view : (n : Name) → IsAnswerName n → IsView D n → ⊥
-  answer_view (Answer h m) a i = i
-  answer_view (Root w) a i = i
-  answer_view (Object w j) a i = i
-  answer_view (Promise w j) a i = i
-  answer_view (Sent m) a i = i
   answer_view (Gift h j) a i = absurd a
+  answer_view other a i = i
 
   -- the answer of a message that the vat is to answer
   own_answer : (a : Name) → (host_of a ≡ v) × IsAnswerName a → IsOwnName N v D a
@@ -163,10 +159,9 @@ module _ (word : ℕ → ℕ) (v : ℕ) (heed : Bool) (D : ℕ → Type 0) (Seen
   each_among ls C f (n ∷ ns) i = fine_then N (M ls) {C = C} nothing (i n (inl refl)) (each_among ls C f ns (λ m a. i m (inr a)))
 
   pub drop : {A : Type 0} (l : Mark) (ls : List Mark) (G : A → Fact Name) (s : Vat Name) (d : Done Name A) → At (l ∷ ls) G s d → At ls G s d
-  drop l ls G s (Gives a t) h = (h.0, (h.1.0, h.1.1, h.1.2, h.1.3.1), h.2)
   drop l ls G s (Throws p t) h = (h.0, (h.1.0, h.1.1, h.1.2, h.1.3.1))
-  drop l ls G s (Ejects n x t) h = (h.0, (h.1.0, h.1.1, h.1.2, h.1.3.1), h.2)
   drop l ls G s (Stops c t) h = (h.0, (h.1.0, h.1.1, h.1.2, h.1.3.1))
+  drop l ls G s other h = (h.0, (h.1.0, h.1.1, h.1.2, h.1.3.1), h.2)
 
   -- ---- what a name settled to is told
 
@@ -208,26 +203,12 @@ module _ (word : ℕ → ℕ) (v : ℕ) (heed : Bool) (D : ℕ → Type 0) (Seen
   severed_name : (s : Vat Name) (y : Value Name) (m : Name) → severed N s y ≡ Ref m → y ≡ Ref m
   unfolding severed
   severed_name s (Ref n) m e = ap (λ x. Ref x) (spot_name s n m (N.spot n) e)
-  severed_name s Null m e = e
-  severed_name s (Flag b) m e = e
-  severed_name s (Number z) m e = e
-  severed_name s (Letter c) m e = e
-  severed_name s (Text t) m e = e
-  severed_name s (Prim n) m e = e
-  severed_name s (Broken t) m e = e
-  severed_name s (Items k) m e = e
+  severed_name s other m e = e
 
   placed_name : (s : Vat Name) (y : Value Name) (h : ℕ) (n : Name) (o : Bool) → place N s y ≡ Away h n o → (m : Name) × (y ≡ Ref m)
   unfolding place
   placed_name s (Ref m) h n o e = (m, refl)
-  placed_name s Null h n o e = cc
-  placed_name s (Flag b) h n o e = cc
-  placed_name s (Number z) h n o e = cc
-  placed_name s (Letter c) h n o e = cc
-  placed_name s (Text t) h n o e = cc
-  placed_name s (Prim i) h n o e = cc
-  placed_name s (Broken t) h n o e = cc
-  placed_name s (Items k) h n o e = cc
+  placed_name s other h n o e = cc
 
   -- no list, as it is followed
   no_list_followed : (s : Vat Name) (y : Value Name) → Ringless N v D Seen (heeds word v heed D Seen s) s → NoPromise y → ((c : ℕ) → y ≡ Items c → ⊥) → (c : ℕ) → follow N s y ≡ Items c → ⊥
@@ -266,31 +247,16 @@ module _ (word : ℕ → ℕ) (v : ℕ) (heed : Bool) (D : ℕ → Type 0) (Seen
   unfolding refs.address_plain
   told_placed ls C p w y (Away h n o) g = told_away ls C p w h y n (h == w) g
   told_placed ls C p w y (Mine n) g = told_mine ls C p w y n g
-  told_placed ls C p w y Near g = told_here ls C p w y g
-  told_placed ls C p w y (Gone t) g = told_here ls C p w y g
+  told_placed ls C p w y other g = told_here ls C p w y g
 
   plain_parcel : (s : Vat Name) (y : Value Name) → ((c : ℕ) → y ≡ Items c → ⊥) → refs.parcel_at N s y ≡ record { weight = refs.own_weight y; value = Plain y }
   unfolding refs.parcel_at
   plain_parcel s (Items k) not = absurd (not k refl)
-  plain_parcel s Null not = refl
-  plain_parcel s (Flag b) not = refl
-  plain_parcel s (Number z) not = refl
-  plain_parcel s (Letter c) not = refl
-  plain_parcel s (Text t) not = refl
-  plain_parcel s (Prim n) not = refl
-  plain_parcel s (Broken t) not = refl
-  plain_parcel s (Ref n) not = refl
+  plain_parcel s other not = refl
 
   plain_passes : (y : Value Name) → ((c : ℕ) → y ≡ Items c → ⊥) → PlainPasses y
   plain_passes (Items k) not = not k refl
-  plain_passes Null not = tt
-  plain_passes (Flag b) not = tt
-  plain_passes (Number z) not = tt
-  plain_passes (Letter c) not = tt
-  plain_passes (Text t) not = tt
-  plain_passes (Prim n) not = tt
-  plain_passes (Broken t) not = tt
-  plain_passes (Ref n) not = tt
+  plain_passes other not = tt
 
   spent_told : (ls : List Mark) (p : Name) (w n : ℕ) (b : Bool) (y : Value Name) → PlainPasses y → (s : Vat Name) → Kept ls s → At ls nothing s (and_then (and_then (spent n b s) (λ u. refs.address N w (Plain y))) (Told p w))
   unfolding spent and_then refs.address ◌>>=◌ look
@@ -309,8 +275,7 @@ module _ (word : ℕ → ℕ) (v : ℕ) (heed : Bool) (D : ℕ → Type 0) (Seen
 
   list_told : (t : Standing Name) (c : ℕ) (z : Passed Name) → t ≡ Settled (Items c) → PassesSo N D t z
   list_told t c (Many ys) e = (c, e)
-  list_told t c (Plain y) e = tt
-  list_told t c (AGift h i) e = tt
+  list_told t c other e = tt
 
   tells_list : (ls : List Mark) (C : Fact Name) (p : Name) (w c : ℕ) (x : Value Name) → Gets N C (IsValue x) → Does (With p (Items c) ∷ ls) C (refs.pass N w x >>= Told p w) nothing
   tells_list ls C p w c x g = let js : List Mark = With p (Items c) ∷ ls in
@@ -335,10 +300,7 @@ module _ (word : ℕ → ℕ) (v : ℕ) (heed : Bool) (D : ℕ → Type 0) (Seen
     no_list : ((c : ℕ) → y ≡ Items c → ⊥) → (q : Place Name) → place N s z ≡ q → At ls nothing s (refs.inform_of N p w z q s)
     unfolding refs.inform_of
     no_list f (Away g n true) j = puts word v heed D Seen ls s w (Elsewhere p g) tt (elsewhere g n j) h
-    no_list f (Away g n false) j = tells_no_list ls p w z s (not_here f) h
-    no_list f (Mine n) j = tells_no_list ls p w z s (not_here f) h
-    no_list f Near j = tells_no_list ls p w z s (not_here f) h
-    no_list f (Gone t) j = tells_no_list ls p w z s (not_here f) h
+    no_list f other j = tells_no_list ls p w z s (not_here f) h
 
     listed : (c : ℕ) → y ≡ Items c → At ls nothing s ((refs.pass N w z >>= Told p w) s)
     listed c f = drop (With p (Items c)) ls nothing s _ ((tells_list ls (IsValue z) p w c z (got_itself N (IsValue z))).after s (with_settled ls p (Items c) s (settled ∙ ap (λ x. Settled x) f) h) (follow_there N s h.0 (Ref p) tt))
@@ -346,10 +308,7 @@ module _ (word : ℕ → ℕ) (v : ℕ) (heed : Bool) (D : ℕ → Type 0) (Seen
     as_list : (c : ℕ) → y ≡ Items c → (q : Place Name) → place N s z ≡ q → At ls nothing s (refs.inform_of N p w z q s)
     unfolding refs.inform_of
     as_list c f (Away g n true) j = puts word v heed D Seen ls s w (Elsewhere p g) tt (elsewhere g n j) h
-    as_list c f (Away g n false) j = listed c f
-    as_list c f (Mine n) j = listed c f
-    as_list c f Near j = listed c f
-    as_list c f (Gone t) j = listed c f
+    as_list c f other j = listed c f
 
     informs_if : (b : Bool) → At ls nothing s ((if b then give tt else refs.inform_of N p w z (place N s z)) s)
     unfolding give
@@ -470,12 +429,9 @@ module _ (word : ℕ → ℕ) (v : ℕ) (heed : Bool) (D : ℕ → Type 0) (Seen
 
   eventual_spot : (n : Name) → IsEventual n → N.spot n ≡ NoObject
   unfolding naming spot_of
-  eventual_spot (Root w) h = refl
-  eventual_spot (Promise w i) h = refl
-  eventual_spot (Answer w m) h = refl
-  eventual_spot (Gift w i) h = refl
   eventual_spot (Object w i) h = absurd h
   eventual_spot (Sent m) h = absurd h
+  eventual_spot other h = refl
 
   promise_place : (s : Vat Name) (n : Name) (p : Place Name) → IsEventual n → place N s (Ref n) ≡ p → (p ≡ Mine n) ⊎ (p ≡ Away (host_at N s.number s.known n) n false)
   unfolding place
@@ -511,11 +467,7 @@ module _ (word : ℕ → ℕ) (v : ℕ) (heed : Bool) (D : ℕ → Type 0) (Seen
 
   object_end : (n : Name) → IsObjectName n → IsEventual n → ⊥
   object_end (Object w i) o e = e
-  object_end (Root w) o e = o
-  object_end (Promise w i) o e = o
-  object_end (Answer w m) o e = o
-  object_end (Gift w i) o e = o
-  object_end (Sent m) o e = o
+  object_end other o e = o
 
   -- it is no promise
   abbrev NoPromisePlace : Place Name → Type 0
@@ -539,24 +491,14 @@ module _ (word : ℕ → ℕ) (v : ℕ) (heed : Bool) (D : ℕ → Type 0) (Seen
   object_place : (s : Vat Name) (n : Name) → IsObjectName n → NoPromisePlace (place N s (Ref n))
   unfolding place naming spot_of
   object_place s (Object w i) o = object_spotted s (v == w) (Object w i) w i
-  object_place s (Root w) o = absurd o
-  object_place s (Promise w i) o = absurd o
-  object_place s (Answer w m) o = absurd o
-  object_place s (Gift w i) o = absurd o
-  object_place s (Sent m) o = absurd o
+  object_place s other o = absurd o
 
   -- nor is what is no name
   plain_place : (s : Vat Name) (y : Value Name) → ((n : Name) → y ≡ Ref n → IsObjectName n) → NoPromisePlace (place N s y)
   unfolding place
   plain_place s (Ref n) o = object_place s n (o n refl)
-  plain_place s Null o = near_place
-  plain_place s (Flag b) o = near_place
-  plain_place s (Number z) o = near_place
-  plain_place s (Letter c) o = near_place
-  plain_place s (Text t) o = near_place
-  plain_place s (Prim i) o = near_place
-  plain_place s (Items k) o = near_place
   plain_place s (Broken t) o = gone_place t
+  plain_place s other o = near_place
 
   -- a view is resolved to an object
   pub resolve_object : heed ≡ true → (ls : List Mark) (C : Fact Name) (p x : Name) → IsObjectName x → Does ls C (refs.resolve N p (Ref x)) nothing
@@ -664,9 +606,7 @@ module _ (word : ℕ → ℕ) (v : ℕ) (heed : Bool) (D : ℕ → Type 0) (Seen
   unfolding refs.react_at
   reacts_at ls C m (Mine n) own g = record { after = λ s h c. altered word v heed D Seen ls s (React m) n h (fair_react word v heed D Seen s m n h.1 own) (g.at s.things s.lists c) }
   reacts_at ls C m (Away h n false) own g = record { after = λ s i c. altered word v heed D Seen ls s (React m) n i (fair_react word v heed D Seen s m n i.1 own) (g.at s.things s.lists c) }
-  reacts_at ls C m (Away w n true) own g = record { after = λ s h c. queued word v heed D Seen ls s m own (g.at s.things s.lists c) h }
-  reacts_at ls C m Near own g = record { after = λ s h c. queued word v heed D Seen ls s m own (g.at s.things s.lists c) h }
-  reacts_at ls C m (Gone t) own g = record { after = λ s h c. queued word v heed D Seen ls s m own (g.at s.things s.lists c) h }
+  reacts_at ls C m other own g = record { after = λ s h c. queued word v heed D Seen ls s m own (g.at s.things s.lists c) h }
 
   place_then : (ls : List Mark) (C : Fact Name) (x : Value Name) (m : Message Name) (a : Name) → IsOwn v m → Gets N C (IsMessage m) → Does ls C (look (λ s. place N s (follow N s x)) >>= (λ p. refs.react_at N m p >> give (Ref a))) IsValue
   unfolding ◌>>=◌ look and_then

@@ -32,11 +32,7 @@ pick_other false k o f e = e
 
 no_object : (n m : Name) → n ≡ m → NamesObject m → IsEventual n → ⊥
 no_object n (Object u i) e o v = rw e at v
-no_object n (Root u) e o v = o
-no_object n (Promise u i) e o v = o
-no_object n (Answer u i) e o v = o
-no_object n (Gift u i) e o v = o
-no_object n (Sent i) e o v = o
+no_object n other e o v = o
 
 object_unknown : (word : ℕ → ℕ) (v : ℕ) (ks : List (Known Name)) (m : Name) → AllOf IsEventual (names_in ks) → NamesObject m → entry_of (naming word v) ks m ≡ None
 unfolding entry_of naming
@@ -54,14 +50,7 @@ entry_well K (k0 ∷ ks) n k h e = well_head (K.same k0.name n) k0 k (entry_of K
 
 value_final : (word : ℕ → ℕ) (v : ℕ) (ks : List (Known Name)) (y : Value Name) → AllOf IsEventual (names_in ks) → NoPromise y → Final (naming word v) ks y
 value_final word v ks (Ref n) h p m e = let same : n ≡ m = cc in object_unknown word v ks m h (rw same at p)
-value_final word v ks Null h p m e = cc
-value_final word v ks (Flag b) h p m e = cc
-value_final word v ks (Number z) h p m e = cc
-value_final word v ks (Letter c) h p m e = cc
-value_final word v ks (Text t) h p m e = cc
-value_final word v ks (Prim i) h p m e = cc
-value_final word v ks (Broken t) h p m e = cc
-value_final word v ks (Items i) h p m e = cc
+value_final word v ks other h p m e = cc
 
 settled_well : (k : Known Name) (y : Value Name) → KnownWell k → k.standing ≡ Settled y → NoPromise y
 settled_well k y h e = rw e at h.standing

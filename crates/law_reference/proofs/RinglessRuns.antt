@@ -26,11 +26,7 @@ use Rattle.law_reference.proofs.RinglessSteps.{NamesMail, is, By, On, ring_takin
 -- what is delivered is named as a message
 names_mail : (word : ℕ → ℕ) (v : ℕ) (vats : List (Vat Name)) (d : List ℕ) (n : Note Name) → NoteOk (IsMade vats d) n → NamesMail n
 names_mail word v vats d (Deliver e n verb ys) h = message_named vats e.message h.0
-names_mail word v vats d (Open i n) h = tt
-names_mail word v vats d (Ask p i n) h = tt
-names_mail word v vats d (SettledTo n y) h = tt
-names_mail word v vats d (Elsewhere n c) h = tt
-names_mail word v vats d (Shorten n c i) h = tt
+names_mail word v vats d other h = tt
 
 module _ (script : Script) where
   abbrev word : ℕ → ℕ

@@ -27,11 +27,7 @@ use Rattle.law_reference.proofs.WaitRingless.{StepIn, Linked, AnswersDiffer, onc
 -- what a note delivers is named as a message
 abbrev pub NamesMail : Note Name → Type 0
 NamesMail (Deliver d n verb ys) = IsMessageName d.message
-NamesMail (Open i n) = Unit {0}
-NamesMail (Ask p i n) = Unit {0}
-NamesMail (SettledTo n y) = Unit {0}
-NamesMail (Elsewhere n c) = Unit {0}
-NamesMail (Shorten n c i) = Unit {0}
+NamesMail other = Unit {0}
 
 module _ (word : ℕ → ℕ) (v : ℕ) where
   abbrev Names : Naming Name Name
@@ -56,9 +52,7 @@ module _ (word : ℕ → ℕ) (v : ℕ) where
 
   with_owned : {A : Type 0} (s : Vat Name) (d : Done Name A) → (Owned v s → GivesBy By s d) → GivesBy By s d
   with_owned s (Gives a t) f = λ o. f o o
-  with_owned s (Throws p t) f = tt
-  with_owned s (Ejects n y t) f = tt
-  with_owned s (Stops c t) f = tt
+  with_owned s other f = tt
 
   -- ---- new messages
 
@@ -83,11 +77,7 @@ module _ (word : ℕ → ℕ) (v : ℕ) where
   answer_host : (u : ℕ) (m : Name) → IsMessageName m → host_of (answer_of u m) ≡ u
   unfolding answer_of host_of
   answer_host u (Sent m) i = refl
-  answer_host u (Root w) i = absurd i
-  answer_host u (Object w j) i = absurd i
-  answer_host u (Promise w j) i = absurd i
-  answer_host u (Answer w m) i = absurd i
-  answer_host u (Gift w j) i = absurd i
+  answer_host u other i = absurd i
 
   differ : AnswersDiffer Names is v
   unfolding naming name_of

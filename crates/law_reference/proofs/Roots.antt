@@ -46,9 +46,7 @@ moved w x h e = rw (going_is w x e) at h
 put_back_rooted : (v : ℕ) (w x : World) (head : List Event) (n : ℕ) (d : Done Name (Unit {0})) → AllRooted w → world.put_back v w head n d ≡ Going x → AllRooted x
 unfolding world.put_back
 put_back_rooted v w x head n (Gives a t) h e = moved _ x (push_all_rooted v t.outbox w.links h) e
-put_back_rooted v w x head n (Throws p t) h e = cc
-put_back_rooted v w x head n (Ejects m y t) h e = cc
-put_back_rooted v w x head n (Stops c t) h e = cc
+put_back_rooted v w x head n other h e = cc
 
 within_rooted : (v : ℕ) (w x : World) (head : List Event) (n : ℕ) (m : Act Name (Unit {0})) (o : Option (Vat Name)) → AllRooted w → world.within v w head n m o ≡ Going x → AllRooted x
 unfolding world.within

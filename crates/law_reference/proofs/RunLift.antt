@@ -45,9 +45,7 @@ link_ok P v w (l ∷ ls) h = either_link P (world.is_link v w l) l (world.link_a
 -- an entry that is no notice, or a notice that is allowed
 abbrev pub IsAllowed : (ℕ → ℕ → Type 0) → Entry → Type 0
 IsAllowed Allowed (NoticeLink v to) = Allowed v to
-IsAllowed Allowed (Turn v) = Unit {0}
-IsAllowed Allowed (Carry v to) = Unit {0}
-IsAllowed Allowed (CutLink v to) = Unit {0}
+IsAllowed Allowed other = Unit {0}
 
 -- where each notice is allowed, each entry is
 pub all_allowed : (Allowed : ℕ → ℕ → Type 0) → ((v to : ℕ) → Allowed v to) → (es : List Entry) → AllOf (IsAllowed Allowed) es
@@ -82,9 +80,7 @@ module _ (script : Script) (P : ℕ → Vat Name → Type 0) (Allowed : ℕ → 
     put_back_keeps : (w x : World) (v : ℕ) (head : List Event) (n : ℕ) (d : Done Name (Unit {0})) → InVats w → AfterGives (P v) d → world.put_back v w head n d ≡ Going x → InVats x
     unfolding world.put_back
     put_back_keeps w x v head n (Gives a t) h k i = moved (record { fuel = t.fuel; drawn = t.drawn; vats = put_at v t w.vats; links = world.push_all v t.outbox w.links; connections = world.connections_after v t head w.connections; history = w.history ++ head ++ world.events_of w.links v t.happened }) x (λ u r e. put_one P v w.vats t k h u r (put_at_or v t w.vats u r e)) i
-    put_back_keeps w x v head n (Throws p t) h k i = cc
-    put_back_keeps w x v head n (Ejects m y t) h k i = cc
-    put_back_keeps w x v head n (Stops c t) h k i = cc
+    put_back_keeps w x v head n other h k i = cc
 
     idle_keeps : (k : ℕ) (w x : World) → InVats w → world.idle script k w ≡ Going x → InVats x
     unfolding world.idle

@@ -15,9 +15,7 @@ use Rattle.law_reference.proofs.Gentle.{AfterGives, gives_then, gives_after}
 settles_to : {N : Type 0} (t : Standing N) (y : Value N) (k new : Known N) → k.standing ≡ t → new.standing ≡ Settled y → (z : Value N) × ((unless_settled t k new).standing ≡ Settled z)
 unfolding unless_settled
 settles_to (Settled z) y k new e h = (z, e)
-settles_to (Viewed q) y k new e h = (y, h)
-settles_to (WaitsOn q) y k new e h = (y, h)
-settles_to Unsettled y k new e h = (y, h)
+settles_to other y k new e h = (y, h)
 
 pub change_settles : {N : Type 0} (y : Value N) (k : Known N) → (z : Value N) × ((changed (Settle y) k).standing ≡ Settled z)
 unfolding changed changed_to
@@ -123,9 +121,7 @@ module _ {N W : Type 0} (K : Naming N W) where
   standing_settles : (settle : N → Value N → Act N (Unit {0})) → GoodSettler Lasts settle → (p : N) (y : Value N) (k : Known N) (t : Standing N) (s : Vat N) → entry_of K s.known p ≡ Some k → k.standing ≡ t → AfterGives (IsSettled p) (refs.settle_standing K settle p y k t s)
   unfolding refs.settle_standing give
   standing_settles settle good p y k (Settled z) s e i = (z, standing_found K s.known p k z e i)
-  standing_settles settle good p y k (Viewed q) s e i = known_settles settle good p y k k s e
-  standing_settles settle good p y k (WaitsOn q) s e i = known_settles settle good p y k k s e
-  standing_settles settle good p y k Unsettled s e i = known_settles settle good p y k k s e
+  standing_settles settle good p y k other s e i = known_settles settle good p y k k s e
 
   entry_settles : (settle : N → Value N → Act N (Unit {0})) → GoodSettler Lasts settle → (p : N) (y : Value N) (k : Known N) (o : Option (Known N)) (s : Vat N) → entry_of K s.known p ≡ Some k → o ≡ Some k → AfterGives (IsSettled p) (refs.settle_entry K settle p y o s)
   unfolding refs.settle_entry

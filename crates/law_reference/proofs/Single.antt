@@ -42,16 +42,7 @@ Single vs = (v : ℕ) (s : Vat Name) → slice_get vs v ≡ Some s → (g : ℕ)
 -- a message on an object of this vat
 abbrev pub OwnTarget : ℕ → Note Name → Type 0
 OwnTarget v (Deliver id (Object w i) verb ys) = v ≡ w
-OwnTarget v (Deliver id (Root w) verb ys) = ⊥
-OwnTarget v (Deliver id (Promise w i) verb ys) = ⊥
-OwnTarget v (Deliver id (Answer w m) verb ys) = ⊥
-OwnTarget v (Deliver id (Gift w i) verb ys) = ⊥
-OwnTarget v (Deliver id (Sent m) verb ys) = ⊥
-OwnTarget v (Open i n) = ⊥
-OwnTarget v (Ask p i n) = ⊥
-OwnTarget v (SettledTo n y) = ⊥
-OwnTarget v (Elsewhere n c) = ⊥
-OwnTarget v (Shorten n c i) = ⊥
+OwnTarget v other = ⊥
 
 other_full : (v g : ℕ) (m : Msg) → (m.sender ≡ v → ⊥) → 1 ≤ other v (Answer g m)
 unfolding other
@@ -65,16 +56,7 @@ other_full v g m f = either (v == m.sender) refl
 own_target : (v a : ℕ) (m : Msg) (n : Note Name) → NoteSound a v n → 1 ≤ of_note (Sent m) n → weight (Sent m) n ≤ 1 → OwnTarget v n
 unfolding of_note in_note weight fare host_of
 own_target v a m (Deliver id (Object w i) verb ys) h k l = sym h
-own_target v a m (Deliver id (Root w) verb ys) h k l = absurd (omega arith)
-own_target v a m (Deliver id (Promise w i) verb ys) h k l = absurd (omega arith)
-own_target v a m (Deliver id (Answer w n) verb ys) h k l = absurd (omega arith)
-own_target v a m (Deliver id (Gift w i) verb ys) h k l = absurd (omega arith)
-own_target v a m (Deliver id (Sent n) verb ys) h k l = absurd (omega arith)
-own_target v a m (Open i x) h k l = absurd (omega arith)
-own_target v a m (Ask p i x) h k l = absurd (omega arith)
-own_target v a m (SettledTo x y) h k l = absurd (omega arith)
-own_target v a m (Elsewhere x c) h k l = absurd (omega arith)
-own_target v a m (Shorten x c i) h k l = absurd (omega arith)
+own_target v a m other h k l = absurd (omega arith)
 
 -- its answer here is none of another host
 pub abroad_none : (v g : ℕ) (m : Msg) (id : Name) → (g ≡ v → ⊥) → IsMessageName id → one (answer_of v id) (Answer g m) ≤ 0
@@ -84,26 +66,13 @@ abroad_none v g m (Sent k) f h = either (v == g) refl
     either : (b : Bool) → (v == g) ≡ b → once (b && same_msg k m) ≤ 0
     either true e = absurd (f (sym (eqb-true v g e)))
     either false e = omega arith
-abroad_none v g m (Root w) f h = absurd h
-abroad_none v g m (Object w i) f h = absurd h
-abroad_none v g m (Promise w i) f h = absurd h
-abroad_none v g m (Answer w k) f h = absurd h
-abroad_none v g m (Gift w i) f h = absurd h
+abroad_none v g m other f h = absurd h
 
 -- so such a note brings an answer of another host only by telling it
 pub own_brings : (v g : ℕ) (m : Msg) (from : ℕ) (gs : List (GiftEntry Name)) (ks : List Name) (n : Note Name) → (g ≡ v → ⊥) → NoteOk MailBits n → OwnTarget v n → brings_here v (Answer g m) from gs (read_note ks n) ≤ tells (Answer g m) (read_note ks n)
 unfolding brings_here tells read_note read_name is_old is_own is_own_name answer_here
 own_brings v g m from gs ks (Deliver d (Object w i) verb ys) f h e = rw (eq-eqb v w e, brings_here) (let a = abroad_none v g m d.message f h.0 in omega arith)
-own_brings v g m from gs ks (Deliver id (Root w) verb ys) f h e = absurd e
-own_brings v g m from gs ks (Deliver id (Promise w i) verb ys) f h e = absurd e
-own_brings v g m from gs ks (Deliver id (Answer w k) verb ys) f h e = absurd e
-own_brings v g m from gs ks (Deliver id (Gift w i) verb ys) f h e = absurd e
-own_brings v g m from gs ks (Deliver id (Sent k) verb ys) f h e = absurd e
-own_brings v g m from gs ks (Open i x) f h e = absurd e
-own_brings v g m from gs ks (Ask p i x) f h e = absurd e
-own_brings v g m from gs ks (SettledTo x y) f h e = absurd e
-own_brings v g m from gs ks (Elsewhere x c) f h e = absurd e
-own_brings v g m from gs ks (Shorten x c i) f h e = absurd e
+own_brings v g m from gs ks other f h e = absurd e
 
 module _ (script : Script) (w : World) (b : Before script w) (h : Legs w.vats w.links) (single : Single w.vats) (a v : ℕ) (s : Vat Name) (n : Note Name) (ns : List (Note Name)) (l : Link)
     (there : slice_get w.vats v ≡ Some s) (at : link_at a v w.links ≡ Some l) (notes : l.notes ≡ n ∷ ns) (g : ℕ) (m : Msg) where
@@ -135,11 +104,7 @@ module _ (script : Script) (w : World) (b : Before script w) (h : Legs w.vats w.
   of_told : (k : Note Name) → NoteOk (Told script w) k → 1 ≤ of_note M k → m.number < messages_of w.vats m.sender
   unfolding of_note in_note
   of_told (Deliver d x verb ys) t i = by_same d.message t.0.0 i
-  of_told (Open j x) t i = absurd (omega arith)
-  of_told (Ask p j x) t i = absurd (omega arith)
-  of_told (SettledTo x y) t i = absurd (omega arith)
-  of_told (Elsewhere x c) t i = absurd (omega arith)
-  of_told (Shorten x c j) t i = absurd (omega arith)
+  of_told other t i = absurd (omega arith)
 
   told : NoteOk (Told script w) n
   told = let st = stands_of script w b in found (link_at a v w.links) at (link_ok (λ (k : Link). AllOf (NoteOk (Told script w)) k.notes) a v w.links st.links)

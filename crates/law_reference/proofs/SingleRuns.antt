@@ -52,16 +52,7 @@ module _ (script : Script) (w : World) (a v : ℕ) (s t : Vat Name) (g : ℕ) (m
 
   pub near_told : (n : Note Name) → NoteOk MailBits n → OwnTarget v n → ((i : ℕ) → Free i n) → Came n → Told n
   near_told (Deliver id (Object u i) verb ys) h own free came = subst (λ z. Free i (Deliver id (Object z i) verb ys) → Came (Deliver id (Object z i) verb ys) → Told (Deliver id (Object z i) verb ys)) own (near_base i id verb ys h.0) (free i) came
-  near_told (Deliver id (Root u) verb ys) h own free came = absurd own
-  near_told (Deliver id (Promise u i) verb ys) h own free came = absurd own
-  near_told (Deliver id (Answer u k) verb ys) h own free came = absurd own
-  near_told (Deliver id (Gift u i) verb ys) h own free came = absurd own
-  near_told (Deliver id (Sent k) verb ys) h own free came = absurd own
-  near_told (Open i x) h own free came = absurd own
-  near_told (Ask p i x) h own free came = absurd own
-  near_told (SettledTo x y) h own free came = absurd own
-  near_told (Elsewhere x c) h own free came = absurd own
-  near_told (Shorten x c i) h own free came = absurd own
+  near_told other h own free came = absurd own
 
 -- ---- the moves
 

@@ -25,22 +25,8 @@ no_under d l = omega arith
 
 below_wider : (n d : ℕ) → n ≤ d → (ls : Lists Name) → ((k : ℕ) → k < n → MembersEndIn d ls (Items k)) → (v : Value Name) → IsBelow n v → MembersEndIn d ls v
 below_wider n d l ls f (Items k) h = f k h
-below_wider n zero l ls f Null h = tt
-below_wider n zero l ls f (Flag b) h = tt
-below_wider n zero l ls f (Number z) h = tt
-below_wider n zero l ls f (Letter c) h = tt
-below_wider n zero l ls f (Text t) h = tt
-below_wider n zero l ls f (Prim p) h = tt
-below_wider n zero l ls f (Broken p) h = tt
-below_wider n zero l ls f (Ref r) h = tt
-below_wider n (suc d) l ls f Null h = tt
-below_wider n (suc d) l ls f (Flag b) h = tt
-below_wider n (suc d) l ls f (Number z) h = tt
-below_wider n (suc d) l ls f (Letter c) h = tt
-below_wider n (suc d) l ls f (Text t) h = tt
-below_wider n (suc d) l ls f (Prim p) h = tt
-below_wider n (suc d) l ls f (Broken p) h = tt
-below_wider n (suc d) l ls f (Ref r) h = tt
+below_wider n zero l ls f other h = tt
+below_wider n (suc d) l ls f other h = tt
 
 all_of : {A : Type 0} {P Q : A → Type 0} → ((x : A) → P x → Q x) → (xs : List A) → AllOf P xs → AllOf Q xs
 all_of f [] h = tt

@@ -71,9 +71,7 @@ module _ (K : Naming Name Name) where
 
   ends_standing : (p i : ℕ) (s : Vat Name) (d : Done Name (Unit {0})) → Stands p i s.gifts → After SameGifts s d → ThenStands p i d
   ends_standing p i s (Gives a t) h k = k p i h
-  ends_standing p i s (Throws x t) h k = tt
-  ends_standing p i s (Ejects n y t) h k = tt
-  ends_standing p i s (Stops c t) h k = tt
+  ends_standing p i s other h k = tt
 
   is_there : (p i : ℕ) (b c : Bool) → elim b [ true ↦ c | false ↦ false ] ≡ true → (b ≡ true) × (c ≡ true)
   is_there p i true c e = (refl, e)

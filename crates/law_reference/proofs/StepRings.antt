@@ -38,15 +38,11 @@ some_vat s t e = cc
 -- where it gives
 abbrev pub Given : (Vat Name → Type 0) → Done Name (Unit {0}) → Type 0
 Given P (Gives a t) = P t
-Given P (Throws p t) = Unit {0}
-Given P (Ejects n x t) = Unit {0}
-Given P (Stops c t) = Unit {0}
+Given P other = Unit {0}
 
 after_given : (P Q : Vat Name → Type 0) (s : Vat Name) (d : Done Name (Unit {0})) → ((t : Vat Name) → P t → Q t) → After (λ r t. P t) s d → Given Q d
 after_given P Q s (Gives a t) f h = f t h
-after_given P Q s (Throws p t) f h = tt
-after_given P Q s (Ejects n x t) f h = tt
-after_given P Q s (Stops c t) f h = tt
+after_given P Q s other f h = tt
 
 all_each : {A : Type 0} {P : A → Type 0} → ((x : A) → P x) → (xs : List A) → AllOf P xs
 all_each f [] = tt
@@ -77,19 +73,13 @@ module _ (script : Script) where
     put_rings : (head : List Event) (n : ℕ) (d : Done Name (Unit {0})) → Given (Ended heed E w v) d → After (SettledStays (N v)) r d → world.put_back v (record w { links = ls }) head n d ≡ Goes x → RingsBy word heed E x
     unfolding world.put_back
     put_rings head n (Gives a t) h stays e = moved heed E _ x (next_rings word heed w v s r t D E there same stays into waits settled h.0 h.1 ls _ _ back links vats) e
-    put_rings head n (Throws p t) h stays e = cc
-    put_rings head n (Ejects m y t) h stays e = cc
-    put_rings head n (Stops c t) h stays e = cc
+    put_rings head n other h stays e = cc
 
   -- a step after which the draws of views are as before
   module _ (heed : Bool) (w x : World) (v : ℕ) (s r : Vat Name) (D : ℕ → Type 0) (there : slice_get w.vats v ≡ Some s) (same : r.known ≡ s.known) (rings : RingsBy word heed D w) where
     same_open : (n : Note Name) → OpenBack word D D n
     same_open (Open i n) = λ e. e
-    same_open (Deliver m n verb ys) = tt
-    same_open (Ask p i n) = tt
-    same_open (SettledTo n y) = tt
-    same_open (Elsewhere n c) = tt
-    same_open (Shorten n c i) = tt
+    same_open other = tt
 
     put_same : (head : List Event) (n : ℕ) (d : Done Name (Unit {0})) → Given (Ended heed D w v) d → After (SettledStays (N v)) r d → world.put_back v w head n d ≡ Goes x → RingsBy word heed D x
     put_same head n d h stays e = put_rings heed w x v s r w.links D D there same (λ n i. i) (λ u q f n p k g a i. i) (λ u q f n y g i. i) (all_each (λ l. all_each same_open l.notes) w.links) rings.links rings.vats head n d h stays e
@@ -236,28 +226,18 @@ module _ (script : Script) where
           E i = DrawsAfter word D R Read i
 
           draws_into : (m : Note (Incoming Name Name)) (i : ℕ) → D i → DrawsAfter word D R m i
-          draws_into (Deliver p y verb ys) i d = d
-          draws_into (Open j y) i d = d
-          draws_into (Ask p j y) i d = d
-          draws_into (SettledTo y z) i d = d
           draws_into (Elsewhere y c) i d = inl d
-          draws_into (Shorten y c j) i d = d
+          draws_into other i d = d
 
           draws_back : (m : Note (Incoming Name Name)) (i : ℕ) → DrawsAfter word D R m i → D i ⊎ (WasDrawn w.drawn i → ⊥)
           unfolding readied
-          draws_back (Deliver p y verb ys) i d = inl d
-          draws_back (Open j y) i d = inl d
-          draws_back (Ask p j y) i d = inl d
-          draws_back (SettledTo y z) i d = inl d
           draws_back (Elsewhere y c) i (inl d) = inl d
           draws_back (Elsewhere y c) i (inr e) = inr e.1
-          draws_back (Shorten y c j) i d = inl d
+          draws_back other i d = inl d
 
           arrived : (heed : Bool) (d : Done Name (Unit {0})) → ArrivedSo word to D E (Seen word w.vats to) heed d → Given (Ended false E w to) d
           arrived heed (Gives u t) h = (weaken E (Seen word w.vats to) to (heeded heed t) t h.1, h.2)
-          arrived heed (Throws p t) h = tt
-          arrived heed (Ejects m y t) h = tt
-          arrived heed (Stops c t) h = tt
+          arrived heed other h = tt
 
           ready_at : (heed : Bool) → Ringless (N to) to D (Seen word w.vats to) (heeded heed R) R
           unfolding readied

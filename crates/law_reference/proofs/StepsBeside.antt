@@ -10,12 +10,13 @@ use Rattle.def_run.specs.World as world
 use Rattle.def_run.specs.World.{Script, Program, World, names, names_of, read_note, readied}
 use Rattle.law_name.specs.Names.{Bit, Named, NoteOk, names_in}
 use Rattle.law_name.proofs.Care.{Care}
+use Rattle.law_name.proofs.Serves.{closing_some}
 use Rattle.law_name.proofs.Run.{Told, inside, low_at, Stands, sound_ready, knows_ready}
 use Rattle.law_reference.proofs.Gentle.{AfterGives}
 use Rattle.law_reference.proofs.Beside.{Stays}
 use Rattle.law_reference.proofs.CareBeside.{V as Cares, IsHere, quiet, changes}
 use Rattle.law_reference.proofs.CareMore.{KeptQuiet}
-use Rattle.law_reference.proofs.CareBlocks.{Changes, Blocks, serves_by, put_notice}
+use Rattle.law_reference.proofs.CareBlocks.{Changes, Blocks, serves_by, closes_by, put_notice}
 use Rattle.law_reference.proofs.StepsMore.{leaves_give, any_keeps, turn_keeps, opening_keeps}
 use Rattle.law_reference.proofs.ArriveBeside.{note_leaves}
 
@@ -39,15 +40,15 @@ module _ (script : Script) (w : World) (v : ℕ) (s : Vat Name) (there : slice_g
   abbrev keeps_quiet : KeptQuiet IsFit
   keeps_quiet = quiet (inside script) w.vats v s there (low_at script w h v s there) (draw_word script.key) Fit
 
-  starts : (ms : List (Message Name)) → IsFit (readied w (record s { queue = ms }))
+  starts : (fs ms : List (Message Name)) → s.queue ≡ fs ++ ms → IsFit (readied w (record s { queue = ms }))
   unfolding readied
-  starts ms = fits
+  starts fs ms e = fits
 
   pub turn_fits : (m : Message Name) (ms : List (Message Name)) → s.queue ≡ m ∷ ms → AfterGives IsFit (taking (names script v) (world.tree_at script.vats v) script.depth m (readied w (record s { queue = ms })))
-  turn_fits m ms e = turn_keeps script w v s there h IsFit keeps_quiet starts (serves_by K V Here single blocks) m ms e
+  turn_fits m ms e = turn_keeps script w v s there h IsFit keeps_quiet starts (serves_by K V Here single blocks) m ms e (closing_some K V (closes_by K V Here single blocks) m.answer)
 
   pub opening_fits : (p : Program) → slice_get script.vats v ≡ Some p → AfterGives IsFit (opening (names script v) p.tree script.depth (Root v) (world.given script.vats p.knows) (readied w s))
-  opening_fits p t = opening_keeps script w v s there h IsFit keeps_quiet starts (serves_by K V Here single blocks) p t
+  opening_fits p t = opening_keeps script w v s there h IsFit keeps_quiet starts (serves_by K V Here single blocks) p t (closes_by K V Here single blocks (Root v))
 
   pub notice_fits : (to : ℕ) → AfterGives IsFit (notice (names script v) to (readied w s))
   unfolding names

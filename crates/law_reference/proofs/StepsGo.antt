@@ -53,15 +53,8 @@ module _ {N W : Type 0} (K : Naming N W) (Can : Change N → Type 0) (R : Vat N 
 
   pub goes_learn_value : (x1 : Value (Incoming N W)) → Gentle R (arrive.learn_value K x1)
   unfolding arrive.learn_value
-  goes_learn_value Null = search goes depth 14
-  goes_learn_value (Flag b) = search goes depth 14
-  goes_learn_value (Number z) = search goes depth 14
-  goes_learn_value (Letter c) = search goes depth 14
-  goes_learn_value (Text t) = search goes depth 14
-  goes_learn_value (Prim n) = search goes depth 14
-  goes_learn_value (Broken p) = search goes depth 14
-  goes_learn_value (Items k) = search goes depth 14
   goes_learn_value (Ref x) = search (goes, goes_learn_name) depth 14
+  goes_learn_value other = search goes depth 14
 
   pub goes_ask_for : (x1 : ℕ) → (x2 : ℕ) → (x3 : ℕ) → (x4 : N) → Gentle R (arrive.ask_for K x1 x2 x3 x4)
   unfolding arrive.ask_for
@@ -142,10 +135,9 @@ module _ {N W : Type 0} (K : Naming N W) (Can : Change N → Type 0) (R : Vat N 
 
   pub goes_break_hosted : (x1 : ℕ) → (x2 : N) → (x3 : Words) → (x4 : Standing N) → Gentle R (arrive.break_hosted K x1 x2 x3 x4)
   unfolding arrive.break_hosted
-  goes_break_hosted w n p Unsettled = search (goes, refer_settle) depth 14
-  goes_break_hosted w n p (WaitsOn q) = search (goes, refer_settle) depth 14
   goes_break_hosted w n p (Viewed q) = search goes depth 14
   goes_break_hosted w n p (Settled y) = search goes depth 14
+  goes_break_hosted w n p other = search (goes, refer_settle) depth 14
 
   pub goes_notice_name : (x1 : ℕ) → (x2 : Known N) → Gentle R (arrive.notice_name K x1 x2)
   unfolding arrive.notice_name

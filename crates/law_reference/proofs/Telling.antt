@@ -78,23 +78,12 @@ name_tells x n ks = name_either x n ks (is_old ks n) refl
 value_tells : (x : Name) (y : Value Name) (ks : List Name) → new_in_value x (read_value ks y).read + has x ks ≤ has x (read_value ks y).known
 unfolding new_in_value read_value
 value_tells x (Ref n) ks = name_tells x n ks
-value_tells x Null ks = omega arith
-value_tells x (Flag b) ks = omega arith
-value_tells x (Number z) ks = omega arith
-value_tells x (Letter c) ks = omega arith
-value_tells x (Text t) ks = omega arith
-value_tells x (Prim i) ks = omega arith
-value_tells x (Broken t) ks = omega arith
-value_tells x (Items k) ks = omega arith
+value_tells x other ks = omega arith
 
 no_gift_one : (x : Name) (h i : ℕ) → IsNoGift x → one (Gift h i) x ≡ 0
 unfolding one same_name once
-no_gift_one (Root w) h i g = refl
-no_gift_one (Object w j) h i g = refl
-no_gift_one (Promise w j) h i g = refl
-no_gift_one (Answer w m) h i g = refl
 no_gift_one (Gift w j) h i g = absurd g
-no_gift_one (Sent m) h i g = refl
+no_gift_one other h i g = refl
 
 mutual
   unfolding new_in new_in_all read_passed read_all world.plain_read world.many_read world.more_read
@@ -150,35 +139,16 @@ name_not x n ks f = name_not_either x n (is_old ks n) f
 -- it is never new as x
 abbrev pub NeverNew : Name → Bit Name → Type 0
 NeverNew x (Named n) = (ks : List Name) → new_name x (read_name ks n) ≡ 0
-NeverNew x (Mail n) = Unit {0}
-NeverNew x (Drew i) = Unit {0}
-NeverNew x (At h) = Unit {0}
-NeverNew x (Off h) = Unit {0}
-NeverNew x (Entered y) = Unit {0}
-NeverNew x (Owns y j) = Unit {0}
-NeverNew x (Gave j) = Unit {0}
+NeverNew x other = Unit {0}
 
 pub avoids_never : (x : Name) (b : Bit Name) → Avoids x b → NeverNew x b
 avoids_never x (Named n) f = λ ks. name_not x n ks f
-avoids_never x (Mail n) f = tt
-avoids_never x (Drew i) f = tt
-avoids_never x (At h) f = tt
-avoids_never x (Off h) f = tt
-avoids_never x (Entered y) f = tt
-avoids_never x (Owns y j) f = tt
-avoids_never x (Gave j) f = tt
+avoids_never x other f = tt
 
 value_not : (x : Name) (y : Value Name) (ks : List Name) → ValueOk (NeverNew x) y → new_in_value x (read_value ks y).read ≡ 0
 unfolding new_in_value read_value
 value_not x (Ref n) ks f = f ks
-value_not x Null ks f = refl
-value_not x (Flag b) ks f = refl
-value_not x (Number z) ks f = refl
-value_not x (Letter c) ks f = refl
-value_not x (Text t) ks f = refl
-value_not x (Prim i) ks f = refl
-value_not x (Broken t) ks f = refl
-value_not x (Items k) ks f = refl
+value_not x other ks f = refl
 
 mutual
   unfolding new_in new_in_all read_passed read_all world.plain_read world.many_read world.more_read
@@ -198,19 +168,14 @@ note_not x ks (Deliver m n verb ys) g f = let a = passeds_not x ys ks g f.2 in l
 note_not x ks (Open i n) g f = f.1 ks
 note_not x ks (Ask p i n) g f = refl
 note_not x ks (SettledTo n y) g f = let a = f.0 ks in let b = passed_not x y (known_after ks n) g f.1 in omega arith
-note_not x ks (Elsewhere n c) g f = f.0 ks
-note_not x ks (Shorten n c i) g f = f.0 ks
+note_not x ks other g f = f.0 ks
 
 -- ---- what it brings
 
 -- how often its message brings a name
 unfoldable pub mails : ℕ → Name → Note (Incoming Name Name) → ℕ
 mails v x (Deliver d z verb ys) = new_answer v x d.message
-mails v x (Open i z) = 0
-mails v x (Ask p i z) = 0
-mails v x (SettledTo z y) = 0
-mails v x (Elsewhere z c) = 0
-mails v x (Shorten z c i) = 0
+mails v x other = 0
 
 no_gift_here : (v : ℕ) (x : Name) (i : ℕ) (o : Option (GiftEntry Name)) → IsNoGift x → new_gift_here v x i o ≡ 0
 unfolding new_gift_here
@@ -219,12 +184,9 @@ no_gift_here v x i None g = no_gift_one x v i g
 
 pub brings_parts : (v : ℕ) (x : Name) (from : ℕ) (gs : List (GiftEntry Name)) (n : Note (Incoming Name Name)) → IsNoGift x → brings v x from gs n ≡ mails v x n + tells x n
 unfolding brings mails tells
-brings_parts v x from gs (Deliver m z verb ys) g = omega arith
 brings_parts v x from gs (Open i z) g = let none = no_gift_here v x i (gift_at from i gs) g in omega arith
 brings_parts v x from gs (Ask p i z) g = no_gift_here v x i (gift_at p i gs) g
-brings_parts v x from gs (SettledTo z y) g = omega arith
-brings_parts v x from gs (Elsewhere z c) g = omega arith
-brings_parts v x from gs (Shorten z c i) g = omega arith
+brings_parts v x from gs other g = omega arith
 
 here_less : (v : ℕ) (x : Name) (m : Incoming Name Name) → answer_here v x m ≤ new_answer v x m
 unfolding answer_here new_answer
@@ -239,8 +201,4 @@ own_less false v x from gs m z verb ys = omega arith
 pub here_most : (v : ℕ) (x : Name) (from : ℕ) (gs : List (GiftEntry Name)) (n : Note (Incoming Name Name)) → brings_here v x from gs n ≤ brings v x from gs n
 unfolding brings_here
 here_most v x from gs (Deliver m z verb ys) = own_less (is_own v z) v x from gs m z verb ys
-here_most v x from gs (Open i z) = omega arith
-here_most v x from gs (Ask p i z) = omega arith
-here_most v x from gs (SettledTo z y) = omega arith
-here_most v x from gs (Elsewhere z c) = omega arith
-here_most v x from gs (Shorten z c i) = omega arith
+here_most v x from gs other = omega arith

@@ -42,11 +42,7 @@ told_is ks n = told_either (is_old ks n) n
 
 pub told_mail : (ks : List Name) (vats : List (Vat Name)) (d : List ℕ) (n : Name) → IsMessageMade vats n → IsToldMail (New n (host_of n))
 told_mail ks vats d (Sent m) h = tt
-told_mail ks vats d (Root w) h = absurd h
-told_mail ks vats d (Object w i) h = absurd h
-told_mail ks vats d (Promise w i) h = absurd h
-told_mail ks vats d (Answer w m) h = absurd h
-told_mail ks vats d (Gift w i) h = absurd h
+told_mail ks vats d other h = absurd h
 
 -- ---- what passes
 
@@ -55,14 +51,7 @@ module _ (vats : List (Vat Name)) (d : List ℕ) where
   plain_value : (ks : List Name) (y : Value Name) → ValueOk (IsMade vats d) y → ToldValue [] (world.read_value ks y).read
   unfolding world.read_value
   plain_value ks (Ref n) h = told_well [] ks vats d n h (λ i. is_in_none (host_of n))
-  plain_value ks Null h = tt
-  plain_value ks (Flag b) h = tt
-  plain_value ks (Number z) h = tt
-  plain_value ks (Letter c) h = tt
-  plain_value ks (Text t) h = tt
-  plain_value ks (Prim n) h = tt
-  plain_value ks (Broken p) h = tt
-  plain_value ks (Items k) h = tt
+  plain_value ks other h = tt
 
   mutual
     unfolding world.read_passed world.read_all world.plain_read world.many_read world.more_read
@@ -81,14 +70,7 @@ module _ (vats : List (Vat Name)) (d : List ℕ) where
     spared_value : (ks : List Name) (y : Value Name) → ValueOk (IsMade vats d) y → ValueSpared s y → ToldValue s.noticed (world.read_value ks y).read
     unfolding world.read_value
     spared_value ks (Ref n) h f = told_well s.noticed ks vats d n h (λ i. f)
-    spared_value ks Null h f = tt
-    spared_value ks (Flag b) h f = tt
-    spared_value ks (Number z) h f = tt
-    spared_value ks (Letter c) h f = tt
-    spared_value ks (Text t) h f = tt
-    spared_value ks (Prim n) h f = tt
-    spared_value ks (Broken p) h f = tt
-    spared_value ks (Items k) h f = tt
+    spared_value ks other h f = tt
 
     mutual
       unfolding world.read_passed world.read_all world.plain_read world.many_read world.more_read
@@ -107,23 +89,12 @@ module _ (vats : List (Vat Name)) (d : List ℕ) where
 object_settles : (ks : List Name) (n : Name) → NamesObject n → SettlesWell (Plain (Ref (read_name ks n)))
 unfolding read_name is_old
 object_settles ks (Object w i) o = λ e. e
-object_settles ks (Root w) o = absurd o
-object_settles ks (Promise w i) o = absurd o
-object_settles ks (Answer w m) o = absurd o
-object_settles ks (Gift w i) o = absurd o
-object_settles ks (Sent m) o = absurd o
+object_settles ks other o = absurd o
 
 value_settles : (ks : List Name) (y : Value Name) → LastsNot y → SettlesWell (Plain (world.read_value ks y).read)
 unfolding world.read_value
 value_settles ks (Ref n) h = object_settles ks n h
-value_settles ks Null h = tt
-value_settles ks (Flag b) h = tt
-value_settles ks (Number z) h = tt
-value_settles ks (Letter c) h = tt
-value_settles ks (Text t) h = tt
-value_settles ks (Prim n) h = tt
-value_settles ks (Broken p) h = tt
-value_settles ks (Items k) h = tt
+value_settles ks other h = tt
 
 pub settles_well : (ks : List Name) (y : Passed Name) → PassedLast y → SettlesWell (world.read_passed y ks).read
 unfolding world.read_passed world.plain_read world.many_read
@@ -134,14 +105,12 @@ settles_well ks (Many ys) h = tt
 -- where a list passes
 abbrev pub IsMany : Passed Name → Type 0
 IsMany (Many ys) = Unit {0}
-IsMany (Plain y) = ⊥
-IsMany (AGift h i) = ⊥
+IsMany other = ⊥
 
 pub if_many : (P : Type 0) (ks : List Name) (y : Passed Name) → (IsMany y → P) → IfMany (world.read_passed y ks).read P
 unfolding world.read_passed world.plain_read world.many_read
-if_many P ks (Plain y) f = tt
-if_many P ks (AGift g i) f = tt
 if_many P ks (Many ys) f = f tt
+if_many P ks other f = tt
 
 -- ---- the next draw
 

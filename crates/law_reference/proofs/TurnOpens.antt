@@ -26,9 +26,7 @@ module _ {N W : Type 0} (K : Naming N W) (Q R : Vat N → Vat N → Type 0) (bas
   then_null : (s : Vat N) (d : Done N (Unit {0})) → Ends Q R s d → Ends {A = Value N} Q R s (and_then d (λ _. give Null))
   unfolding and_then give
   then_null s (Gives a t) h = h
-  then_null s (Throws p t) h = h
-  then_null s (Ejects n v t) h = h
-  then_null s (Stops c t) h = h
+  then_null s other h = h
 
   not_again : Act N (Value N)
   not_again = throw (codes "already resolved")
@@ -40,9 +38,7 @@ module _ {N W : Type 0} (K : Naming N W) (Q R : Vat N → Vat N → Type 0) (bas
   resolved_at : (p : N) (x : Value N) (s : Vat N) (w : Standing N) → standing_of K s.known p ≡ w → Ends Q R s (calls.where_unresolved K tree w (resolve K p x) s)
   unfolding calls.where_unresolved ◌>>◌ not_again
   resolved_at p x s Unsettled e = then_null s (resolve K p x s) (law.resolves p x s e)
-  resolved_at p x s (WaitsOn q) e = thrown_again.after s
-  resolved_at p x s (Viewed q) e = thrown_again.after s
-  resolved_at p x s (Settled y) e = thrown_again.after s
+  resolved_at p x s other e = thrown_again.after s
 
   resolved : (p : N) (x : Value N) → Leads Q R (look (λ s. standing_of K s.known p) >>= λ w. calls.where_unresolved K tree w (resolve K p x))
   unfolding ◌>>=◌ look and_then

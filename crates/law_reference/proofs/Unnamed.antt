@@ -11,13 +11,7 @@ module _ (X : Name) where
   -- what is not known is not named
   knows_not : (s : Vat Name) → (IsKnownIn (names_in s.known) X → ⊥) → (b : Bit Name) → KnowsIn s b → Avoids X b
   knows_not s f (Named n) h = λ e. f (subst (λ z. IsKnownIn (names_in s.known) z) e h)
-  knows_not s f (Mail n) h = tt
-  knows_not s f (Drew i) h = tt
-  knows_not s f (At w) h = tt
-  knows_not s f (Off w) h = tt
-  knows_not s f (Entered y) h = tt
-  knows_not s f (Owns y j) h = tt
-  knows_not s f (Gave j) h = tt
+  knows_not s f other h = tt
 
   pub not_named : (s : Vat Name) → (IsKnownIn (names_in s.known) X → ⊥) → (n : Note Name) → NoteOk (KnowsIn s) n → NamesNot X n
   not_named s f n k = note_up (KnowsIn s) (Avoids X) (knows_not s f) n k
@@ -37,14 +31,7 @@ module _ (X : Name) where
 
     value_not : (y : Value Name) → IsOfEither a b y → ValueOk (Avoids X) y
     value_not (Ref n) h = either_host n h
-    value_not Null h = tt
-    value_not (Flag c) h = tt
-    value_not (Number z) h = tt
-    value_not (Letter c) h = tt
-    value_not (Text t) h = tt
-    value_not (Prim i) h = tt
-    value_not (Broken t) h = tt
-    value_not (Items k) h = tt
+    value_not other h = tt
 
     mutual
       passed_not : (y : Passed Name) → PassesBetween a b y → PassedOk (Avoids X) y

@@ -126,11 +126,7 @@ module _ (word : ℕ → ℕ) where
   -- what is opened under a draw is opened as a view only where it was
   abbrev pub OpenBack : (ℕ → Type 0) → (ℕ → Type 0) → Note Name → Type 0
   OpenBack D E (Open i n) = E i → D i
-  OpenBack D E (Deliver m n verb ys) = Unit {0}
-  OpenBack D E (Ask p i n) = Unit {0}
-  OpenBack D E (SettledTo n y) = Unit {0}
-  OpenBack D E (Elsewhere n c) = Unit {0}
-  OpenBack D E (Shorten n c i) = Unit {0}
+  OpenBack D E other = Unit {0}
 
   open_more : (D E : ℕ → Type 0) (i : ℕ) (n : Name) → (E i → D i) → IsObjectName n ⊎ (D i → ⊥) → IsObjectName n ⊎ (E i → ⊥)
   open_more D E i n f (inl o) = inl o
@@ -139,12 +135,7 @@ module _ (word : ℕ → ℕ) where
   note_more : (u : ℕ) (D E : ℕ → Type 0) (ks : List (Known Name)) (n : Note Name) → OpenBack D E n → NoteTells (K u) D ks n → NoteTells (K u) E ks n
   note_more u D E ks (Open i n) f h = open_more D E i n f h
   note_more u D E ks (SettledTo n (Many ys)) f h = h
-  note_more u D E ks (SettledTo n (Plain y)) f h = h
-  note_more u D E ks (SettledTo n (AGift g i)) f h = h
-  note_more u D E ks (Elsewhere n c) f h = h
-  note_more u D E ks (Deliver m n verb ys) f h = h
-  note_more u D E ks (Ask p i n) f h = h
-  note_more u D E ks (Shorten n c i) f h = h
+  note_more u D E ks other f h = h
 
   seen_more : (v : ℕ) (D : ℕ → Type 0) (A B : Name → Type 0) (hs : List ℕ) (s : Vat Name) → ((n : Name) → A n → B n) → Ringless (K v) v D A hs s → Ringless (K v) v D B hs s
   seen_more v D A B hs s f h = record { number = h.number; names = record { here = h.names.here; spared = h.names.spared; far = h.names.far; seen = λ n g e. f n (h.names.seen n g e); waits = h.names.waits; settled = h.names.settled; held = h.names.held; eventual = h.names.eventual }; none = h.none; queue = h.queue; gifts = h.gifts }

@@ -17,12 +17,9 @@ use Rattle.law_reference.proofs.NameTableLaws.{exports_are_distinct}
 -- what is no message is told apart as a name is
 reference_name : (a b : Name) → IsEventual a → same_reference a b ≡ same_name a b
 unfolding same_reference
-reference_name (Root w) b h = refl
-reference_name (Promise w i) b h = refl
-reference_name (Answer w m) b h = refl
-reference_name (Gift w i) b h = refl
 reference_name (Object w i) b h = absurd h
 reference_name (Sent m) b h = absurd h
+reference_name other b h = refl
 
 pub has_table : (w : World) (v : ℕ) (s : Vat Name) → AllOf IsEventual (names_in s.known) × AllOf IsMessageName s.mails
     → ((i j : ℕ) (a b : Name) → slice_get (names_in s.known) i ≡ Some a → slice_get (names_in s.known) j ≡ Some b → same_name a b ≡ (i == j))

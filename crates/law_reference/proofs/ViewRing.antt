@@ -201,11 +201,7 @@ module _ (word : ℕ → ℕ) (v : ℕ) (heed : Bool) (D : ℕ → Type 0) (Seen
 
   pub view_into : (E : ℕ → Type 0) → ((i : ℕ) → D i → E i) → (n : Name) → IsView D n → IsView E n
   view_into E into (Gift h i) w = into i w
-  view_into E into (Root u) w = absurd w
-  view_into E into (Object u i) w = absurd w
-  view_into E into (Promise u i) w = absurd w
-  view_into E into (Answer u m) w = absurd w
-  view_into E into (Sent m) w = absurd w
+  view_into E into other w = absurd w
 
   -- a view under another key
   pub view_draw : (E F : ℕ → Type 0) → ((i : ℕ) → E i → D i ⊎ F i) → (n : Name) → ((h i : ℕ) → F i → n ≡ Gift h i → ⊥) → IsView E n → IsView D n
@@ -214,8 +210,4 @@ module _ (word : ℕ → ℕ) (v : ℕ) (heed : Bool) (D : ℕ → Type 0) (Seen
       pick : D i ⊎ F i → D i
       pick (inl j) = j
       pick (inr j) = absurd (apart h i j refl)
-  view_draw E F back (Root u) apart w = absurd w
-  view_draw E F back (Object u i) apart w = absurd w
-  view_draw E F back (Promise u i) apart w = absurd w
-  view_draw E F back (Answer u m) apart w = absurd w
-  view_draw E F back (Sent m) apart w = absurd w
+  view_draw E F back other apart w = absurd w

@@ -18,8 +18,7 @@ module _ (K : Naming Name Name) (is : (a b : Name) → K.same a b ≡ true → a
     unfolding follow_at led
     on_led n (Settled z) d i f e = let at = f z e in (suc at.0, ap (λ t. led K (λ x. follow_at K at.0 ks x) n t) i ∙ at.1)
     on_led n (Viewed q) d i f e = let at = f (Ref q) e in (suc at.0, ap (λ t. led K (λ x. follow_at K at.0 ks x) n t) i ∙ at.1)
-    on_led n (WaitsOn q) d i f e = absurd (name_list n k e)
-    on_led n Unsettled d i f e = absurd (name_list n k e)
+    on_led n other d i f e = absurd (name_list n k e)
 
     by_view : Comes y → Comes (Ref p)
     unfolding follow_at led
@@ -34,14 +33,7 @@ module _ (K : Naming Name Name) (is : (a b : Name) → K.same a b ≡ true → a
     unfolding follow_at
     comes zero v e = (zero, e)
     comes (suc d) (Ref n) e = at_name d n (λ z i. comes d z i) (moves n) e
-    comes (suc d) Null e = (zero, e)
-    comes (suc d) (Flag b) e = (zero, e)
-    comes (suc d) (Number z) e = (zero, e)
-    comes (suc d) (Letter c) e = (zero, e)
-    comes (suc d) (Text t) e = (zero, e)
-    comes (suc d) (Prim n) e = (zero, e)
-    comes (suc d) (Broken t) e = (zero, e)
-    comes (suc d) (Items j) e = (zero, e)
+    comes (suc d) other e = (zero, e)
 
   same_followed : (s : Vat Name) (ls : List (Known Name)) (v : Value Name) (k : ℕ) → ((d : ℕ) → follow_at K d ls v ≡ Items k → (e : ℕ) × (follow_at K e s.known v ≡ Items k)) → follow K (record s { known = ls }) v ≡ Items k → follow K s v ≡ Items k
   unfolding follow
@@ -57,14 +49,7 @@ module _ (K : Naming Name Name) (is : (a b : Name) → K.same a b ≡ true → a
 
   pub list_or : {A : Type 0} (y : Value Name) → ((c : ℕ) → y ≡ Items c → A) → (((c : ℕ) → y ≡ Items c → ⊥) → A) → A
   list_or (Items c) f g = f c refl
-  list_or Null f g = g (λ c e. cc)
-  list_or (Flag b) f g = g (λ c e. cc)
-  list_or (Number z) f g = g (λ c e. cc)
-  list_or (Letter l) f g = g (λ c e. cc)
-  list_or (Text t) f g = g (λ c e. cc)
-  list_or (Prim n) f g = g (λ c e. cc)
-  list_or (Broken t) f g = g (λ c e. cc)
-  list_or (Ref n) f g = g (λ c e. cc)
+  list_or other f g = g (λ c e. cc)
 
   either_closes_none : (s : Vat Name) (y : Value Name) (p : Name) → IsEnd K s y → IsTested K s y p ⊎ ViewSettled K s y p → NoListLeadsBack K s → NoListLeadsBack K (record s { known = with_change K (Settle y) p s.known })
   either_closes_none s y p ends (inl h) none = settle_closes_none K is s y p ends h none

@@ -153,9 +153,7 @@ module _ {N W : Type 0} (K : Naming N W) where
   told_views : {A : Type 0} (p : N) (y : Value N) (k : Known N) (s t : Vat N) (d : Done N A) → entry_of K s.known p ≡ Some k → t.known ≡ with_change K (Settle y) p s.known → GivesBy ViewsGo t d
       → ((n : N) → IsAmong n k.waiting → Knows K t.known n → AfterGives (IsSettled K n) d) → GivesBy ViewsGo s d
   told_views p y k s t (Gives a u) e same go settled = after_told p y k s u e (rw same at go) (rw same at settled)
-  told_views p y k s t (Throws x u) e same go settled = tt
-  told_views p y k s t (Ejects i v u) e same go settled = tt
-  told_views p y k s t (Stops c u) e same go settled = tt
+  told_views p y k s t other e same go settled = tt
 
   pub settles_views : SettlesBy K ViewsGo
   unfolding refs.settle_known told_on ◌>>◌ tell alter and_then

@@ -60,11 +60,7 @@ module _ (script : Script) where
   pub tells_none : (w : World) (s : Vat Name) (n : Note Name) → NoteOk (IsMade w.vats w.drawn) n → TellsNoNewGift (draw_word script.key) zero (readied w s) n
   unfolding readied
   tells_none w s (Elsewhere n c) h = λ a i new e. made_gift w.vats w.drawn a i n new h.0 e
-  tells_none w s (Deliver m n verb ys) h = tt
-  tells_none w s (Open i n) h = tt
-  tells_none w s (Ask p i n) h = tt
-  tells_none w s (SettledTo n y) h = tt
-  tells_none w s (Shorten n c i) h = tt
+  tells_none w s other h = tt
 
   abbrev Waiting : ℕ → Vat Name → Type 0
   Waiting v s = ViewsWait (names script v) s.known

@@ -100,11 +100,7 @@ module _ (word : ℕ → ℕ) (v : ℕ) where
   -- a note that tells of no gift under a word that was not drawn
   abbrev pub TellsNoNewGift : Vat Name → Note Name → Type 0
   TellsNoNewGift s (Elsewhere n c) = NoNewGift s n
-  TellsNoNewGift s (Deliver m n verb ys) = Unit {0}
-  TellsNoNewGift s (Open i n) = Unit {0}
-  TellsNoNewGift s (Ask p i n) = Unit {0}
-  TellsNoNewGift s (SettledTo n y) = Unit {0}
-  TellsNoNewGift s (Shorten n c i) = Unit {0}
+  TellsNoNewGift s other = Unit {0}
 
   pub views_arrive : (from : ℕ) (ks : List Name) (n : Note Name) (s : Vat Name) → Good s → GiftsAreNew word v s → TellsNoNewGift s n → AfterGives Good (arrive.arrive Names from (world.read_note ks n) s)
   unfolding arrive.arrive world.read_note world.read_name

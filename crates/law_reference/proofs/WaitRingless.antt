@@ -257,9 +257,7 @@ module _ (K : Naming Name Name) (is : (a b : Name) → K.same a b ≡ true → a
     waits_after : (s : Vat Name) (p a : Name) (h : ℕ) (d : Done Name (Unit {0})) → (p ≡ a → ⊥) → GivesBy Less (record s { known = s.known ++ begun a h ∷ [] }) d → GivesBy Step s (and_then d (λ u. refs.wait_on K p a))
     unfolding and_then refs.wait_on ◌>>◌ tell alter
     waits_after s p a h (Gives u t) apart l = λ o. let held : Owned v t = l.1 (o.0, owned_begun v s.known a h o.1) in ((held.0, owned_linked (WaitOn a) p a t.known tt held.1), new_linked (WaitOn a) p a h (edge_wait a) s.known t.known l.0 (λ once. apart))
-    waits_after s p a h (Throws x t) apart l = tt
-    waits_after s p a h (Ejects i y t) apart l = tt
-    waits_after s p a h (Stops c t) apart l = tt
+    waits_after s p a h other apart l = tt
 
     -- an answer here is none of another vat
     abbrev pub AnswersDiffer : Type 0

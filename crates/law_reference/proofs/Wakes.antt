@@ -40,9 +40,7 @@ module _ (word : ℕ → ℕ) (v : ℕ) (IsFree : Name → Type 0) where
   unless_wakes : (t : Standing Name) (k j : Known Name) (m : Name) → (Waiting (Some j) → Waiting (Some k) ⊎ IsFree m) → Waiting (Some (unless_settled t k j)) → Waiting (Some k) ⊎ IsFree m
   unfolding unless_settled
   unless_wakes (Settled y) k j m f w = inl w
-  unless_wakes Unsettled k j m f w = f w
-  unless_wakes (WaitsOn q) k j m f w = f w
-  unless_wakes (Viewed q) k j m f w = f w
+  unless_wakes other k j m f w = f w
 
   changed_wakes : (c : Change Name) (k : Known Name) (m : Name) → (Waiting (Some (changed_to c k)) → Waiting (Some k) ⊎ IsFree m) → Waiting (Some (changed c k)) → Waiting (Some k) ⊎ IsFree m
   unfolding changed

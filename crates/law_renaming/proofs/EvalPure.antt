@@ -36,8 +36,7 @@ module _ {N M : Type 0} (f : N → M) where
   pub literal_map : (l : Literal) → form.literal_value l ≡ maps.value f (form.literal_value l)
   unfolding form.literal_value
   literal_map (literal.Int z) = refl
-  literal_map (literal.Char c) = refl
-  literal_map (literal.Text t) = refl
+  literal_map other = refl
 
   pub bound_map : (bs : List (Binding N)) (x : Words) → scopes.bound_in (map (maps.binding f) bs) x ≡ option_map (maps.bound f) (scopes.bound_in bs x)
   unfolding scopes.bound_in
@@ -66,8 +65,7 @@ module _ {N M : Type 0} (f : N → M) where
   freedom_bound_map : (o : Option (Bound N)) (x : Words) → scopes.freedom_of_bound (option_map (maps.bound f) o) x ≡ maps.freedom f (scopes.freedom_of_bound o x)
   unfolding scopes.freedom_of_bound
   freedom_bound_map (Some (Fixed v g)) x = refl
-  freedom_bound_map (Some (Slot k)) x = refl
-  freedom_bound_map None x = refl
+  freedom_bound_map other x = refl
 
   freedom_map : (own : Option Words) (bs : List (Binding N)) (x : Words) → scopes.freedom_of own (map (maps.binding f) bs) x ≡ maps.freedom f (scopes.freedom_of own bs x)
   unfolding scopes.freedom_of
@@ -85,17 +83,13 @@ module _ {N M : Type 0} (f : N → M) where
 
   frozen_freedom_map : (x : Freedom N) → scopes.frozen_freedom (maps.freedom f x) ≡ scopes.frozen_freedom x
   unfolding scopes.frozen_freedom
-  frozen_freedom_map IsSafe = refl
-  frozen_freedom_map IsItself = refl
   frozen_freedom_map (IsFinal g) = frozen_guard_map g
-  frozen_freedom_map IsVar = refl
+  frozen_freedom_map other = refl
 
   not_itself_map : (x : Freedom N) → scopes.not_itself (maps.freedom f x) ≡ scopes.not_itself x
   unfolding scopes.not_itself
   not_itself_map IsSafe = refl
-  not_itself_map IsItself = refl
-  not_itself_map (IsFinal g) = refl
-  not_itself_map IsVar = refl
+  not_itself_map other = refl
 
   data_guard_map : (g : Value N) → scopes.data_guard (maps.value f g) ≡ scopes.data_guard g
   unfolding scopes.data_guard
@@ -104,10 +98,8 @@ module _ {N M : Type 0} (f : N → M) where
 
   functional_freedom_map : (noun : Words) (x : Freedom N) → scopes.functional_freedom noun (maps.freedom f x) ≡ scopes.functional_freedom noun x
   unfolding scopes.functional_freedom
-  functional_freedom_map noun IsSafe = refl
-  functional_freedom_map noun IsItself = refl
   functional_freedom_map noun (IsFinal g) = data_guard_map g
-  functional_freedom_map noun IsVar = refl
+  functional_freedom_map noun other = refl
 
   fits_map : (r : Rule) (x : FreeName N) → scopes.fits r (maps.free_name f x) ≡ scopes.fits r x
   unfolding scopes.fits
@@ -131,9 +123,7 @@ module _ {N M : Type 0} (f : N → M) where
   guard_told_map : (x : Freedom N) → scopes.guard_told (maps.freedom f x) ≡ maps.value f (scopes.guard_told x)
   unfolding scopes.guard_told scopes.any_guard
   guard_told_map IsSafe = refl
-  guard_told_map IsItself = refl
-  guard_told_map (IsFinal g) = refl
-  guard_told_map IsVar = refl
+  guard_told_map other = refl
 
   guard_at_map : (xs : List (FreeName N)) (x : Words) → scopes.guard_at (map (maps.free_name f) xs) x ≡ evals.reply f (scopes.guard_at xs x)
   unfolding scopes.guard_at
@@ -147,21 +137,18 @@ module _ {N M : Type 0} (f : N → M) where
 
   pub audition_ask_map : (verb : Words) (xs : List (Value N)) → scopes.audition_ask verb (map (maps.value f) xs) ≡ evals.audition_ask f (scopes.audition_ask verb xs)
   unfolding scopes.audition_ask
-  audition_ask_map verb [] = entry_map (evals.audition_ask f) _ _ verb
-  audition_ask_map verb (x ∷ []) = entry_map (evals.audition_ask f) _ _ verb
   audition_ask_map verb (x ∷ y ∷ zs) = refl
+  audition_ask_map verb other = entry_map (evals.audition_ask f) _ _ verb
 
   pub resolver_ask_map : (verb : Words) (xs : List (Value N)) → scopes.resolver_ask verb (map (maps.value f) xs) ≡ evals.resolver_ask f (scopes.resolver_ask verb xs)
   unfolding scopes.resolver_ask
-  resolver_ask_map verb [] = refl
   resolver_ask_map verb (x ∷ []) = entry_map (evals.resolver_ask f) _ _ verb
-  resolver_ask_map verb (x ∷ y ∷ zs) = refl
+  resolver_ask_map verb other = refl
 
   pub ejector_ask_map : (verb : Words) (xs : List (Value N)) → scopes.ejector_ask verb (map (maps.value f) xs) ≡ option_map (maps.value f) (scopes.ejector_ask verb xs)
   unfolding scopes.ejector_ask
-  ejector_ask_map verb [] = entry_map (option_map (maps.value f)) _ _ verb
-  ejector_ask_map verb (x ∷ []) = entry_map (option_map (maps.value f)) _ _ verb
   ejector_ask_map verb (x ∷ y ∷ zs) = refl
+  ejector_ask_map verb other = entry_map (option_map (maps.value f)) _ _ verb
 
   pub is_null_map : (x : Value N) → scopes.is_null (maps.value f x) ≡ scopes.is_null x
   unfolding scopes.is_null
@@ -234,8 +221,7 @@ module _ {N M W V : Type 0} (f : N → M) (w : W → V) (K : Naming N W) (L : Na
   stamps_at_map : (s : Vat N) (p : Spot) → perform.stamps_at L tree (maps.vat f s) p ≡ map (maps.value f) (perform.stamps_at K tree s p)
   unfolding perform.stamps_at
   stamps_at_map s (Own i) = rw (map_get (maps.thing f) s.things i) (stamps_of_map f (slice_get s.things i))
-  stamps_at_map s (Foreign h) = refl
-  stamps_at_map s NoObject = refl
+  stamps_at_map s other = refl
 
   pub stamped_map : (s : Vat N) (a x : Value N) → perform.is_stamped L tree (maps.vat f s) (maps.value f a) (maps.value f x) ≡ perform.is_stamped K tree s a x
   unfolding perform.is_stamped
@@ -284,8 +270,6 @@ module _ {N M W V : Type 0} (f : N → M) (w : W → V) (K : Naming N W) (L : Na
 
   pub taken_map : (s : Vat N) (g : Guard) (x y : Value N) → perform.taken L tree (maps.vat f s) g (maps.value f x) (maps.value f y) ≡ option_map (maps.value f) (perform.taken K tree s g x y)
   unfolding perform.taken
-  taken_map s AnyGuard x y = refl
-  taken_map s VoidGuard x y = refl
   taken_map s IntGuard x y = kind_map scopes.is_int scopes.is_int int_kind y
   taken_map s BooleanGuard x y = kind_map scopes.is_boolean scopes.is_boolean boolean_kind y
   taken_map s CharGuard x y = kind_map scopes.is_char scopes.is_char char_kind y
@@ -295,15 +279,14 @@ module _ {N M W V : Type 0} (f : N → M) (w : W → V) (K : Naming N W) (L : Na
   taken_map s NearGuard x y = rw (places s y, is_near_map f (refs.place K s y)) (where_map f (scopes.is_near (refs.place K s y)) y)
   taken_map s FrozenGuard x y = rw (frozen_map s y) (where_map f (perform.is_frozen K tree s y) y)
   taken_map s (OrNull g) x y = rw (is_null_map f y, perform.taken) (pick_map (option_map (maps.value f)) (scopes.is_null y) (Some Null) (perform.taken K tree s g x y) (Some Null) (perform.taken L tree (maps.vat f s) g (maps.value f x) (maps.value f y)) refl (taken_map s g x y))
+  taken_map s other x y = refl
 
   -- ---- sameEver
 
   unsettled_map : (p : Place N) → perform.is_unsettled L tree (maps.place f p) ≡ perform.is_unsettled K tree p
   unfolding perform.is_unsettled
   unsettled_map (Mine n) = refl
-  unsettled_map (Away h n o) = refl
-  unsettled_map Near = refl
-  unsettled_map (Gone p) = refl
+  unsettled_map other = refl
 
   open_by_map : (F : List (Value N) → Bool) (G : List (Value M) → Bool) → ((vs : List (Value N)) → G (map (maps.value f) vs) ≡ F vs) → (s : Vat N) (y : Value N) → perform.open_by L tree G (maps.vat f s) (maps.value f y) ≡ perform.open_by K tree F s y
   unfolding perform.open_by
@@ -384,9 +367,7 @@ module _ {N M W V : Type 0} (f : N → M) (w : W → V) (K : Naming N W) (L : Na
   unfolding perform.fulfilled
   fulfilled_map x Near = refl
   fulfilled_map x (Away h n true) = refl
-  fulfilled_map x (Away h n false) = refl
-  fulfilled_map x (Gone p) = refl
-  fulfilled_map x (Mine n) = refl
+  fulfilled_map x other = refl
 
   pub test_map : (t : RefTest) (x : Value N) (p : Place N) → perform.test_reply L tree t (maps.value f x) (maps.place f p) ≡ evals.reply f (perform.test_reply K tree t x p)
   unfolding perform.test_reply scopes.is_near perform.is_far perform.is_gone perform.is_unsettled perform.problem_of

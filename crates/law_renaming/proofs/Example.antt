@@ -32,16 +32,14 @@ sample_is_table = record {
     distinct zero zero a b e h = alike (Root 0) (Root 0) a b true e h refl
     distinct zero (suc zero) a b e h = alike (Root 0) (Root 1) a b false e h refl
     distinct zero (suc (suc zero)) a b e h = alike (Root 0) (Answer 1 (record { sender = 0; number = 0 })) a b false e h refl
-    distinct zero (suc (suc (suc j))) a b e h = cc
     distinct (suc zero) zero a b e h = alike (Root 1) (Root 0) a b false e h refl
     distinct (suc zero) (suc zero) a b e h = alike (Root 1) (Root 1) a b true e h refl
     distinct (suc zero) (suc (suc zero)) a b e h = alike (Root 1) (Answer 1 (record { sender = 0; number = 0 })) a b false e h refl
-    distinct (suc zero) (suc (suc (suc j))) a b e h = cc
     distinct (suc (suc zero)) zero a b e h = alike (Answer 1 (record { sender = 0; number = 0 })) (Root 0) a b false e h refl
     distinct (suc (suc zero)) (suc zero) a b e h = alike (Answer 1 (record { sender = 0; number = 0 })) (Root 1) a b false e h refl
     distinct (suc (suc zero)) (suc (suc zero)) a b e h = alike (Answer 1 (record { sender = 0; number = 0 })) (Answer 1 (record { sender = 0; number = 0 })) a b true e h refl
-    distinct (suc (suc zero)) (suc (suc (suc j))) a b e h = cc
     distinct (suc (suc (suc i))) j a b e h = cc
+    distinct other (suc (suc (suc j))) a b e h = cc
 
     messages : (k : ℕ) (n : Name) → slice_get sample.mails k ≡ Some n → (m : Msg) × (n ≡ Sent m)
     messages zero n e = let i : Sent (record { sender = 0; number = 0 }) ≡ n = cc in (record { sender = 0; number = 0 }, sym i)

@@ -31,10 +31,8 @@ module _ {N M P : Type 0} (f : N → M) (g : M → P) where
   messages_twice ms = all_twice _ _ _ message_twice ms
 
   standing_twice : (x : Standing N) → maps.standing g (maps.standing f x) ≡ maps.standing both x
-  standing_twice Unsettled = refl
-  standing_twice (WaitsOn q) = refl
-  standing_twice (Viewed q) = refl
   standing_twice (Settled y) = cc (value_twice y)
+  standing_twice other = refl
 
   names_twice : (ns : List N) → map g (map f ns) ≡ map both ns
   names_twice ns = all_twice f g both (λ n. refl) ns
@@ -57,11 +55,8 @@ module _ {N M P : Type 0} (f : N → M) (g : M → P) where
 
   pub note_twice : (x : Note N) → maps.note g (maps.note f x) ≡ maps.note both x
   note_twice (Deliver m y verb args) = cc (option_twice m.answer, passeds_twice args)
-  note_twice (Open i y) = refl
-  note_twice (Ask p i y) = refl
   note_twice (SettledTo p y) = cc (passed_twice y)
-  note_twice (Elsewhere p c) = refl
-  note_twice (Shorten p c i) = refl
+  note_twice other = refl
 
   put_twice : (x : Put N) → maps.put g (maps.put f x) ≡ maps.put both x
   put_twice x = cc (note_twice x.note)
@@ -95,10 +90,8 @@ module _ {N M P : Type 0} (f : N → M) (g : M → P) where
   cells_twice xs = all_twice _ _ _ cell_twice xs
 
   freedom_twice : (x : Freedom N) → maps.freedom g (maps.freedom f x) ≡ maps.freedom both x
-  freedom_twice IsSafe = refl
-  freedom_twice IsItself = refl
   freedom_twice (IsFinal y) = cc (value_twice y)
-  freedom_twice IsVar = refl
+  freedom_twice other = refl
 
   free_twice : (x : FreeName N) → maps.free_name g (maps.free_name f x) ≡ maps.free_name both x
   free_twice x = cc (freedom_twice x.freedom)
@@ -111,9 +104,8 @@ module _ {N M P : Type 0} (f : N → M) (g : M → P) where
 
   thing_twice : (t : Thing N) → maps.thing g (maps.thing f t) ≡ maps.thing both t
   thing_twice (Made node caught stamps) = cc (bindings_twice caught, values_twice stamps)
-  thing_twice (Ejector b) = refl
-  thing_twice (Resolver p) = refl
   thing_twice (Audition b x) = cc (view_twice x)
+  thing_twice other = refl
 
   things_twice : (xs : List (Thing N)) → map (maps.thing g) (map (maps.thing f) xs) ≡ map (maps.thing both) xs
   things_twice xs = all_twice _ _ _ thing_twice xs
@@ -122,27 +114,18 @@ module _ {N M P : Type 0} (f : N → M) (g : M → P) where
   line_twice (Took a m) = cc (message_twice m)
   line_twice (Called a x verb args b) = cc (value_twice x, values_twice args)
   line_twice (Back a v) = cc (value_twice v)
-  line_twice (Thrown a p) = refl
-  line_twice (Left a) = refl
   line_twice (Got a v) = cc (value_twice v)
   line_twice (SlotMade a k v) = cc (value_twice v)
   line_twice (SlotRead a k v) = cc (value_twice v)
   line_twice (SlotWrote a k v) = cc (value_twice v)
   line_twice (ListMade a k vs) = cc (values_twice vs)
   line_twice (ListCame k vs) = cc (values_twice vs)
-  line_twice (EjectorMade a j) = refl
-  line_twice (AuditionMade a j) = refl
-  line_twice (PromiseMade a p r) = refl
   line_twice (ObjectMade a n x bs vs) = cc (bounds_twice bs, values_twice vs)
   line_twice (Sends a m) = cc (message_twice m)
   line_twice (Reacts a x o m) = cc (value_twice x, value_twice o, message_twice m)
   line_twice (Finished a v) = cc (value_twice v)
-  line_twice (Threw a p) = refl
   line_twice (Settles p y) = cc (value_twice y)
-  line_twice (Waits p q) = refl
-  line_twice (Lost m) = refl
-  line_twice (Views p q) = refl
-  line_twice (Posted w m) = refl
+  line_twice other = refl
 
   lines_twice : (xs : List (Happened N)) → map (maps.line g) (map (maps.line f) xs) ≡ map (maps.line both) xs
   lines_twice xs = all_twice _ _ _ line_twice xs

@@ -45,16 +45,13 @@ module _ {N M : Type 0} (f : N → M) where
   unfolding native.int_alone native.no_method
   int_alone_map Negates z = int_map _
   int_alone_map AsChar z = char_map z
-  int_alone_map (Applies op) z = refl
-  int_alone_map NoIntVerb z = refl
+  int_alone_map other z = refl
 
   int_with_map : (v : IntVerb) (z : ℤ) (x : Value N) → native.int_with v z (maps.value f x) ≡ evals.reply f (native.int_with v z x)
   unfolding native.int_with native.no_method
   int_with_map (Applies op) z (Number b) = int_map _
   int_with_map (Applies op) z _ = refl
-  int_with_map Negates z x = refl
-  int_with_map AsChar z x = refl
-  int_with_map NoIntVerb z x = refl
+  int_with_map other z x = refl
 
   int_reply_map : (z : ℤ) (verb : Words) (xs : List (Value N)) → native.int_reply z verb (map (maps.value f) xs) ≡ evals.reply f (native.int_reply z verb xs)
   unfolding native.int_reply native.no_method
@@ -68,9 +65,7 @@ module _ {N M : Type 0} (f : N → M) where
   flag_with_map Both a (Flag b) = refl
   flag_with_map Either a (Flag b) = refl
   flag_with_map Unlike a (Flag b) = refl
-  flag_with_map Both a _ = refl
-  flag_with_map Either a _ = refl
-  flag_with_map Unlike a _ = refl
+  flag_with_map other a _ = refl
 
   flag_reply_map : (a : Bool) (verb : Words) (xs : List (Value N)) → native.flag_reply a verb (map (maps.value f) xs) ≡ evals.reply f (native.flag_reply a verb xs)
   unfolding native.flag_reply native.no_method
@@ -143,8 +138,7 @@ module _ {N M : Type 0} (f : N → M) where
   text_with_map Gets t h x = got_letters _ x
   text_with_map Adds t h x = text_and_map t x
   text_with_map Steps t h x = ap (λ zs. Iterates (maps.value f h) zs) (letters_map _)
-  text_with_map AddsOne t h x = refl
-  text_with_map NoSeqVerb t h x = refl
+  text_with_map other t h x = refl
 
   list_and_map : (ls : List (List (Value N))) (vs : List (Value N)) (x : Value N) → native.list_and (map (map (maps.value f)) ls) (map (maps.value f) vs) (maps.value f x) ≡ evals.reply f (native.list_and ls vs x)
   unfolding native.list_and
@@ -156,8 +150,7 @@ module _ {N M : Type 0} (f : N → M) where
   list_with_map ls Gets vs h x = got_values vs x
   list_with_map ls Adds vs h x = list_and_map ls vs x
   list_with_map ls AddsOne vs h x = rw (map_append (maps.value f) vs (h ∷ [])) refl
-  list_with_map ls Steps vs h x = refl
-  list_with_map ls NoSeqVerb vs h x = refl
+  list_with_map ls other vs h x = refl
 
   -- ---- ranges and comparing
 
@@ -210,10 +203,8 @@ module _ {N M : Type 0} (f : N → M) where
   text_reply_map t verb (h ∷ []) (x ∷ []) = text_with_map _ t h x
   text_reply_map t verb (h ∷ []) (x ∷ y ∷ []) = rw (ran_text _ x y) (entry_map (evals.reply f) _ _ verb)
   text_reply_map t verb (h ∷ []) (x ∷ y ∷ z ∷ zs) = refl
-  text_reply_map t verb (h ∷ g ∷ hs) [] = refl
-  text_reply_map t verb (h ∷ g ∷ hs) (x ∷ []) = refl
   text_reply_map t verb (h ∷ g ∷ hs) (x ∷ y ∷ []) = rw (ran_text _ x y) (entry_map (evals.reply f) _ _ verb)
-  text_reply_map t verb (h ∷ g ∷ hs) (x ∷ y ∷ z ∷ zs) = refl
+  text_reply_map t verb (h ∷ g ∷ hs) other = refl
 
   list_reply_map : (ls : List (List (Value N))) (vs : List (Value N)) (verb : Words) (hs xs : List (Value N)) → native.list_reply (map (map (maps.value f)) ls) (map (maps.value f) vs) verb (map (maps.value f) hs) (map (maps.value f) xs) ≡ evals.reply f (native.list_reply ls vs verb hs xs)
   unfolding native.list_reply native.no_method
@@ -222,10 +213,8 @@ module _ {N M : Type 0} (f : N → M) where
   list_reply_map ls vs verb (h ∷ []) (x ∷ []) = list_with_map ls _ vs h x
   list_reply_map ls vs verb (h ∷ []) (x ∷ y ∷ []) = rw (ran_list vs x y) (entry_map (evals.reply f) _ _ verb)
   list_reply_map ls vs verb (h ∷ []) (x ∷ y ∷ z ∷ zs) = refl
-  list_reply_map ls vs verb (h ∷ g ∷ hs) [] = refl
-  list_reply_map ls vs verb (h ∷ g ∷ hs) (x ∷ []) = refl
   list_reply_map ls vs verb (h ∷ g ∷ hs) (x ∷ y ∷ []) = rw (ran_list vs x y) (entry_map (evals.reply f) _ _ verb)
-  list_reply_map ls vs verb (h ∷ g ∷ hs) (x ∷ y ∷ z ∷ zs) = refl
+  list_reply_map ls vs verb (h ∷ g ∷ hs) other = refl
 
   pub data_map : (ls : List (List (Value N))) (y : Value N) (verb : Words) (hs xs : List (Value N)) → native.data_reply (map (map (maps.value f)) ls) (maps.value f y) verb (map (maps.value f) hs) (map (maps.value f) xs) ≡ evals.reply f (native.data_reply ls y verb hs xs)
   unfolding native.data_reply native.no_method
@@ -247,45 +236,33 @@ module _ {N M : Type 0} (f : N → M) where
 
   equalizer_ask_map : (verb : Words) (xs : List (Value N)) → native.equalizer_ask verb (map (maps.value f) xs) ≡ evals.asked f (native.equalizer_ask verb xs)
   unfolding native.equalizer_ask
-  equalizer_ask_map verb [] = refl
-  equalizer_ask_map verb (x ∷ []) = refl
   equalizer_ask_map verb (x ∷ y ∷ []) = entry_map (evals.asked f) _ _ verb
-  equalizer_ask_map verb (x ∷ y ∷ z ∷ zs) = refl
+  equalizer_ask_map verb other = refl
 
   comparer_ask_map : (verb : Words) (xs : List (Value N)) → native.comparer_ask verb (map (maps.value f) xs) ≡ evals.asked f (native.comparer_ask verb xs)
   unfolding native.comparer_ask
-  comparer_ask_map verb [] = refl
-  comparer_ask_map verb (x ∷ []) = refl
   comparer_ask_map verb (x ∷ y ∷ []) = entry_map (evals.asked f) _ _ verb
-  comparer_ask_map verb (x ∷ y ∷ z ∷ zs) = refl
+  comparer_ask_map verb other = refl
 
   run_ask_map : (F : Value N → Asked N) (G : Value M → Asked M) → ((x : Value N) → G (maps.value f x) ≡ evals.asked f (F x)) → (verb : Words) (xs : List (Value N)) → native.run_ask G verb (map (maps.value f) xs) ≡ evals.asked f (native.run_ask F verb xs)
   unfolding native.run_ask
-  run_ask_map F G e verb [] = refl
   run_ask_map F G e verb (x ∷ []) = rw (e x) (entry_map (evals.asked f) _ _ verb)
-  run_ask_map F G e verb (x ∷ y ∷ zs) = refl
+  run_ask_map F G e verb other = refl
 
   send_ask_map : (verb : Words) (xs : List (Value N)) → native.send_ask verb (map (maps.value f) xs) ≡ evals.asked f (native.send_ask verb xs)
   unfolding native.send_ask
-  send_ask_map verb [] = refl
-  send_ask_map verb (x ∷ []) = refl
-  send_ask_map verb (x ∷ y ∷ []) = refl
   send_ask_map verb (x ∷ y ∷ z ∷ []) = entry_map (evals.asked f) _ _ verb
-  send_ask_map verb (x ∷ y ∷ z ∷ u ∷ zs) = refl
+  send_ask_map verb other = refl
 
   ref_ask_map : (verb : Words) (xs : List (Value N)) → native.ref_ask verb (map (maps.value f) xs) ≡ evals.asked f (native.ref_ask verb xs)
   unfolding native.ref_ask
-  ref_ask_map verb [] = entry_map (evals.asked f) _ _ verb
-  ref_ask_map verb (x ∷ []) = entry_map (evals.asked f) _ _ verb
-  ref_ask_map verb (x ∷ y ∷ []) = entry_map (evals.asked f) _ _ verb
   ref_ask_map verb (x ∷ y ∷ z ∷ zs) = refl
+  ref_ask_map verb other = entry_map (evals.asked f) _ _ verb
 
   stamp_ask_map : (verb : Words) (xs : List (Value N)) → native.stamp_ask verb (map (maps.value f) xs) ≡ evals.asked f (native.stamp_ask verb xs)
   unfolding native.stamp_ask
-  stamp_ask_map verb [] = refl
-  stamp_ask_map verb (x ∷ []) = refl
   stamp_ask_map verb (x ∷ y ∷ []) = entry_map (evals.asked f) _ _ verb
-  stamp_ask_map verb (x ∷ y ∷ z ∷ zs) = refl
+  stamp_ask_map verb other = refl
 
   guard_ask_map : (g : Guard) (verb : Words) (xs : List (Value N)) → native.guard_ask g verb (map (maps.value f) xs) ≡ evals.asked f (native.guard_ask g verb xs)
   unfolding native.guard_ask
@@ -296,9 +273,7 @@ module _ {N M : Type 0} (f : N → M) where
   guard_ask_map AnyGuard verb [] = refl
   guard_ask_map AnyGuard verb (x ∷ []) = refl
   guard_ask_map AnyGuard verb (x ∷ y ∷ z ∷ zs) = refl
-  guard_ask_map _ verb [] = refl
-  guard_ask_map _ verb (x ∷ []) = refl
-  guard_ask_map _ verb (x ∷ y ∷ z ∷ zs) = refl
+  guard_ask_map _ verb other = refl
 
   pub asked_map : (p : Primitive) (verb : Words) (xs : List (Value N)) → native.asked p verb (map (maps.value f) xs) ≡ evals.asked f (native.asked p verb xs)
   unfolding native.asked
@@ -311,8 +286,7 @@ module _ {N M : Type 0} (f : N → M) where
   asked_map Thrower verb xs = run_ask_map ThrowsIt ThrowsIt (λ x. refl) verb xs
   asked_map StampReader verb xs = stamp_ask_map verb xs
   asked_map (Guarding g) verb xs = guard_ask_map g verb xs
-  asked_map (Judging r) verb xs = refl
-  asked_map NoPrimitive verb xs = refl
+  asked_map other verb xs = refl
 
   pub safe_map : (x : Words) → native.safe_value x ≡ option_map (maps.value f) (native.safe_value x)
   unfolding native.safe_value native.prims_from

@@ -223,10 +223,8 @@ prom_named (suc k) = refl
 
 named_found : (a : Local) → named (found zero root_alone a) ≡ name_of a
 unfolding named found mess_found far_found name_of root_alone
-named_found (Obj i) = refl
 named_found (Prom k) = prom_named k
-named_found (Far h p) = refl
-named_found (Mess k) = refl
+named_found other = refl
 
 value_twice : {N M P : Type 0} (f : N → M) (g : M → P) (v : Value N) → maps.value g (maps.value f v) ≡ maps.value (λ n. g (f n)) v
 value_twice f g Null = refl

@@ -14,14 +14,7 @@ module _ {N : Type 0} where
 
   pub value_same : (v : Value N) → maps.value self v ≡ v
   value_same Null = refl
-  value_same (Flag b) = refl
-  value_same (Number z) = refl
-  value_same (Letter c) = refl
-  value_same (Text t) = refl
-  value_same (Prim n) = refl
-  value_same (Broken p) = refl
-  value_same (Items k) = refl
-  value_same (Ref n) = refl
+  value_same other = refl
 
   values_same : (vs : List (Value N)) → map (maps.value self) vs ≡ vs
   values_same vs = all_same _ value_same vs
@@ -37,10 +30,8 @@ module _ {N : Type 0} where
   messages_same ms = all_same _ message_same ms
 
   standing_same : (x : Standing N) → maps.standing self x ≡ x
-  standing_same Unsettled = refl
-  standing_same (WaitsOn q) = refl
-  standing_same (Viewed q) = refl
   standing_same (Settled y) = cc (value_same y)
+  standing_same other = refl
 
   names_same : (ns : List N) → map self ns ≡ ns
   names_same ns = all_same self (λ n. refl) ns
@@ -63,11 +54,8 @@ module _ {N : Type 0} where
 
   note_same : (x : Note N) → maps.note self x ≡ x
   note_same (Deliver m y verb args) = rw (may_same m.answer, passeds_same args) refl
-  note_same (Open i y) = refl
-  note_same (Ask p i y) = refl
   note_same (SettledTo p y) = cc (passed_same y)
-  note_same (Elsewhere p c) = refl
-  note_same (Shorten p c i) = refl
+  note_same other = refl
 
   put_same : (x : Put N) → maps.put self x ≡ x
   put_same x = rw (note_same x.note) refl
@@ -101,10 +89,8 @@ module _ {N : Type 0} where
   cells_same xs = all_same _ cell_same xs
 
   freedom_same : (x : Freedom N) → maps.freedom self x ≡ x
-  freedom_same IsSafe = refl
-  freedom_same IsItself = refl
   freedom_same (IsFinal y) = cc (value_same y)
-  freedom_same IsVar = refl
+  freedom_same other = refl
 
   free_same : (x : FreeName N) → maps.free_name self x ≡ x
   free_same x = rw (freedom_same x.freedom) refl
@@ -117,9 +103,8 @@ module _ {N : Type 0} where
 
   thing_same : (t : Thing N) → maps.thing self t ≡ t
   thing_same (Made node caught stamps) = cc (bindings_same caught, values_same stamps)
-  thing_same (Ejector b) = refl
-  thing_same (Resolver p) = refl
   thing_same (Audition b x) = cc (view_same x)
+  thing_same other = refl
 
   things_same : (xs : List (Thing N)) → map (maps.thing self) xs ≡ xs
   things_same xs = all_same _ thing_same xs
@@ -128,27 +113,18 @@ module _ {N : Type 0} where
   line_same (Took a m) = cc (message_same m)
   line_same (Called a x verb args b) = cc (value_same x, values_same args)
   line_same (Back a v) = cc (value_same v)
-  line_same (Thrown a p) = refl
-  line_same (Left a) = refl
   line_same (Got a v) = cc (value_same v)
   line_same (SlotMade a k v) = cc (value_same v)
   line_same (SlotRead a k v) = cc (value_same v)
   line_same (SlotWrote a k v) = cc (value_same v)
   line_same (ListMade a k vs) = cc (values_same vs)
   line_same (ListCame k vs) = cc (values_same vs)
-  line_same (EjectorMade a j) = refl
-  line_same (AuditionMade a j) = refl
-  line_same (PromiseMade a p r) = refl
   line_same (ObjectMade a n x bs vs) = cc (bounds_same bs, values_same vs)
   line_same (Sends a m) = cc (message_same m)
   line_same (Reacts a x o m) = cc (value_same x, value_same o, message_same m)
   line_same (Finished a v) = cc (value_same v)
-  line_same (Threw a p) = refl
   line_same (Settles p y) = cc (value_same y)
-  line_same (Waits p q) = refl
-  line_same (Lost m) = refl
-  line_same (Views p q) = refl
-  line_same (Posted w m) = refl
+  line_same other = refl
 
   lines_same : (xs : List (Happened N)) → map (maps.line self) xs ≡ xs
   lines_same xs = all_same _ line_same xs

@@ -92,19 +92,12 @@ grows Fits = record {
 to_name : {M : Type 0} (c : Change M) (k : Known M) → (changed_to c k).name ≡ k.name
 unfolding changed_to
 to_name (Hold m) k = refl
-to_name (Wait q) k = refl
-to_name (WaitOn q) k = refl
-to_name (See q) k = refl
-to_name (React m) k = refl
-to_name (ToTell v) k = refl
-to_name (Settle y) k = refl
+to_name other k = refl
 
 unless_name : {M : Type 0} (t : Standing M) (k new : Known M) → new.name ≡ k.name → (unless_settled t k new).name ≡ k.name
 unfolding unless_settled
 unless_name (Settled y) k new e = refl
-unless_name Unsettled k new e = e
-unless_name (WaitsOn q) k new e = e
-unless_name (Viewed q) k new e = e
+unless_name other k new e = e
 
 changed_name : {M : Type 0} (c : Change M) (k : Known M) → (changed c k).name ≡ k.name
 unfolding changed
@@ -148,9 +141,7 @@ module _ {N M : Type 0} (f : N → M) (Fits : Books M → Type 0) where
       → ((a : A) → Sim f Fits l (k a) (k' (g a))) → FitsAfter Fits (and_then (maps.done f g d) k') → and_then (maps.done f g d) k' ≡ maps.done f l (and_then d k)
   unfolding and_then
   bind_done g l (Gives a s) k k' w h = (w a).at s h
-  bind_done g l (Throws p s) k k' w h = refl
-  bind_done g l (Ejects n v s) k k' w h = refl
-  bind_done g l (Stops c s) k k' w h = refl
+  bind_done g l other k k' w h = refl
 
   bind_found : {A B C D : Type 0} (g : A → B) (l : C → D) (d : Done N A) (e : Done M B) (k : A → Act N C) (k' : B → Act M D)
       → (FitsAfter Fits e → e ≡ maps.done f g d) → ((a : A) → Sim f Fits l (k a) (k' (g a))) → ((b : B) → Keeps (Grows Fits) (k' b))
@@ -285,10 +276,8 @@ module _ {N M : Type 0} (f : N → M) (Fits : Books M → Type 0) where
   unfolding State.change dead
   dead_map [] n = refl
   dead_map (Made a b c ∷ ts) zero = refl
-  dead_map (Ejector b ∷ ts) zero = refl
-  dead_map (Resolver p ∷ ts) zero = refl
-  dead_map (Audition b v ∷ ts) zero = refl
   dead_map (t ∷ ts) (suc n) = ap (λ us. maps.thing f t ∷ us) (dead_map ts n)
+  dead_map other zero = refl
 
   pub sim_kill : (n : ℕ) → Sim f Fits id (kill n) (kill n)
   unfolding kill
@@ -342,18 +331,13 @@ module _ {N M : Type 0} (f : N → M) (Fits : Books M → Type 0) where
   unfolding changed_to
   to_map (Hold m) k = rw (map_end (maps.message f) k.held m) refl
   to_map (Wait q) k = rw (map_end f k.waiting q) refl
-  to_map (WaitOn q) k = refl
-  to_map (See q) k = refl
   to_map (React m) k = rw (map_end (maps.message f) k.reactions m) refl
-  to_map (ToTell v) k = refl
-  to_map (Settle y) k = refl
+  to_map other k = refl
 
   unless_map : (t : Standing N) (k new : Known N) (new' : Known M) → new' ≡ maps.known f new → unless_settled (maps.standing f t) (maps.known f k) new' ≡ maps.known f (unless_settled t k new)
   unfolding unless_settled
   unless_map (Settled y) k new new' e = refl
-  unless_map Unsettled k new new' e = e
-  unless_map (WaitsOn q) k new new' e = e
-  unless_map (Viewed q) k new new' e = e
+  unless_map other k new new' e = e
 
   changed_map : (c : Change N) (k : Known N) → changed (maps.change f c) (maps.known f k) ≡ maps.known f (changed c k)
   unfolding changed

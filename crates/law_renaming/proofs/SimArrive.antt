@@ -78,14 +78,7 @@ module _ {N M W V : Type 0} (f : N → M) (w : W → V) (K : Naming N W) (L : Na
   sim_learn_value : (v : Value (Incoming N W)) → Sim f Fits (maps.value f) (arrive.learn_value K v) (arrive.learn_value L (maps.value (incoming f w) v))
   unfolding arrive.learn_value
   sim_learn_value (Ref x) = search (sims, sim_learn_name, keeps_arrive_all, base, under) depth 12
-  sim_learn_value Null = search sims
-  sim_learn_value (Flag b) = search sims
-  sim_learn_value (Number z) = search sims
-  sim_learn_value (Letter c) = search sims
-  sim_learn_value (Text t) = search sims
-  sim_learn_value (Prim n) = search sims
-  sim_learn_value (Broken p) = search sims
-  sim_learn_value (Items k) = search sims
+  sim_learn_value other = search sims
 
   sim_ask_for : (p h i : ℕ) (n : N) → Sim f Fits id (arrive.ask_for K p h i n) (arrive.ask_for L p h i (f n))
   unfolding arrive.ask_for
@@ -130,9 +123,7 @@ module _ {N M W V : Type 0} (f : N → M) (w : W → V) (K : Naming N W) (L : Na
   sim_break_at : (n : N) (p : Words) (t : Standing N) → Sim f Fits id (arrive.break_at K n p t) (arrive.break_at L (f n) p (maps.standing f t))
   unfolding arrive.break_at
   sim_break_at n p (Settled y) = search sims
-  sim_break_at n p Unsettled = search settles
-  sim_break_at n p (WaitsOn q) = search settles
-  sim_break_at n p (Viewed q) = search settles
+  sim_break_at n p other = search settles
 
   sim_break_unopened : (n : N) (b : Bool) → Sim f Fits id (arrive.break_unopened K n b) (arrive.break_unopened L (f n) b)
   unfolding arrive.break_unopened
@@ -142,9 +133,7 @@ module _ {N M W V : Type 0} (f : N → M) (w : W → V) (K : Naming N W) (L : Na
   sim_tell_asker : (n : N) (h : ℕ) (t : Standing N) → Sim f Fits id (arrive.tell_asker K n h t) (arrive.tell_asker L (f n) h (maps.standing f t))
   unfolding arrive.tell_asker
   sim_tell_asker n h (Settled y) = search informs
-  sim_tell_asker n h Unsettled = search (sims, law)
-  sim_tell_asker n h (WaitsOn q) = search (sims, law)
-  sim_tell_asker n h (Viewed q) = search (sims, law)
+  sim_tell_asker n h other = search (sims, law)
 
   -- ---- arrival
 
@@ -194,10 +183,7 @@ module _ {N M W V : Type 0} (f : N → M) (w : W → V) (K : Naming N W) (L : Na
   sim_shorten_to : (i : ℕ) (p : Place N) → Sim f Fits id (arrive.shorten_to K i p) (arrive.shorten_to L i (maps.place f p))
   unfolding arrive.shorten_to
   sim_shorten_to i (Away h n true) = search sims
-  sim_shorten_to i (Away h n false) = search sims
-  sim_shorten_to i Near = search sims
-  sim_shorten_to i (Mine n) = search sims
-  sim_shorten_to i (Gone p) = search sims
+  sim_shorten_to i other = search sims
 
   sim_shorten : (x : Incoming N W) (i : ℕ) → Sim f Fits id (arrive.arrive_shorten K x i) (arrive.arrive_shorten L (incoming f w x) i)
   unfolding arrive.arrive_shorten
@@ -216,10 +202,9 @@ module _ {N M W V : Type 0} (f : N → M) (w : W → V) (K : Naming N W) (L : Na
 
   sim_break_hosted : (h : ℕ) (n : N) (p : Words) (t : Standing N) → Sim f Fits id (arrive.break_hosted K h n p t) (arrive.break_hosted L h (f n) p (maps.standing f t))
   unfolding arrive.break_hosted
-  sim_break_hosted h n p Unsettled = search settles
-  sim_break_hosted h n p (WaitsOn q) = search settles
   sim_break_hosted h n p (Viewed q) = search sims
   sim_break_hosted h n p (Settled y) = search sims
+  sim_break_hosted h n p other = search settles
 
   sim_notice_name : (h : ℕ) (k : Known N) → Sim f Fits id (arrive.notice_name K h k) (arrive.notice_name L h (maps.known f k))
   unfolding arrive.notice_name

@@ -340,12 +340,7 @@ module _ {N M W V : Type 0} (f : N → M) (w : W → V) (K : Naming N W) (L : Na
   at_call_value rec rec' good grow again x2' h2 g2 act x (Ref n) verb args = rw (law.spot n) (at_call_spot rec rec' good grow again x2' h2 g2 act x (K.spot n) verb args)
   at_call_value rec rec' good grow again x2' h2 g2 act x (Broken p) verb args = search sims
   at_call_value rec rec' good grow again x2' h2 g2 act x (Prim n) verb args = rw (asked_map f (native.primitive n) verb args) (at_perform again x2' h2 g2 act (native.asked (native.primitive n) verb args))
-  at_call_value rec rec' good grow again x2' h2 g2 act x Null verb args = search (sims, evsims, sim_with_lines, sim_data_answer, keeps_eval, base, under, law) depth 16
-  at_call_value rec rec' good grow again x2' h2 g2 act x (Flag b) verb args = search (sims, evsims, sim_with_lines, sim_data_answer, keeps_eval, base, under, law) depth 16
-  at_call_value rec rec' good grow again x2' h2 g2 act x (Number z) verb args = search (sims, evsims, sim_with_lines, sim_data_answer, keeps_eval, base, under, law) depth 16
-  at_call_value rec rec' good grow again x2' h2 g2 act x (Letter c) verb args = search (sims, evsims, sim_with_lines, sim_data_answer, keeps_eval, base, under, law) depth 16
-  at_call_value rec rec' good grow again x2' h2 g2 act x (Text t) verb args = search (sims, evsims, sim_with_lines, sim_data_answer, keeps_eval, base, under, law) depth 16
-  at_call_value rec rec' good grow again x2' h2 g2 act x (Items k) verb args = search (sims, evsims, sim_with_lines, sim_data_answer, keeps_eval, base, under, law) depth 16
+  at_call_value rec rec' good grow again x2' h2 g2 act x other verb args = search (sims, evsims, sim_with_lines, sim_data_answer, keeps_eval, base, under, law) depth 16
 
   sim_call_value : (x1 : Evaluator N) (x1' : Evaluator M) → SameEvaluator f Fits x1 x1' → GoodEvaluator (Grows Fits) x1' → (x2 : Caller N) (x2' : Caller M) → SameCaller f Fits x2 x2' → GoodCaller (Grows Fits) x2' → (x3 : ℕ) → (x4 : Value N) (x4' : Value M) → x4' ≡ maps.value f x4 → (x5 : Value N) (x5' : Value M) → x5' ≡ maps.value f x5 → (x6 : Words) → (x7 : List (Value N)) (x7' : List (Value M)) → x7' ≡ map (maps.value f) x7 → Sim f Fits (maps.value f) (calls.call_value K tree x1 x2 x3 x4 x5 x6 x7) (calls.call_value L tree x1' x2' x3 x4' x5' x6 x7')
   sim_call_value x1 x1' h1 g1 x2 x2' h2 g2 x3 x4 x4' e4 x5 x5' e5 x6 x7 x7' e7 = rw (e4, e5, e7) (at_call_value x1 x1' h1 g1 x2 x2' h2 g2 x3 x4 x5 x6 x7)
@@ -398,12 +393,7 @@ module _ {N M W V : Type 0} (f : N → M) (w : W → V) (K : Naming N W) (L : Na
   at_turn_value rec rec' good grow act (Ref n) verb args = rw (law.spot n) (at_turn_spot rec rec' good grow act (K.spot n) verb args)
   at_turn_value rec rec' good grow act (Broken p) verb args = search sims
   at_turn_value rec rec' good grow act (Prim n) verb args = rw (asked_map f (native.primitive n) verb args) (at_perform (calls.call K tree rec) (calls.call L tree rec') (sim_caller rec rec' good grow) (grown.keeps_call L (Grows Fits) base under tree rec' grow) act (native.asked (native.primitive n) verb args))
-  at_turn_value rec rec' good grow act Null verb args = search (sims, evsims, sim_data_answer, sim_call, grown.keeps_call, keeps_eval, base, under, law) depth 16
-  at_turn_value rec rec' good grow act (Flag b) verb args = search (sims, evsims, sim_data_answer, sim_call, grown.keeps_call, keeps_eval, base, under, law) depth 16
-  at_turn_value rec rec' good grow act (Number z) verb args = search (sims, evsims, sim_data_answer, sim_call, grown.keeps_call, keeps_eval, base, under, law) depth 16
-  at_turn_value rec rec' good grow act (Letter c) verb args = search (sims, evsims, sim_data_answer, sim_call, grown.keeps_call, keeps_eval, base, under, law) depth 16
-  at_turn_value rec rec' good grow act (Text t) verb args = search (sims, evsims, sim_data_answer, sim_call, grown.keeps_call, keeps_eval, base, under, law) depth 16
-  at_turn_value rec rec' good grow act (Items k) verb args = search (sims, evsims, sim_data_answer, sim_call, grown.keeps_call, keeps_eval, base, under, law) depth 16
+  at_turn_value rec rec' good grow act other verb args = search (sims, evsims, sim_data_answer, sim_call, grown.keeps_call, keeps_eval, base, under, law) depth 16
 
   sim_turn_value : (x1 : Evaluator N) (x1' : Evaluator M) → SameEvaluator f Fits x1 x1' → GoodEvaluator (Grows Fits) x1' → (x2 : ℕ) → (x3 : Value N) (x3' : Value M) → x3' ≡ maps.value f x3 → (x4 : Words) → (x5 : List (Value N)) (x5' : List (Value M)) → x5' ≡ map (maps.value f) x5 → Sim f Fits (maps.value f) (calls.turn_value K tree x1 x2 x3 x4 x5) (calls.turn_value L tree x1' x2 x3' x4 x5')
   sim_turn_value x1 x1' h1 g1 x2 x3 x3' e3 x4 x5 x5' e5 = rw (e3, e5) (at_turn_value x1 x1' h1 g1 x2 x3 x4 x5)

@@ -406,11 +406,10 @@ module _ {N M W V : Type 0} (f : N → M) (w : W → V) (K : Naming N W) (L : Na
 
   at_reply : (x1 : Caller N) (x1' : Caller M) → SameCaller f Fits x1 x1' → GoodCaller (Grows Fits) x1' → (x2 : ℕ) → (x3 : Reply N) → Sim f Fits (maps.value f) (perform.reply K tree x1 x2 x3) (perform.reply L tree x1' x2 (evals.reply f x3))
   unfolding perform.reply
-  at_reply again x1' h1 g1 act (Says v) = search (sims, evsims, keeps_eval, base, under, law) depth 16
   at_reply again x1' h1 g1 act (Writes t) = search (sims, evsims, sim_write_text, keeps_eval, base, under, law) depth 16
   at_reply again x1' h1 g1 act (Lists vs) = search (sims, evsims, sim_make_list, keeps_eval, base, under, law) depth 16
   at_reply again x1' h1 g1 act (Iterates o vs) = search (sims, evsims, sim_iterate, keeps_eval, base, under, law) depth 16
-  at_reply again x1' h1 g1 act (Fails p) = search (sims, evsims, keeps_eval, base, under, law) depth 16
+  at_reply again x1' h1 g1 act other = search (sims, evsims, keeps_eval, base, under, law) depth 16
 
   pub sim_reply : (x1 : Caller N) (x1' : Caller M) → SameCaller f Fits x1 x1' → GoodCaller (Grows Fits) x1' → (x2 : ℕ) → (x3 : Reply N) (x3' : Reply M) → x3' ≡ evals.reply f x3 → Sim f Fits (maps.value f) (perform.reply K tree x1 x2 x3) (perform.reply L tree x1' x2 x3')
   sim_reply x1 x1' h1 g1 x2 x3 x3' e3 = rw (e3) (at_reply x1 x1' h1 g1 x2 x3)

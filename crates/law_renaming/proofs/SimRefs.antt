@@ -51,14 +51,7 @@ module _ {N M : Type 0} (f : N → M) where
       → room_by G (map (map (maps.value f)) ls) (maps.value f v) r ≡ room_by F ls v r
   unfolding room_by own_weight
   by_map F G e ls (Items k) r = elim (take_room 1 r) as (λ o. elim o [ Some left ↦ G (list_at (map (map (maps.value f)) ls) k) left | None ↦ None ] ≡ elim o [ Some left ↦ F (list_at ls k) left | None ↦ None ]) [ Some left ↦ rw (list_at_map ls k) (e (list_at ls k) left) | None ↦ refl ]
-  by_map F G e ls Null r = refl
-  by_map F G e ls (Flag b) r = refl
-  by_map F G e ls (Number z) r = refl
-  by_map F G e ls (Letter c) r = refl
-  by_map F G e ls (Text t) r = refl
-  by_map F G e ls (Prim n) r = refl
-  by_map F G e ls (Broken p) r = refl
-  by_map F G e ls (Ref n) r = refl
+  by_map F G e ls other r = refl
 
   pub room_map : (F : Value N → Value N) (G : Value M → Value M) → ((v : Value N) → G (maps.value f v) ≡ maps.value f (F v)) → (ls : List (List (Value N))) (d : ℕ) (v : Value N) (r : ℕ)
       → room_after G (map (map (maps.value f)) ls) d (maps.value f v) r ≡ room_after F ls d v r
@@ -90,10 +83,9 @@ module _ {N M W V : Type 0} (f : N → M) (w : W → V) (K : Naming N W) (L : Na
 
   led_map : (on : Value N → Value N) (on' : Value M → Value M) → ((y : Value N) → on' (maps.value f y) ≡ maps.value f (on y)) → (n : N) (st : Standing N) → refs.led L on' (f n) (maps.standing f st) ≡ maps.value f (refs.led K on n st)
   unfolding refs.led
-  led_map on on' h n Unsettled = refl
-  led_map on on' h n (WaitsOn q) = refl
   led_map on on' h n (Viewed q) = h (Ref q)
   led_map on on' h n (Settled y) = h y
+  led_map on on' h n other = refl
 
   follow_map : (d : ℕ) (ks : List (Known N)) (x : Value N) → refs.follow_at L d (map (maps.known f) ks) (maps.value f x) ≡ maps.value f (refs.follow_at K d ks x)
   unfolding refs.follow_at
@@ -130,9 +122,8 @@ module _ {N M W V : Type 0} (f : N → M) (w : W → V) (K : Naming N W) (L : Na
 
   spotted_map : (s : Vat N) (n : N) (p : Spot) → refs.spotted L (maps.vat f s) (f n) p ≡ maps.place f (refs.spotted K s n p)
   unfolding refs.spotted
-  spotted_map s n (Own i) = refl
-  spotted_map s n (Foreign h) = refl
   spotted_map s n NoObject = rw (host_map s.number s.known n) (hosted_map s.number _ n)
+  spotted_map s n other = refl
 
   pub same_place : (y : Value N) (s : Vat N) → refs.place L (maps.vat f s) (maps.value f y) ≡ maps.place f (refs.place K s y)
   unfolding refs.place
@@ -168,14 +159,7 @@ module _ {N M W V : Type 0} (f : N → M) (w : W → V) (K : Naming N W) (L : Na
   parcel_at_map : (s : Vat N) (y : Value N) → refs.parcel_at L (maps.vat f s) (maps.value f y) ≡ maps.parcel f (refs.parcel_at K s y)
   unfolding refs.parcel_at own_weight
   parcel_at_map s (Items k) = rw (room_map f (refs.follow K s) (refs.follow L (maps.vat f s)) (followed s) s.lists highest (Items k) most) (parcel_list_map s (Items k) (room_after (refs.follow K s) s.lists highest (Items k) most))
-  parcel_at_map s Null = refl
-  parcel_at_map s (Flag b) = refl
-  parcel_at_map s (Number z) = refl
-  parcel_at_map s (Letter c) = refl
-  parcel_at_map s (Text t) = refl
-  parcel_at_map s (Prim n) = refl
-  parcel_at_map s (Broken p) = refl
-  parcel_at_map s (Ref n) = refl
+  parcel_at_map s other = refl
 
   same_parcel : (x : Value N) (s : Vat N) → refs.parcel L (maps.vat f s) (maps.value f x) ≡ maps.parcel f (refs.parcel K s x)
   unfolding refs.parcel
@@ -213,8 +197,7 @@ module _ {N M W V : Type 0} (f : N → M) (w : W → V) (K : Naming N W) (L : Na
   unfolding refs.led_by_wait
   led_wait_map on on' e (WaitsOn q) = e q
   led_wait_map on on' e (Viewed q) = e q
-  led_wait_map on on' e Unsettled = refl
-  led_wait_map on on' e (Settled y) = refl
+  led_wait_map on on' e other = refl
 
   waits_map : (d : ℕ) (ks : List (Known N)) (p n : N) → refs.waits_lead L d (map (maps.known f) ks) (f p) (f n) ≡ refs.waits_lead K d ks p n
   unfolding refs.waits_lead
@@ -251,10 +234,9 @@ module _ {N M W V : Type 0} (f : N → M) (w : W → V) (K : Naming N W) (L : Na
 
   sim_address_plain : (h : ℕ) (y : Value N) (p : Place N) → Sim f Fits (maps.passed f) (refs.address_plain K h y p) (refs.address_plain L h (maps.value f y) (maps.place f p))
   unfolding refs.address_plain
-  sim_address_plain h y (Away g n o) = search (sims, law, keeps_refs, base, under) depth 12
   sim_address_plain h y Near = search sims
-  sim_address_plain h y (Mine n) = search (sims, law, keeps_refs, base, under) depth 12
   sim_address_plain h y (Gone p) = search sims
+  sim_address_plain h y other = search (sims, law, keeps_refs, base, under) depth 12
 
   mutual
     unfolding refs.address refs.address_all
@@ -317,10 +299,7 @@ module _ {N M W V : Type 0} (f : N → M) (w : W → V) (K : Naming N W) (L : Na
   sim_inform_of : (p : N) (h : ℕ) (y : Value N) (q : Place N) → Sim f Fits id (refs.inform_of K p h y q) (refs.inform_of L (f p) h (maps.value f y) (maps.place f q))
   unfolding refs.inform_of
   sim_inform_of p h y (Away g n true) = search sims
-  sim_inform_of p h y (Away g n false) = search (sims, sim_pass, keeps_refs, base, under) depth 12
-  sim_inform_of p h y Near = search (sims, sim_pass, keeps_refs, base, under) depth 12
-  sim_inform_of p h y (Mine n) = search (sims, sim_pass, keeps_refs, base, under) depth 12
-  sim_inform_of p h y (Gone t) = search (sims, sim_pass, keeps_refs, base, under) depth 12
+  sim_inform_of p h y other = search (sims, sim_pass, keeps_refs, base, under) depth 12
 
   pub sim_inform : (p : N) (h : ℕ) → Sim f Fits id (refs.inform K p h) (refs.inform L (f p) h)
   unfolding refs.inform
@@ -338,9 +317,7 @@ module _ {N M W V : Type 0} (f : N → M) (w : W → V) (K : Naming N W) (L : Na
       → Sim f Fits id (refs.settle_standing K settle p y k t) (refs.settle_standing L settle' (f p) (maps.value f y) (maps.known f k) (maps.standing f t))
   unfolding refs.settle_standing
   sim_settle_standing settle settle' g b p y k (Settled z) = search sims
-  sim_settle_standing settle settle' g b p y k Unsettled = search sim_settle_known
-  sim_settle_standing settle settle' g b p y k (WaitsOn q) = search sim_settle_known
-  sim_settle_standing settle settle' g b p y k (Viewed q) = search sim_settle_known
+  sim_settle_standing settle settle' g b p y k other = search sim_settle_known
 
   sim_settle_entry : (settle : N → Value N → Act N (Unit {0})) (settle' : M → Value M → Act M (Unit {0})) → SameSettler settle settle' → GrowingSettler settle' → (p : N) (y : Value N) (o : Option (Known N))
       → Sim f Fits id (refs.settle_entry K settle p y o) (refs.settle_entry L settle' (f p) (maps.value f y) (option_map (maps.known f) o))
@@ -373,9 +350,7 @@ module _ {N M W V : Type 0} (f : N → M) (w : W → V) (K : Naming N W) (L : Na
   unfolding refs.resolve_to
   sim_resolve_to p y (Mine q) = search sim_wait_unless
   sim_resolve_to p y (Away h q false) = search sim_wait_unless
-  sim_resolve_to p y (Away h q true) = search sim_settle
-  sim_resolve_to p y Near = search sim_settle
-  sim_resolve_to p y (Gone t) = search sim_settle
+  sim_resolve_to p y other = search sim_settle
 
   pub sim_resolve : (p : N) (x : Value N) → Sim f Fits id (refs.resolve K p x) (refs.resolve L (f p) (maps.value f x))
   unfolding refs.resolve
@@ -386,9 +361,7 @@ module _ {N M W V : Type 0} (f : N → M) (w : W → V) (K : Naming N W) (L : Na
   answer_host_map : (v : ℕ) (p : Place N) → refs.answer_host L v (maps.place f p) ≡ refs.answer_host K v p
   unfolding refs.answer_host
   answer_host_map v Near = refl
-  answer_host_map v (Mine n) = refl
-  answer_host_map v (Away h n o) = refl
-  answer_host_map v (Gone p) = refl
+  answer_host_map v other = refl
 
   sim_message_at : (h h' : ℕ) → h' ≡ h → Sim f Fits (maps.pair f) (new_message K h) (new_message L h')
   sim_message_at h h' e = rw e (sim_message f w K L Fits law h)
@@ -412,9 +385,7 @@ module _ {N M W V : Type 0} (f : N → M) (w : W → V) (K : Naming N W) (L : Na
   unfolding refs.react_at
   sim_react_at m (Mine n) = search (sims, law)
   sim_react_at m (Away h n false) = search (sims, law)
-  sim_react_at m (Away h n true) = search sims
-  sim_react_at m Near = search sims
-  sim_react_at m (Gone p) = search sims
+  sim_react_at m other = search sims
 
   pub sim_react : (act : ℕ) (x o near : Value N) → Sim f Fits (maps.value f) (refs.react K act x o near) (refs.react L act (maps.value f x) (maps.value f o) (maps.value f near))
   unfolding refs.react refs.reaction

@@ -12,10 +12,7 @@ use Rattle.law_renaming.proofs.MapMaps.{vat_twice}
 coming_same : (v : ℕ) (c : Coming Name Name) → found_name v (maps.coming Is (λ (x : Name). x) c) ≡ Is (name_of v c)
 unfolding found_name found_answer name_of
 coming_same v (IsRoot w) = refl
-coming_same v (IsOwn i) = refl
-coming_same v (IsAnswer h m) = refl
-coming_same v (IsGift h i) = refl
-coming_same v (IsLearnt x) = refl
+coming_same v other = refl
 
 mailing_same : (v : ℕ) (c : Mailing Name) → mail_of v (maps.mailing (λ (x : Name). x) c) ≡ mail_of v c
 mailing_same v (IsSent i) = refl
@@ -66,20 +63,12 @@ object_spot false u j e = cc
 object_promise : (v w i : ℕ) (n : Name) → spot_of v n ≡ NoObject → same_reference (Object w i) n ≡ false
 unfolding spot_of same_name same_reference
 object_promise v w i (Object u j) e = absurd (object_spot (v == u) u j e)
-object_promise v w i (Root _) e = refl
-object_promise v w i (Promise _ _) e = refl
-object_promise v w i (Answer _ _) e = refl
-object_promise v w i (Gift _ _) e = refl
-object_promise v w i (Sent _) e = refl
+object_promise v w i other e = refl
 
 promise_object : (v w i : ℕ) (n : Name) → spot_of v n ≡ NoObject → same_reference n (Object w i) ≡ false
 unfolding spot_of same_name same_reference
 promise_object v w i (Object u j) e = absurd (object_spot (v == u) u j e)
-promise_object v w i (Root _) e = refl
-promise_object v w i (Promise _ _) e = refl
-promise_object v w i (Answer _ _) e = refl
-promise_object v w i (Gift _ _) e = refl
-promise_object v w i (Sent _) e = refl
+promise_object v w i other e = refl
 
 abroad_spot : (b : Bool) (h j : ℕ) → elim b [ true ↦ Own j | false ↦ Foreign h ] ≡ Foreign h → b ≡ false
 abroad_spot true h j e = cc
@@ -101,18 +90,12 @@ home_home v i j = rw (number_same v v refl) refl
 no_message : (a : Name) (m : Msg) → same_reference a (Sent m) ≡ false
 unfolding same_reference same_name
 no_message (Root _) m = refl
-no_message (Object _ _) m = refl
-no_message (Promise _ _) m = refl
-no_message (Answer _ _) m = refl
-no_message (Gift _ _) m = refl
-no_message (Sent _) m = refl
+no_message other m = refl
 
 no_mess : (a : Local) (k : ℕ) → same_local a (Mess k) ≡ false
 unfolding same_local
 no_mess (Obj _) k = refl
-no_mess (Prom _) k = refl
-no_mess (Far _ _) k = refl
-no_mess (Mess _) k = refl
+no_mess other k = refl
 
 own_spot : (v i : ℕ) → found_spot v (Is (Object v i)) ≡ Own i
 unfolding found_spot spot_of
@@ -308,9 +291,7 @@ module _ (v : ℕ) (t u : Table) (more : Extends t u) where
 
 free : {C : Type 0} (d : Done Found C) → FitsAfter (λ (b : Books Found). Unit {0}) d
 free (Gives a u) = tt
-free (Throws p u) = tt
-free (Ejects n w u) = tt
-free (Stops c u) = tt
+free other = tt
 
 abbrev pub books_of : Table → Books Name
 books_of t = record { names = t.names; mails = t.mails }

@@ -15,9 +15,7 @@ use Rattle.law_renaming.proofs.Stands.{step_stands, books_of, books_after, FitsT
 
 books_same : (t : Table) (d : Done Name (Unit {0})) → EndsWith t d → books_after d ≡ books_of t
 books_same t (Gives a u) h = cc (h.0, h.1)
-books_same t (Throws p u) h = cc (h.0, h.1)
-books_same t (Ejects n x u) h = cc (h.0, h.1)
-books_same t (Stops c u) h = cc (h.0, h.1)
+books_same t other h = cc (h.0, h.1)
 
 pub arrivals_stand : ArrivalsStand
 arrivals_stand word v t good w from n m e s r stands h = step_stands v t good id id (arrive (numbering word) from n) (arrive (naming word v) from m) (arrive (finding word v) from (maps.note (incoming (found v t) w) n))

@@ -84,12 +84,8 @@ module _ (K : Naming Name Name) where
 module _ (word : ℕ → ℕ) (v : ℕ) where
   far_root : (w : ℕ) (m : Name) (h : ℕ) → spot_of v m ≡ Foreign h → same_reference (Root w) m ≡ false
   unfolding spot_of same_name same_reference
-  far_root w (Root u) h e = cc
   far_root w (Object u i) h e = refl
-  far_root w (Promise u i) h e = cc
-  far_root w (Answer u m) h e = cc
-  far_root w (Gift u i) h e = cc
-  far_root w (Sent m) h e = cc
+  far_root w other h e = cc
 
   far_head : (b : Bool) (k : Known Name) (o : Option (Known Name)) → b ≡ false → o ≡ None → ◌≡◌ {A = Option (Known Name)} (elim b [ true ↦ Some k | false ↦ o ]) None
   far_head b k o e h = rw e h

@@ -27,10 +27,9 @@ module _ (script : Script) where
   on w y r m = (w ∷ r.0, (m, r.1))
 
   honest : (w : World) (e : Entry) → IsHonest script Nobody AnyNotice NoDeed NoWord w e
-  honest w (Turn v) = λ h. h
-  honest w (Carry a v) = λ h. h
   honest w (CutLink a b) = tt
   honest w (NoticeLink v to) = (λ h. h, tt)
+  honest w other = λ h. h
 
   then_reached : (x : World) (r : Run) (f : World → Run) → ((y : World) → r ≡ Going y → IsReached script y) → ((y : World) → IsReached script y → f y ≡ Going x → IsReached script x) → world.then_goes r f ≡ Going x → IsReached script x
   unfolding world.then_goes

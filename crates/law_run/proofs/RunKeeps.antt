@@ -61,17 +61,13 @@ module _ (script : Script) (R : ℕ → Vat Name → Vat Name → Type 0) (law :
 
   after_gives : (v : ℕ) (s r : Vat Name) (d : Done Name (Unit {0})) → R v s r → After (R v) r d → (a : Unit {0}) (t : Vat Name) → d ≡ Gives a t → R v s t
   after_gives v s r (Gives a t) h k b u e = let i : t ≡ u = cc in law.trans v s r u h (rw i at k)
-  after_gives v s r (Throws p t) h k b u e = cc
-  after_gives v s r (Ejects n y t) h k b u e = cc
-  after_gives v s r (Stops c t) h k b u e = cc
+  after_gives v s r other h k b u e = cc
 
   -- what a step of vat v makes of the world
   put_back_keeps : (v : ℕ) (w x : World) (head : List Event) (n : ℕ) (s r : Vat Name) (d : Done Name (Unit {0})) → slice_get w.vats v ≡ Some s → R v s r → After (R v) r d → put_back v w head n d ≡ Goes x → EachVat R w x
   unfolding put_back
   put_back_keeps v w x head n s r (Gives a t) e h k i = let same : put_at v t w.vats ≡ x.vats = ap (λ (y : World). y.vats) (goes_vats _ x i) in λ u z f. let here = put_lead R law.same v w.vats s t e (law.trans v s r t h k) u z f in (here.0, rw same at here.1, here.2)
-  put_back_keeps v w x head n s r (Throws p t) e h k i = cc
-  put_back_keeps v w x head n s r (Ejects m y t) e h k i = cc
-  put_back_keeps v w x head n s r (Stops c t) e h k i = cc
+  put_back_keeps v w x head n s r other e h k i = cc
 
   within_keeps : (v : ℕ) (w x : World) (head : List Event) (n : ℕ) (what : Step Name Name) (s q : Vat Name) → slice_get w.vats v ≡ Some s → R v s q
       → within v w head n (does (names script v) what) (Some q) ≡ Goes x → EachVat R w x

@@ -167,9 +167,7 @@ world_same w x e = cc
 fuel_put_back : (v : ℕ) (w x : World) (head : List Event) (n : ℕ) (r : Vat Name) (d : Done Name (Unit {0})) → r.fuel ≡ w.fuel → After NoMoreFuel r d → put_back v w head n d ≡ Goes x → FuelFalls w x
 unfolding put_back
 fuel_put_back v w x head n r (Gives a t) f h i = let same : t.fuel ≡ x.fuel = ap (λ (y : World). y.fuel) (world_same _ x i) in omega arith
-fuel_put_back v w x head n r (Throws p t) f h i = cc
-fuel_put_back v w x head n r (Ejects m y t) f h i = cc
-fuel_put_back v w x head n r (Stops c t) f h i = cc
+fuel_put_back v w x head n r other f h i = cc
 
 fuel_kept : (script : Script) → IsKeptByRuns script FuelFalls
 unfolding within readied
@@ -191,9 +189,7 @@ history_put_back : (v : ℕ) (w x : World) (head : List Event) (n : ℕ) (d : Do
 unfolding put_back
 history_put_back v w x head n (Gives a t) i = let same : (w.history ++ head) ++ events_of w.links v t.happened ≡ x.history = ap (λ (y : World). y.history) (world_same _ x i) in
     (head ++ events_of w.links v t.happened, sym same ∙ append_assoc w.history head (events_of w.links v t.happened))
-history_put_back v w x head n (Throws p t) i = cc
-history_put_back v w x head n (Ejects m y t) i = cc
-history_put_back v w x head n (Stops c t) i = cc
+history_put_back v w x head n other i = cc
 
 history_trans : (w x y : World) → Longer w x → Longer x y → Longer w y
 history_trans w x y h k = (h.0 ++ k.0, k.1 ∙ ap (λ l. l ++ k.0) h.1 ∙ append_assoc w.history h.0 k.0)

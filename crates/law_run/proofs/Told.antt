@@ -41,9 +41,7 @@ module _ (script : Script) (Hostile : ℕ → Type 0) (MayNotice : World → ℕ
       → world.put_back v w head k d ≡ Going y → M w y
   unfolding world.put_back went
   alone_told w y v head k s q what (Gives u t) h a m o f e = Steps v s q t what head h a m o (f t refl) (going_is _ y e)
-  alone_told w y v head k s q what (Throws p t) h a m o f e = cc
-  alone_told w y v head k s q what (Ejects n z t) h a m o f e = cc
-  alone_told w y v head k s q what (Stops c t) h a m o f e = cc
+  alone_told w y v head k s q what other h a m o f e = cc
 
   turn_queue_told : (k v : ℕ) (w y : World) (s : Vat Name) → (Hostile v → ⊥) → slice_get w.vats v ≡ Some s → (qs : List (Message Name)) → s.queue ≡ qs → world.turn_queue script k v w s qs ≡ Going y → M w y
   unfolding world.turn_queue world.within does
@@ -60,9 +58,7 @@ module _ (script : Script) (Hostile : ℕ → Type 0) (MayNotice : World → ℕ
       → ((t : Vat Name) → d ≡ Gives tt t → Does script w v s s t (Receives a (read_note (names_of s) n))) → world.put_back v (record w { links = with_link (with_notes ns) a v w.links }) (Carried i a v n frame ∷ []) k d ≡ Going y → M w y
   unfolding world.put_back went
   carried_told w y a v i frame k s n ns l (Gives u t) h at c j f e = Arrives a v s t n ns l i frame h at c j (f t refl) (going_is _ y e)
-  carried_told w y a v i frame k s n ns l (Throws p t) h at c j f e = cc
-  carried_told w y a v i frame k s n ns l (Ejects x z t) h at c j f e = cc
-  carried_told w y a v i frame k s n ns l (Stops r t) h at c j f e = cc
+  carried_told w y a v i frame k s n ns l other h at c j f e = cc
 
   arrives_told : (k a v : ℕ) (w y : World) (n : Note Name) (ns : List (Note Name)) (l : Link) → (Hostile v → ⊥) → link_at a v w.links ≡ Some l → l.cut ≡ false → l.notes ≡ n ∷ ns → (o : Option (Vat Name)) → slice_get w.vats v ≡ o
       → world.arrives script k a v (record w { links = with_link (with_notes ns) a v w.links }) n o ≡ Going y → M w y

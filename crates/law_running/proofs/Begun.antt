@@ -205,15 +205,11 @@ step_numbered v low w x head s t ls at vats more new under_head up rises h = rec
 
 rises_after : (low : ℕ) (t : Vat Name) (d : Done Name (Unit {0})) → Ends low d → d ≡ Gives tt t → Rises low (map begun_by t.happened) t.activations
 rises_after low t (Gives u x) h q = let same : x ≡ t = cc in subst (λ (z : Vat Name). Rises low (map begun_by z.happened) z.activations) same h
-rises_after low t (Throws p x) h q = cc
-rises_after low t (Ejects n y x) h q = cc
-rises_after low t (Stops c x) h q = cc
+rises_after low t other h q = cc
 
 after_rises : (r t : Vat Name) (d : Done Name (Unit {0})) → After (λ s t. Rises s.activations (map begun_by t.happened) t.activations) r d → d ≡ Gives tt t → Rises r.activations (map begun_by t.happened) t.activations
 after_rises r t (Gives u x) h q = let same : x ≡ t = cc in subst (λ (z : Vat Name). Rises r.activations (map begun_by z.happened) z.activations) same h
-after_rises r t (Throws p x) h q = cc
-after_rises r t (Ejects n y x) h q = cc
-after_rises r t (Stops c x) h q = cc
+after_rises r t other h q = cc
 
 module _ (script : Script) (v : ℕ) where
   abbrev K : Naming Name Name

@@ -100,9 +100,7 @@ module _ (script : Script) where
       → IsTaken script w v s ms (head ∷ []) step → IsNeutral head → does (names script v) step (world.readied w (record s { queue = ms })) ≡ d → Reached (Course script) (world.put_back v y (head ∷ []) n d)
   unfolding world.put_back
   back_course v w y n s ms head step (Gives u t) h vats same at taken plain q = stepped v s t ms head step y.links h at taken plain q (ap (world.put_at v t) vats) (ap (λ es. (es ++ head ∷ []) ++ world.events_of y.links v t.happened) same)
-  back_course v w y n s ms head step (Throws x t) h vats same at taken plain q = quiet [] h vats (same ∙ sym (end_none w.history)) tt
-  back_course v w y n s ms head step (Ejects i x t) h vats same at taken plain q = quiet [] h vats (same ∙ sym (end_none w.history)) tt
-  back_course v w y n s ms head step (Stops c t) h vats same at taken plain q = quiet [] h vats (same ∙ sym (end_none w.history)) tt
+  back_course v w y n s ms head step other h vats same at taken plain q = quiet [] h vats (same ∙ sym (end_none w.history)) tt
 
   within_course : (v : ℕ) (w : World) (n : ℕ) (s : Vat Name) (ms : List (Message Name)) (head : Event) (step : Step Name Name) → Course script w → slice_get w.vats v ≡ Some s → IsTaken script w v s ms (head ∷ []) step → IsNeutral head
       → Reached (Course script) (world.within v w (head ∷ []) n (does (names script v) step) (Some (record s { queue = ms })))
@@ -200,9 +198,7 @@ module _ (script : Script) where
       → opening (names script v) p.tree script.depth (Root v) (world.given script.vats p.knows) (world.readied w s) ≡ d → IsOpening (suc v) (world.put_back v w (Opens v ∷ []) v d)
   unfolding world.put_back
   open_back v p w s at e h (Gives u t) q = next p s t h at e q refl refl
-  open_back v p w s at e h (Throws x t) q = opened v h
-  open_back v p w s at e h (Ejects i x t) q = opened v h
-  open_back v p w s at e h (Stops c t) q = opened v h
+  open_back v p w s at e h other q = opened v h
 
   open_course : (v : ℕ) (p : Program) (w : World) (o : Option (Vat Name)) → slice_get script.vats v ≡ Some p → slice_get w.vats v ≡ o → Opening script v w
       → IsOpening (suc v) (world.within v w (Opens v ∷ []) v (opening (names script v) p.tree script.depth (Root v) (world.given script.vats p.knows)) o)

@@ -69,11 +69,7 @@ index_of k (j ∷ ks) (inr m) = let r = index_of k ks m in (suc r.0, r.1)
 not_same : (a b : Name) → same_name a b ≡ false → same_reference a b ≡ false
 unfolding same_reference
 not_same (Sent m) b q = refl
-not_same (Root u) b q = q
-not_same (Object u i) b q = q
-not_same (Promise u i) b q = q
-not_same (Answer u m) b q = q
-not_same (Gift u i) b q = q
+not_same other b q = q
 
 module _ (script : Script) (v : ℕ) where
   abbrev K : Naming Name Name
@@ -95,11 +91,7 @@ module _ (D : ℕ → Type 0) (v : ℕ) where
 
   answer_own : (p : Name) → host_of p ≡ v → IsAnswerName p → Own p
   answer_own (Answer h m) q a = (q, λ i. i)
-  answer_own (Root u) q a = absurd a
-  answer_own (Object u i) q a = absurd a
-  answer_own (Promise u i) q a = absurd a
-  answer_own (Gift u i) q a = absurd a
-  answer_own (Sent m) q a = absurd a
+  answer_own other q a = absurd a
 
   root_own : Own (Root v)
   unfolding host_of
@@ -161,8 +153,7 @@ module _ (script : Script) (once : KnowsOnce script) {w : World} {v : ℕ} {e : 
   owed_by : (step : Step Name Name) (head : List Event) → IsTaken script l.from v l.vat l.queue head step → (p : Name) → IsOwed (names script v) (record { step = l.step; vat = l.before }) step p → Mine p
   owed_by (Opens tree depth root given) head t p o = subst Mine (sym (o ∙ t.6)) (root_own rings.views v)
   owed_by (Takes tree depth m) head t p o = let q = subst (λ ms. name.AllOf (ringless.IsOwn v) ms) t.2 quiet.queue in some_own rings.views v m.answer p o q.0.1
-  owed_by (Receives from n) head t p o = absurd o
-  owed_by (Notices u) head t p o = absurd o
+  owed_by other head t p o = absurd o
 
   resolver_own : (i : ℕ) (p : Name) → slice_get l.before.things i ≡ Some (Resolver p) → Mine p
   unfolding names naming name_of

@@ -49,11 +49,7 @@ own_none i q = cc
 pub own_object : (v : ℕ) (n : Name) (i : ℕ) → spot_of v n ≡ Own i → n ≡ Object v i
 unfolding spot_of
 own_object v (Object w n) i q = own_else v w n i (v == w) refl q
-own_object v (Root w) i q = absurd (own_none i q)
-own_object v (Promise w j) i q = absurd (own_none i q)
-own_object v (Answer w m) i q = absurd (own_none i q)
-own_object v (Gift w j) i q = absurd (own_none i q)
-own_object v (Sent m) i q = absurd (own_none i q)
+own_object v other i q = absurd (own_none i q)
 
 -- ---- ways by the lines of a history
 
@@ -86,11 +82,7 @@ module _ (script : Script) (draws : List ℕ) (apart : SettledApart script draws
   not_object : (n : Name) (y : Value Name) → IsAmong (Here v (Settles n y)) whole → uses.is_object (show.shown_name draws n) ≡ false
   unfolding uses.is_object show.shown_name show.shown_gift
   not_object (Object u i) y j = absurd (plain v u i y j)
-  not_object (Root u) y j = refl
-  not_object (Promise u i) y j = refl
-  not_object (Answer u m) y j = refl
-  not_object (Gift u i) y j = refl
-  not_object (Sent m) y j = refl
+  not_object other y j = refl
 
   in_whole : (h k : List Event) → whole ≡ h ++ k → (e : Event) → IsAmong e h → IsAmong e whole
   in_whole h k q e i = subst (λ es. IsAmong e es) (sym q) (among_left e h k i)

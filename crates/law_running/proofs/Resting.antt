@@ -70,22 +70,19 @@ module _ {script : Script} {w : World} {v : ℕ} {e : Happened Name} (l : LineOf
     -- ---- the lines of a turn
 
     no_views : (so : List (Happened Name)) (p q : Name) (step : Step Name Name) → IsTurn step → ViewsBy K E step p q → ⊥
-    no_views so p q (Opens tree depth root given) t h = h
-    no_views so p q (Takes tree depth m) t h = h
     no_views so p q (Receives from n) t h = t
     no_views so p q (Notices u) t h = t
+    no_views so p q other t h = h
 
     no_says : (so : List (Happened Name)) (p : Name) (x : Value Name) (step : Step Name Name) → IsTurn step → Says K E so step p x → ⊥
-    no_says so p x (Opens tree depth root given) t h = h
-    no_says so p x (Takes tree depth m) t h = h
     no_says so p x (Receives from n) t h = t
     no_says so p x (Notices u) t h = t
+    no_says so p x other t h = h
 
     no_arrival : (from : ℕ) (n : _) (step : Step Name Name) → IsTurn step → step ≡ Receives from n → ⊥
-    no_arrival from n (Opens tree depth root given) t q = cc
-    no_arrival from n (Takes tree depth m) t q = cc
     no_arrival from n (Receives u x) t q = t
     no_arrival from n (Notices u) t q = t
+    no_arrival from n other t q = cc
 
     -- so far a name that was known and is not the vat's own settled to what is broken alone, and none came to wait or be viewed
     pub record Left (so : List (Happened Name)) : Type 0 where

@@ -114,9 +114,7 @@ module _ {N W : Type 0} (K : Naming N W) (T : Message N → Type 0) (C : Type 0)
   bind_after : {A B : Type 0} (s : Vat N) (d : Done N A) (f : A → Act N B) → After Tells s d → ((a : A) → Telling (f a)) → After Tells s (and_then d f)
   unfolding and_then
   bind_after s (Gives a t) f h k = widen s t h (f a t) ((k a).after t)
-  bind_after s (Throws p t) f h k = h
-  bind_after s (Ejects n v t) f h k = h
-  bind_after s (Stops c t) f h k = h
+  bind_after s other f h k = h
 
   tells_bind : {A B : Type 0} {m : Act N A} {f : A → Act N B} → Telling m → ((a : A) → Telling (f a)) → Telling (m >>= f)
   unfolding ◌>>=◌
@@ -284,9 +282,7 @@ module _ {N W : Type 0} (K : Naming N W) (T : Message N → Type 0) (C : Type 0)
   not_settled : (x : Standing N) (k new : Known N) → ((z : Value N) → x ≡ Settled z → ⊥) → unless_settled x k new ≡ new
   unfolding unless_settled
   not_settled (Settled z) k new f = absurd (f z refl)
-  not_settled Unsettled k new f = refl
-  not_settled (WaitsOn q) k new f = refl
-  not_settled (Viewed q) k new f = refl
+  not_settled other k new f = refl
 
   some_known : (j k : Known N) → Some j ≡ Some k → j ≡ k
   some_known j k e = cc
@@ -551,8 +547,7 @@ module _ {N W : Type 0} (K : Naming N W) (T : Message N → Type 0) (C : Type 0)
   abbrev pub MayTake : Step N W → Type 0
   MayTake (Opens tree depth root given) = C
   MayTake (Takes tree depth m) = T m × C
-  MayTake (Receives from n) = Unit {0}
-  MayTake (Notices w) = Unit {0}
+  MayTake other = Unit {0}
 
   -- so does each step
   pub steps_tell : (step : Step N W) → MayTake step → Telling (does K step)

@@ -34,8 +34,7 @@ module _ (K : Naming Name Name) (tree : List Node) (rec : Evaluator Name) where
   spot_own : (a : ℕ) (o : Option Name) (verb : Words) (args : List (Value Name)) (s t : Vat Name) (p : Spot) → eval.closes K tree a o (calls.turn_spot K tree rec a p verb args) s ≡ Gives tt t → (i : ℕ) × (p ≡ Own i)
   unfolding eval.closes calls.turn_spot ending end_by stop
   spot_own a o verb args s t (Own i) q = (i, refl)
-  spot_own a o verb args s t (Foreign h) q = absurd (stops_not s t q)
-  spot_own a o verb args s t NoObject q = absurd (stops_not s t q)
+  spot_own a o verb args s t other q = absurd (stops_not s t q)
 
   value_own : (a : ℕ) (o : Option Name) (verb : Words) (args : List (Value Name)) (s t : Vat Name) (n : Name) → Runs a o (Ref n) verb args s ≡ Gives tt t → (i : ℕ) × (K.spot n ≡ Own i)
   unfolding calls.turn_value
@@ -48,23 +47,17 @@ taking_own K tree depth m s t n e q = value_own K tree (eval.evaluator K tree de
 
 -- the message of a step
 abbrev pub IsStepOf : Step Name Name → Message Name → Type 0
-IsStepOf (Opens tree depth root given) m = ⊥
 IsStepOf (Takes tree depth x) m = x ≡ m
-IsStepOf (Receives from n) m = ⊥
-IsStepOf (Notices w) m = ⊥
+IsStepOf other m = ⊥
 
 own_may : (K : Naming Name Name) (step : Step Name Name) → MayTake K (IsStepOf step) (IsTurn step) step
-own_may K (Opens tree depth root given) = tt
 own_may K (Takes tree depth m) = (refl, tt)
-own_may K (Receives from n) = tt
-own_may K (Notices w) = tt
+own_may K other = tt
 
 step_own : (K : Naming Name Name) (step : Step Name Name) (s t : Vat Name) → does K step s ≡ Gives tt t → (m : Message Name) → IsStepOf step m → (n : Name) → m.target ≡ Ref n → (i : ℕ) × (K.spot n ≡ Own i)
 unfolding does
-step_own K (Opens tree depth root given) s t q m h n e = absurd h
 step_own K (Takes tree depth x) s t q m h n e = taking_own K tree depth x s t n (ap (λ (y : Message Name). y.target) h ∙ e) q
-step_own K (Receives from x) s t q m h n e = absurd h
-step_own K (Notices w) s t q m h n e = absurd h
+step_own K other s t q m h n e = absurd h
 
 module _ (script : Script) (v : ℕ) where
   -- what is known of a name is among what is known
@@ -125,10 +118,9 @@ module _ {script : Script} {w : World} {v : ℕ} {e : Happened Name} (l : LineOf
 
   -- a step that takes a message, or tells of a call, is a turn
   turn_of : (step : Step Name Name) (m : Message Name) → IsStepOf step m → IsTurn step
-  turn_of (Opens tree depth root given) m h = tt
-  turn_of (Takes tree depth x) m h = tt
   turn_of (Receives from n) m h = h
   turn_of (Notices u) m h = h
+  turn_of other m h = tt
 
   pub takes_in_turns : (a : ℕ) (m : Message Name) → IsAmong (Took a m) l.so → IsTurn l.step
   takes_in_turns a m i = turn_of l.step m (line_tells.took a m (line_more (Took a m) i))

@@ -19,19 +19,15 @@ use Rattle.law_running.proofs.Standing.{Tells, stands_later, MayTake, steps_tell
 -- how a step that gives has ended
 pub tells_after : {N W : Type 0} (K : Naming N W) (T : Message N → Type 0) (C : Type 0) (r t : Vat N) (d : Done N (Unit {0})) → After (Tells K T C) r d → d ≡ Gives tt t → Tells K T C r t
 tells_after K T C r t (Gives u x) h q = let same : x ≡ t = cc in subst (λ z. Tells K T C r z) same h
-tells_after K T C r t (Throws p x) h q = cc
-tells_after K T C r t (Ejects n y x) h q = cc
-tells_after K T C r t (Stops k x) h q = cc
+tells_after K T C r t other h q = cc
 
 -- any message may be taken
 abbrev Any : Message Name → Type 0
 Any m = Unit {0}
 
 any_may : (K : Naming Name Name) (step : Step Name Name) → MayTake K Any (Unit {0}) step
-any_may K (Starts tree depth root given) = tt
 any_may K (Takes tree depth m) = (tt, tt)
-any_may K (Receives from n) = tt
-any_may K (Notices w) = tt
+any_may K other = tt
 
 module _ (script : Script) where
   -- what is told of a vat's settlings in a history

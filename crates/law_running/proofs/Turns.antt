@@ -70,9 +70,7 @@ module _ {script : Script} {w : World} {v : ℕ} {e : Happened Name} (l : LineOf
 
   after_connected : (d : Done Name (Unit {0})) → d ≡ Gives tt l.after → After (λ s t. Connected (names script v) (held_from l.step s t) t.happened) l.before d → Connected (names script v) (held_from l.step l.before l.after) l.after.happened
   after_connected (Gives u t) q h = let same : t ≡ l.after = cc in subst (λ (z : Vat Name). Connected (names script v) (held_from l.step l.before z) z.happened) same h
-  after_connected (Throws p t) q h = cc
-  after_connected (Ejects n y t) q h = cc
-  after_connected (Stops c t) q h = cc
+  after_connected other q h = cc
 
   wells : Connected (names script v) (held_from l.step l.before l.after) l.after.happened
   wells = after_connected (does (names script v) l.step l.before) l.stepped (steps_connect (names script v) (own_spots script v) l.step l.before (none_before l) still)

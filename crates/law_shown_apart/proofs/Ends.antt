@@ -23,9 +23,7 @@ StopsAs w (Stopped c n y) = (y.vats ≡ w.vats) × (y.drawn ≡ w.drawn)
 back_stops : (v : ℕ) (w y : World) (head : List Event) (n : ℕ) (d : Done Name (Unit {0})) → y.vats ≡ w.vats → y.drawn ≡ w.drawn → StopsAs w (world.put_back v y head n d)
 unfolding world.put_back
 back_stops v w y head n (Gives u t) e f = tt
-back_stops v w y head n (Throws x t) e f = (e, f)
-back_stops v w y head n (Ejects m x t) e f = (e, f)
-back_stops v w y head n (Stops c t) e f = (e, f)
+back_stops v w y head n other e f = (e, f)
 
 within_stops : (v : ℕ) (w y : World) (head : List Event) (n : ℕ) (act : Act Name (Unit {0})) (o : Option (Vat Name)) → y.vats ≡ w.vats → y.drawn ≡ w.drawn → StopsAs w (world.within v y head n act o)
 unfolding world.within

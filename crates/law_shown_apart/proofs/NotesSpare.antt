@@ -21,7 +21,5 @@ module _ (i : ℕ) (P : ℕ → ℕ) (d : List ℕ) (other : (j p : ℕ) → IsP
   pub note_spares : (n : Note Name) → NoteOk (Spares i) n → Provides P d v w n → NoteTells (IsNotOf i) (λ h j. j ≡ i → ⊥) (λ j. j ≡ i → ⊥) n
   note_spares (Deliver m n verb ys) f o = (f.0, f.1, passeds_spare ys f.2 o)
   note_spares (Open j n) f o = f.1
-  note_spares (Ask p j n) f o = f.0
   note_spares (SettledTo n y) f o = (f.0, passed_spares y f.1 o)
-  note_spares (Elsewhere n c) f o = f.0
-  note_spares (Shorten n c j) f o = f.0
+  note_spares other f o = f.0

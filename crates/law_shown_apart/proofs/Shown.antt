@@ -100,11 +100,7 @@ module _ (P : ℕ → ℕ) (d : List ℕ) where
   -- a gift tells the provider of its word
   abbrev TellsProvider : Name → Type 0
   TellsProvider (Gift h i) = IsProvidedBy P d i (provider_of i)
-  TellsProvider (Root v) = Unit {0}
-  TellsProvider (Object v i) = Unit {0}
-  TellsProvider (Promise v i) = Unit {0}
-  TellsProvider (Answer h m) = Unit {0}
-  TellsProvider (Sent m) = Unit {0}
+  TellsProvider other = Unit {0}
 
   -- keys of one word are one
   key_same : (i j : ℕ) → IsProvidedBy P d i (provider_of i) → IsProvidedBy P d j (provider_of j) → place_of d (word_of i) ≡ place_of d (word_of j) → i ≡ j
@@ -127,25 +123,17 @@ module _ (P : ℕ → ℕ) (d : List ℕ) where
   pub same_shown : (m n : Name) → IsEventual m → IsEventual n → TellsProvider m → TellsProvider n → shown_name d m ≡ shown_name d n → m ≡ n
   unfolding shown_name shown_gift
   same_shown (Root v) (Root u) o p a b e = let f : v ≡ u = cc in rw f refl
-  same_shown (Root v) (Promise u j) o p a b e = cc
-  same_shown (Root v) (Answer u y) o p a b e = cc
-  same_shown (Root v) (Gift u j) o p a b e = cc
-  same_shown (Promise v i) (Root u) o p a b e = cc
   same_shown (Promise v i) (Promise u j) o p a b e = let f : v ≡ u = cc in let g : i ≡ j = cc in rw (f, g) refl
-  same_shown (Promise v i) (Answer u y) o p a b e = cc
-  same_shown (Promise v i) (Gift u j) o p a b e = cc
-  same_shown (Answer h x) (Root u) o p a b e = cc
-  same_shown (Answer h x) (Promise u j) o p a b e = cc
   same_shown (Answer h x) (Answer u y) o p a b e = answer_same h u x y e
-  same_shown (Answer h x) (Gift u j) o p a b e = cc
-  same_shown (Gift h i) (Root u) o p a b e = cc
-  same_shown (Gift h i) (Promise u j) o p a b e = cc
-  same_shown (Gift h i) (Answer u y) o p a b e = cc
   same_shown (Gift h i) (Gift u j) o p a b e = gift_same h u i j a b e
   same_shown (Object v i) n o p a b e = absurd o
   same_shown (Sent x) n o p a b e = absurd o
   same_shown m (Object u j) o p a b e = absurd p
   same_shown m (Sent y) o p a b e = absurd p
+  same_shown other (Promise u j) o p a b e = cc
+  same_shown other (Answer u y) o p a b e = cc
+  same_shown other (Gift u j) o p a b e = cc
+  same_shown other (Root u) o p a b e = cc
 
 -- what holds of each of these holds of one of them
 among_all : (Q : Name → Type 0) (n : Name) (ns : List Name) → AllOf Q ns → IsAmong n ns → Q n
@@ -159,11 +147,7 @@ module _ (script : Script) (w : World) (past : Past script w) (k : KnowsProvider
 
   tells : (v : ℕ) (s : Vat Name) → slice_get w.vats v ≡ Some s → (n : Name) → IsAmong n (names_in s.known) → TellsProvider k.0 w.drawn n
   tells v s at (Gift h i) a = k.3 v h i s at a
-  tells v s at (Root u) a = tt
-  tells v s at (Object u j) a = tt
-  tells v s at (Promise u j) a = tt
-  tells v s at (Answer u m) a = tt
-  tells v s at (Sent m) a = tt
+  tells v s at other a = tt
 
   pub world_apart : ShownApart w
   world_apart u v s t at there m n a b e = same_shown k.0 w.drawn m n (eventual u s at m a) (eventual v t there n b) (tells u s at m a) (tells v t there n b) e

@@ -71,10 +71,9 @@ for_light known made false ps p =
 try_light : (known : List Marks) (made : List Expansion) (s : List ℕ) (ts : List Token) (f : Word) (ps : List Part) → tree_there (map slot ps) 0 ≡ true → Tidy shapes.Try (map slot ps)
     → weight (form_piece known made (surface s ts shapes.Try f ps)) ≤ 13 + sum (cost made) ps
 unfolding form_piece
-try_light known made s ts f [] p h = absurd (cc)
-try_light known made s ts f (piece.Token w ∷ ps) p h = absurd (cc)
 try_light known made s ts f (piece.Tree i ∷ ps) p h =
     omega (arith, light_tried (piece_at made i) (pairs_at made (catches ps)) (piece_if made (tree_if (behind kinds.Finally ps) 0)), tries_cost made ps h)
+try_light known made s ts f other p h = absurd (cc)
 
 -- ---- each form
 
@@ -84,7 +83,6 @@ unfolding form_piece
 form_light s ts l known made shapes.Literal f ps p t = omega (arith, literal_light known made f.kind (word_text s ts f) (omega (arith, l, word_size s ts f)))
 form_light s ts l known made shapes.Noun f ps p t = omega (arith, weighs_noun (word_text s ts f), name_over (word_text s ts f) (omega (arith, l, word_size s ts f)))
 form_light s ts l known made shapes.List f ps p t = omega (arith, light_made_list (values_at made (trees ps)), values_cost made ps)
-form_light s ts l known made shapes.Group f ps p t = omega (arith, value_cost made (tree_at ps 0), at_cost made ps 0 p, one_place (cost made) ps 0)
 form_light s ts l known made shapes.Block f ps p t = omega (arith, light_body (values_at made (trees ps)), values_cost made ps)
 form_light s ts l known made shapes.If f ps p t =
     omega (
@@ -246,7 +244,6 @@ form_light s ts l known made shapes.ViaPattern f ps p t =
     )
 form_light s ts l known made shapes.NounGuard f ps p t =
     omega (arith, light_noun_guard (word_text s ts f) (values_at made (trees ps)) (name_over (word_text s ts f) (omega (arith, l, word_size s ts f))), values_cost made ps)
-form_light s ts l known made shapes.ExprGuard f ps p t = omega (arith, value_cost made (tree_at ps 0), at_cost made ps 0 p, one_place (cost made) ps 0)
 form_light s ts l known made shapes.To f ps p t =
     omega (
       arith,
@@ -268,3 +265,4 @@ form_light s ts l known made shapes.Method f ps p t =
 form_light s ts l known made shapes.Matcher f ps p t =
     omega (arith, weighs_matcher (piece_at made (tree_at ps 0)) (piece_at made (tree_at ps 1)), at_cost made ps 0 (and_left _ _ p), at_cost made ps 1 (and_right (tree_there (map slot ps) 0) _ p), spread_sum (cost made) ps 2)
 form_light s ts l known made shapes.Program f ps p t = omega (arith, light_body (values_at made (trees ps)), values_cost made ps)
+form_light s ts l known made other f ps p t = omega (arith, value_cost made (tree_at ps 0), at_cost made ps 0 p, one_place (cost made) ps 0)

@@ -12,25 +12,7 @@ use Rattle.law_sized.specs.Weights.{over, literal_weight, node_weight, weight}
 node_same : (n : ℕ) (m : Node) → node_weight (node_at n m) ≡ node_weight m
 unfolding node_at
 node_same n (Lit l) = refl
-node_same n (Noun x) = refl
-node_same n (Set x e) = refl
-node_same n (Def p j e) = refl
-node_same n (Call r v es) = refl
-node_same n (Sequence es) = refl
-node_same n (If a b c) = refl
-node_same n (Escape p b c) = refl
-node_same n (Try b p h) = refl
-node_same n (Finally a b) = refl
-node_same n (Hide e) = refl
-node_same n (MatchBind e p) = refl
-node_same n (Object p es ms) = refl
-node_same n (Method v ps b) = refl
-node_same n (Matcher p b) = refl
-node_same n (Final x g) = refl
-node_same n (Var x g) = refl
-node_same n (Any g) = refl
-node_same n (ListPattern ps) = refl
-node_same n (Via e p) = refl
+node_same n other = refl
 
 pub placed_weight : (n : ℕ) (p : List Node) → weight (placed n p) ≡ weight p
 unfolding placed
@@ -41,8 +23,7 @@ placed_weight n (m ∷ p) = omega (arith, node_same n m, placed_weight (suc n) p
 
 literal_counts : (l : Literal) → 1 ≤ literal_weight l
 literal_counts (Int z) = omega arith
-literal_counts (Char c) = omega arith
-literal_counts (Text t) = omega arith
+literal_counts other = omega arith
 
 node_counts : (m : Node) → 1 ≤ node_weight m
 node_counts (Lit l) = literal_counts l
@@ -62,9 +43,8 @@ short_text : (x : List ℕ) → suc (over x) ≤ 2 ^ 32 → length x < 2 ^ 64
 short_text x h = omega (arith, h)
 
 short_literal : (l : Literal) → literal_weight l ≤ 2 ^ 32 → IsShortLiteral l
-short_literal (Int z) h = tt
-short_literal (Char c) h = tt
 short_literal (Text t) h = short_text t h
+short_literal other h = tt
 
 short_node : (m : Node) → node_weight m ≤ 2 ^ 32 → IsShort m
 short_node (Lit l) h = short_literal l h

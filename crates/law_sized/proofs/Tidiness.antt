@@ -256,25 +256,14 @@ series_more series.Parameters ss p h i = without_more kinds.Implements ss p h i
 series_more _ ss p h i = tt
 
 series_closed : (x : Series) (ss : Slots) → series_laid x ss → Kept ss (closing x)
-series_closed series.Arguments ss h = tt
-series_closed series.Index ss h = tt
-series_closed series.VerbArguments ss h = tt
-series_closed series.SendArguments ss h = tt
-series_closed series.Members ss h = tt
-series_closed series.GuardArguments ss h = tt
 series_closed series.Parameters ss h = (without_more kinds.Implements ss (Some kinds.CloseParen) h (refl, tt), (closed_at ss, clear_of ss (Some kinds.CloseParen) (refl, refl)))
-series_closed series.FunctionParameters ss h = tt
 series_closed series.ToParameters ss h = (closed_at ss, clear_of ss (Some kinds.CloseParen) (refl, refl))
 series_closed series.MethodParameters ss h = (closed_at ss, clear_of ss (Some kinds.CloseParen) (refl, refl))
-series_closed series.ListPattern ss h = tt
+series_closed other ss h = tt
 
 behind_laid : (h : Head) (ss : Slots) → EachKept ss (moves (places.Close h))
 behind_laid heads.If ss = (tt, tt)
-behind_laid heads.While ss = (tt, tt)
-behind_laid heads.When ss = (tt, tt)
-behind_laid heads.Via ss = (tt, tt)
-behind_laid heads.Group ss = (tt, tt)
-behind_laid heads.Guard ss = (tt, tt)
+behind_laid other ss = (tt, tt)
 
 definition_done : (d : Definition) (ss : Slots) → Clear ss → Tidy (definition_shape d) (ss ++ None ∷ [])
 definition_done definitions.Def ss h = closes_of ss h
@@ -308,50 +297,28 @@ laid_moves places.Program ss h = (tt, (tt, (tt, tt)))
 laid_moves places.ProgramMore ss h = (tt, (tt, tt))
 laid_moves places.Block ss h = (tt, (tt, (tt, (tt, tt))))
 laid_moves places.BlockMore ss h = (tt, (tt, (tt, tt)))
-laid_moves places.Leave ss h = (tt, tt)
 laid_moves (places.First x) ss h = (series_more x ss None h tt, (series_closed x ss h, tt))
 laid_moves (places.Item n x) ss h = (series_more x ss None h tt, tt)
 laid_moves (places.More zero x) ss h = (series_closed x ss h, tt)
 laid_moves (places.More (suc n) x) ss h = (series_more x ss (Some kinds.Comma) h (refl, tt), (series_closed x ss h, tt))
-laid_moves (places.Open x) ss h = (tt, tt)
-laid_moves (places.Test x) ss h = (tt, tt)
 laid_moves (places.Close x) ss h = behind_laid x ss
-laid_moves places.IfThen ss h = (tt, tt)
-laid_moves places.IfElse ss h = (tt, tt)
-laid_moves places.WhenArrow ss h = (tt, tt)
-laid_moves places.WhenBlock ss h = (tt, tt)
-laid_moves (places.Caught e) ss h = (tt, tt)
-laid_moves (places.CatchPattern e) ss h = (tt, tt)
 laid_moves (places.CatchBlock e) ss h = (caught_ends e (ss ++ None ∷ []), tt)
-laid_moves places.Escape ss h = (tt, tt)
-laid_moves places.EscapeBlock ss h = (tt, tt)
 laid_moves places.Try ss h = (without_more kinds.Finally ss None h tt, tt)
 laid_moves places.TryMore ss h = (without_more kinds.Finally ss (Some kinds.Catch) h (refl, tt), (finishes_at ss h, tt))
 laid_moves places.TryPattern ss h = (without_more kinds.Finally ss None h tt, tt)
 laid_moves places.TryBlock ss h = (without_more kinds.Finally ss None h tt, tt)
-laid_moves places.For ss h = (tt, tt)
 laid_moves places.ForKey ss h = (tt, (tt, tt))
-laid_moves places.ForValue ss h = (tt, tt)
-laid_moves places.ForIn ss h = (tt, tt)
-laid_moves places.ForList ss h = (tt, tt)
 laid_moves places.Verb ss h = (tt, (tt, tt))
-laid_moves places.VerbOpen ss h = (tt, tt)
 laid_moves places.Send ss h = (tt, (tt, (tt, tt)))
-laid_moves places.SendOpen ss h = (tt, tt)
 laid_moves (places.Def c) ss h = (tt, (plain kinds.Ignore ss h refl, (plain kinds.Identifier ss h refl, tt)))
 laid_moves (places.Name c named.Noun) ss h = (tt, ((tt, tt), ((tt, assigned_by), (plain kinds.OpenParen ss h refl, (tt, (tt, tt))))))
 laid_moves (places.Name c named.Ignore) ss h = (tt, ((tt, tt), ((tt, assigned_by), (tt, (tt, tt)))))
-laid_moves (places.NameGuard c x) ss h = (tt, tt)
 laid_moves (places.NameGuarded c named.Noun) ss h = ((tt, tt), ((tt, assigned_by), tt))
 laid_moves (places.NameGuarded c named.Ignore) ss h = ((tt, tt), ((tt, assigned_by), tt))
 laid_moves (places.Bound c d) ss h = (tt, (clear_of ss (Some kinds.Assign) (refl, refl), tt))
-laid_moves (places.Exit c d) ss h = (tt, tt)
 laid_moves (places.Ejector c d) ss h = (clear_of ss (Some kinds.Assign) (refl, refl), tt)
 laid_moves (places.Value c d) ss h = (definition_done d ss h, tt)
-laid_moves (places.Var c) ss h = (tt, tt)
 laid_moves (places.VarName c) ss h = (tt, (tt, (clear_of ss (Some kinds.Assign) (refl, refl), tt)))
-laid_moves (places.VarGuard c) ss h = (tt, tt)
-laid_moves places.Auditor ss h = (tt, tt)
 laid_moves places.AuditorMore ss h = (tt, (tt, tt))
 laid_moves places.Script ss h = (tt, (tt, (tt, (tt, tt))))
 laid_moves places.Result ss h = ((plain kinds.Colon ss h.0 refl, closed_more ss (Some kinds.Colon) h.1.0), (audited ss h.0 h.1.0, (function_done ss (ordered_of ss h.0) h.1.0 h.1.1, tt)))
@@ -363,10 +330,9 @@ laid_moves (places.MemberVerb r) ss h = (tt, (tt, tt))
 laid_moves (places.MemberOpen r) ss h = parameters_laid r ss
 laid_moves (places.MemberResult r) ss h = (closed_more ss (Some kinds.Colon) h.0, (role_done r ss h.0 h.1, tt))
 laid_moves (places.MemberGuard r) ss h = (role_done r (ss ++ None ∷ []) (closed_more ss None h) (clear_of ss None tt), tt)
-laid_moves places.Matcher ss h = (tt, tt)
 laid_moves (places.PatternGuard s) ss h = (h ((ss ++ Some kinds.Colon ∷ []) ++ None ∷ []), tt)
 laid_moves places.VarPattern ss h = ((λ rs. tt), tt)
-laid_moves places.NounGuard ss h = (tt, tt)
+laid_moves other ss h = (tt, tt)
 
 -- ---- where a node begins
 

@@ -106,9 +106,8 @@ pub word_size : (s : List ℕ) (ts : List Token) (w : Word) → length (word_tex
 word_size s ts w = token_size s (slice_get ts w.number)
 
 part_size : (s : List ℕ) (ts : List Token) (o : Option Part) → length (part_text s ts o) ≤ length s
-part_size s ts None = omega arith
-part_size s ts (Some (piece.Tree i)) = omega arith
 part_size s ts (Some (piece.Token w)) = word_size s ts w
+part_size s ts other = omega arith
 
 pub text_at_size : (s : List ℕ) (ts : List Token) (ps : List Part) (k : ℕ) → length (text_at s ts ps k) ≤ length s
 text_at_size s ts ps k = part_size s ts (slice_get ps k)

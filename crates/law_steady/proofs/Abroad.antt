@@ -19,10 +19,7 @@ use Rattle.law_steady.proofs.Away.{AsksOther, PutAway, VatsAway, opened_away, st
 abbrev pub GoesAbroad : ℕ → ℕ → ℕ → Note Name → Type 0
 GoesAbroad u n to (Deliver d m verb ys) = (to < n) × (to ≡ u → ⊥)
 GoesAbroad u n to (Ask p i m) = (to < n) × (to ≡ u → ⊥)
-GoesAbroad u n to (Open i m) = Unit {0}
-GoesAbroad u n to (SettledTo m y) = Unit {0}
-GoesAbroad u n to (Elsewhere m c) = Unit {0}
-GoesAbroad u n to (Shorten m c i) = Unit {0}
+GoesAbroad u n to other = Unit {0}
 
 abbrev pub AllAbroad : ℕ → ℕ → List (Put Name) → Type 0
 AllAbroad u n ps = AllOf (λ (p : Put Name). GoesAbroad u n p.to p.note) ps
@@ -38,10 +35,7 @@ module _ (script : Script) (knows : KnowsVats script) where
   one_abroad : (w : World) (u : ℕ) (r : Vat Name) (to : ℕ) (n : Note Name) → NoteOk (Had script w u r) n × GoesOk (Had script w u r) to n → AskFits (names_in r.known) to n → AsksOther u to n → GoesAbroad u many to n
   one_abroad w u r to (Deliver d m verb ys) h f a = let g = h.1 in (g.3 knows, λ e. g.2 (sym e))
   one_abroad w u r to (Ask p i m) h f a = let g = h.0 in let k = g.1 in (gift_low to i m f.1 (k.3 knows), a)
-  one_abroad w u r to (Open i m) h f a = tt
-  one_abroad w u r to (SettledTo m y) h f a = tt
-  one_abroad w u r to (Elsewhere m c) h f a = tt
-  one_abroad w u r to (Shorten m c i) h f a = tt
+  one_abroad w u r to other h f a = tt
 
   all_abroad : (w : World) (u : ℕ) (r : Vat Name) (ps : List (Put Name)) → AllOf (PutOk (Had script w u r)) ps → AllOf (PutFits u (names_in r.known)) ps → AllOf (PutAway u) ps → AllAbroad u many ps
   all_abroad w u r [] h f a = tt

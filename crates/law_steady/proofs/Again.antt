@@ -114,39 +114,24 @@ module _ (h : ℕ) (z : Name) where
       either (inl e) = let m = message_is d.message o in let i = answer_is h d.message m.0 m.1 in inl (m.0, e.1 ∙ i, asks_bears h m.0 (Deliver d t verb ys) o (e.0, i))
       either (inr b) = absurd b
   by_note (Ask p i t) o a = inr a
-  by_note (Open i t) o a = absurd a
-  by_note (SettledTo t y) o a = absurd a
-  by_note (Elsewhere t c) o a = absurd a
-  by_note (Shorten t c i) o a = absurd a
+  by_note other o a = absurd a
 
   ask_first : (n : Note Name) (gs : List Name) → IsAmong z (with_ask n []) → IsAmong z (with_ask n gs)
   unfolding with_ask
   ask_first (Ask p i t) gs (inl e) = inl e
   ask_first (Ask p i t) gs (inr a) = absurd a
-  ask_first (Deliver d t verb ys) gs a = absurd a
-  ask_first (Open i t) gs a = absurd a
-  ask_first (SettledTo t y) gs a = absurd a
-  ask_first (Elsewhere t c) gs a = absurd a
-  ask_first (Shorten t c i) gs a = absurd a
+  ask_first other gs a = absurd a
 
   ask_later : (n : Note Name) (gs : List Name) → IsAmong z gs → IsAmong z (with_ask n gs)
   unfolding with_ask
   ask_later (Ask p i t) gs a = inr a
-  ask_later (Deliver d t verb ys) gs a = a
-  ask_later (Open i t) gs a = a
-  ask_later (SettledTo t y) gs a = a
-  ask_later (Elsewhere t c) gs a = a
-  ask_later (Shorten t c i) gs a = a
+  ask_later other gs a = a
 
   ask_twice : (n : Note Name) (gs : List Name) → Once (with_ask n gs) → IsAmong z (with_ask n []) → IsAmong z gs → ⊥
   unfolding with_ask
   ask_twice (Ask p i t) gs h (inl e) b = h.0 (subst (λ n. IsAmong n gs) e b)
   ask_twice (Ask p i t) gs h (inr a) b = a
-  ask_twice (Deliver d t verb ys) gs h a b = a
-  ask_twice (Open i t) gs h a b = a
-  ask_twice (SettledTo t y) gs h a b = a
-  ask_twice (Elsewhere t c) gs h a b = a
-  ask_twice (Shorten t c i) gs h a b = a
+  ask_twice other gs h a b = a
 
   abbrev pub AskedBy : List (Put Name) → Type 0
   AskedBy ps = Borne (λ m. Puts m ps) ⊎ IsAmong z (gifts_asked ps)
@@ -185,11 +170,7 @@ gift_rest : (g c : ℕ) (m : Msg) (n : Note Name) (gs : List Name) → AsksOwn c
 unfolding with_ask
 gift_rest g c m (Ask p i t) gs o (inl e) = absurd (no_answer g c i m (e ∙ o))
 gift_rest g c m (Ask p i t) gs o (inr a) = a
-gift_rest g c m (Deliver d t verb ys) gs o a = a
-gift_rest g c m (Open i t) gs o a = a
-gift_rest g c m (SettledTo t y) gs o a = a
-gift_rest g c m (Elsewhere t x) gs o a = a
-gift_rest g c m (Shorten t x i) gs o a = a
+gift_rest g c m other gs o a = a
 
 no_gift : (g : ℕ) (m : Msg) (ps : List (Put Name)) → AllOf Own ps → IsAmong (Answer g m) (gifts_asked ps) → ⊥
 unfolding gifts_asked
@@ -207,19 +188,12 @@ once_note : (h : ℕ) (n : Note Name) → Once (wire.questions_in h (n ∷ []))
 unfolding wire.questions_in
 once_note h (Deliver d t verb ys) = once_if d.asks (answer_of h d.message)
 once_note h (Ask p i t) = (λ a. a, tt)
-once_note h (Open i t) = tt
-once_note h (SettledTo t y) = tt
-once_note h (Elsewhere t c) = tt
-once_note h (Shorten t c i) = tt
+once_note h other = tt
 
 once_rest : (n : Note Name) (gs : List Name) → Once (with_ask n gs) → Once gs
 unfolding with_ask
 once_rest (Ask p i t) gs h = h.1
-once_rest (Deliver d t verb ys) gs h = h
-once_rest (Open i t) gs h = h
-once_rest (SettledTo t y) gs h = h
-once_rest (Elsewhere t c) gs h = h
-once_rest (Shorten t c i) gs h = h
+once_rest other gs h = h
 
 one_fewer : (m : Msg) (p : Put Name) (ps : List (Put Name)) → Puts m (p ∷ ps) ≤ 1 → Puts m ps ≤ 1
 unfolding total

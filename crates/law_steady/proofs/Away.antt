@@ -27,11 +27,7 @@ use Rattle.law_frame.proofs.AlikeAsking.{Any, IsNoAsk, Quiet, quiet_settle, quie
 -- a note that asks for a gift is put to another vat than that one
 abbrev pub AsksOther : ℕ → ℕ → Note Name → Type 0
 AsksOther v to (Ask p i n) = to ≡ v → ⊥
-AsksOther v to (Deliver m n verb ys) = Unit {0}
-AsksOther v to (Open i n) = Unit {0}
-AsksOther v to (SettledTo n y) = Unit {0}
-AsksOther v to (Elsewhere n c) = Unit {0}
-AsksOther v to (Shorten n c i) = Unit {0}
+AsksOther v to other = Unit {0}
 
 abbrev pub PutAway : ℕ → Put Name → Type 0
 PutAway v p = AsksOther v p.to p.note
@@ -42,11 +38,7 @@ record Away (v : ℕ) (s t : Vat Name) : Type 0 where
 
 no_ask : (v to : ℕ) (n : Note Name) → IsNoAsk n → AsksOther v to n
 no_ask v to (Ask p i n) h = absurd h
-no_ask v to (Deliver m n verb ys) h = tt
-no_ask v to (Open i n) h = tt
-no_ask v to (SettledTo n y) h = tt
-no_ask v to (Elsewhere n c) h = tt
-no_ask v to (Shorten n c i) h = tt
+no_ask v to other h = tt
 
 module _ (v : ℕ) where
   abbrev R : Vat Name → Vat Name → Type 0

@@ -26,9 +26,7 @@ none_more d = ([], sym (append-nil d))
 after_draws : (w : Vats) (u : ℕ) (head : List Event) (n : ℕ) (m : Member) (b : Vat Local → Brought) (s : Vat Local) (o : Done Local (Unit {0})) → s.drawn ≡ w.drawn → After SameDraws s o → DrawsOn w.drawn (numbers.after_step w u head n m b o)
 unfolding numbers.after_step numbers.left_by
 after_draws w u head n m b s (Gives a t) e h = let f = stays_front s.drawn t.drawn h in (f.0, f.1 ∙ ap (λ z. z ++ f.0) e)
-after_draws w u head n m b s (Throws p t) e h = tt
-after_draws w u head n m b s (Ejects k v t) e h = tt
-after_draws w u head n m b s (Stops c t) e h = tt
+after_draws w u head n m b s other e h = tt
 
 module _ (script : Script) where
   -- a step of vat u from that state

@@ -49,11 +49,7 @@ none_part (n ∷ ns) = inl (none_part ns)
 
 unfoldable pub with_ask : Note Name → List Name → List Name
 with_ask (Ask p i n) ns = n ∷ ns
-with_ask (Deliver d n verb ys) ns = ns
-with_ask (Open i n) ns = ns
-with_ask (SettledTo n y) ns = ns
-with_ask (Elsewhere n c) ns = ns
-with_ask (Shorten n c i) ns = ns
+with_ask other ns = ns
 
 unfoldable pub gifts_asked : List (Put Name) → List Name
 gifts_asked [] = []
@@ -62,11 +58,7 @@ gifts_asked (p ∷ ps) = with_ask p.note (gifts_asked ps)
 ask_front : (n : Note Name) (qs bs : List Name) → with_ask n (qs ++ bs) ≡ with_ask n qs ++ bs
 unfolding with_ask
 ask_front (Ask p i n) qs bs = refl
-ask_front (Deliver d n verb ys) qs bs = refl
-ask_front (Open i n) qs bs = refl
-ask_front (SettledTo n y) qs bs = refl
-ask_front (Elsewhere n c) qs bs = refl
-ask_front (Shorten n c i) qs bs = refl
+ask_front other qs bs = refl
 
 gifts_twice : (ps qs : List (Put Name)) → gifts_asked (ps ++ qs) ≡ gifts_asked ps ++ gifts_asked qs
 unfolding gifts_asked
@@ -76,11 +68,7 @@ gifts_twice (p ∷ ps) qs = ap (with_ask p.note) (gifts_twice ps qs) ∙ ask_fro
 no_ask : (n : Note Name) (ns : List Name) → IsNoAsk n → with_ask n ns ≡ ns
 unfolding with_ask
 no_ask (Ask p i n) ns h = absurd h
-no_ask (Deliver d n verb ys) ns h = refl
-no_ask (Open i n) ns h = refl
-no_ask (SettledTo n y) ns h = refl
-no_ask (Elsewhere n c) ns h = refl
-no_ask (Shorten n c i) ns h = refl
+no_ask other ns h = refl
 
 none_asked : (ps : List (Put Name)) → AllOf (λ (p : Put Name). IsNoAsk p.note) ps → gifts_asked ps ≡ []
 unfolding gifts_asked
@@ -126,10 +114,8 @@ base = let q = quiet.base in record {
 }
 
 quiet_ends : {A : Type 0} (s : Vat Name) (d : Done Name A) → Ends Any Quiet s d → Ends Any Gifted s d
-quiet_ends s (Gives a t) h = from_quiet h
-quiet_ends s (Throws p t) h = from_quiet h
-quiet_ends s (Ejects n y t) h = from_quiet h
 quiet_ends s (Stops c t) h = tt
+quiet_ends s other h = from_quiet h
 
 lifted : {A : Type 0} {m : Act Name A} → Leads Any Quiet m → Leads Any Gifted m
 lifted {m = m} h = record { after = λ s. quiet_ends s (m s) (h.after s) }

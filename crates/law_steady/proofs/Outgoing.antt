@@ -44,22 +44,16 @@ use Rattle.law_steady.proofs.Went.{Grows, Pair, was, is, before, table, more}
 module _ (f : Local → Found) (u n : ℕ) (s : Vat Local) where
   note_out : (to : ℕ) (x : Note Local) (y : Note Name) → maps.note f x ≡ maps.note Is y → GoesAbroad u n to y → (asked_in (sight_for s x) x ≡ []) ⊎ ((to < n) × (to ≡ u → ⊥))
   unfolding asked_in
-  note_out to (Open i m) y e g = inl refl
-  note_out to (SettledTo m z) y e g = inl refl
-  note_out to (Elsewhere m c) y e g = inl refl
-  note_out to (Shorten m c i) y e g = inl refl
   note_out to (Deliver d m verb xs) (Deliver k z w ys) e g = inr g
   note_out to (Deliver d m verb xs) (Ask p i z) e g = inr g
-  note_out to (Deliver d m verb xs) (Open i z) e g = cc
-  note_out to (Deliver d m verb xs) (SettledTo z y) e g = cc
-  note_out to (Deliver d m verb xs) (Elsewhere z c) e g = cc
-  note_out to (Deliver d m verb xs) (Shorten z c i) e g = cc
   note_out to (Ask p i m) (Deliver k z w ys) e g = inr g
   note_out to (Ask p i m) (Ask q j z) e g = inr g
   note_out to (Ask p i m) (Open j z) e g = cc
   note_out to (Ask p i m) (SettledTo z y) e g = cc
   note_out to (Ask p i m) (Elsewhere z c) e g = cc
   note_out to (Ask p i m) (Shorten z c j) e g = cc
+  note_out to (Deliver d m verb xs) other e g = cc
+  note_out to other y e g = inl refl
 
   put_out : (p : Put Local) (q : Put Name) → maps.put f p ≡ maps.put Is q → GoesAbroad u n q.to q.note → GoesOut u n s p
   put_out p q e g = note_out p.to p.note q.note (ap (λ (z : Put Found). z.note) e) (subst (λ z. GoesAbroad u n z q.note) (sym (ap (λ (z : Put Found). z.to) e)) g)

@@ -17,11 +17,7 @@ use Rattle.law_frame.proofs.WireRuns.{Wire}
 
 abbrev pub IsRoot : Name → Type 0
 IsRoot (Root v) = Unit {0}
-IsRoot (Object v i) = ⊥
-IsRoot (Promise v i) = ⊥
-IsRoot (Answer h m) = ⊥
-IsRoot (Gift h i) = ⊥
-IsRoot (Sent m) = ⊥
+IsRoot other = ⊥
 
 -- ---- what links began with
 
@@ -106,11 +102,7 @@ module _ (script : Script) (once : KnowsOnce script) where
 answer_no_root : (to : ℕ) (n : Name) → IsMessageName n → IsRoot (answer_of to n) → ⊥
 unfolding answer_of
 answer_no_root to (Sent m) h r = r
-answer_no_root to (Root w) h r = h
-answer_no_root to (Object w i) h r = h
-answer_no_root to (Promise w i) h r = h
-answer_no_root to (Answer w m) h r = h
-answer_no_root to (Gift w i) h r = h
+answer_no_root to other h r = h
 
 gift_no_root : (to i : ℕ) (n : Name) → n ≡ Gift to i → IsRoot n → ⊥
 gift_no_root to i n e r = subst IsRoot e r

@@ -51,14 +51,7 @@ module _ (v : ℕ) (asked : List Name) (z : Name) (has : has_name asked z ≡ tr
   by_value : (y : Value Name) (ns : List Name) → IsAmong z (wire.with_value v asked y ns) → IsAmong z ns
   unfolding wire.with_value
   by_value (Ref m) ns h = by_export m ns h
-  by_value Null ns h = h
-  by_value (Flag b) ns h = h
-  by_value (Number x) ns h = h
-  by_value (Letter c) ns h = h
-  by_value (Text t) ns h = h
-  by_value (Prim i) ns h = h
-  by_value (Broken t) ns h = h
-  by_value (Items k) ns h = h
+  by_value other ns h = h
 
   mutual
     unfolding wire.with_passed wire.with_all

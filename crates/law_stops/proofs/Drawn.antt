@@ -18,11 +18,7 @@ Marked = Name × Bool
 
 unfoldable pub is_drawn : List ℕ → Name → Bool
 is_drawn d (Gift h i) = is_in (word_of i) d
-is_drawn d (Root w) = true
-is_drawn d (Object w i) = true
-is_drawn d (Promise w i) = true
-is_drawn d (Answer h m) = true
-is_drawn d (Sent m) = true
+is_drawn d other = true
 
 abbrev pub marked : List ℕ → Name → Marked
 marked d n = (n, is_drawn d n)
@@ -48,31 +44,19 @@ keep d n = kept (marked d n)
 module _ (vats : List (Vat Name)) (d e : List ℕ) (more : (w : ℕ) → IsAmong w d → IsAmong w e) where
   pub made_sure : (n : Name) → WasMade vats d n → marked e n ≡ sure n
   unfolding is_drawn
-  made_sure (Root w) h = refl
-  made_sure (Object w i) h = refl
-  made_sure (Promise w i) h = refl
-  made_sure (Answer w m) h = refl
   made_sure (Gift w i) h = ap (λ b. (Gift w i, b)) (among_in (word_of i) e (more (word_of i) h))
-  made_sure (Sent m) h = refl
+  made_sure other h = refl
 
   mail_sure : (n : Name) → IsMessageMade vats n → marked e n ≡ sure n
   unfolding is_drawn
-  mail_sure (Sent m) h = refl
-  mail_sure (Root w) h = refl
-  mail_sure (Object w i) h = refl
-  mail_sure (Promise w i) h = refl
-  mail_sure (Answer w m) h = refl
   mail_sure (Gift w i) h = absurd h
+  mail_sure other h = refl
 
   had_sure : (ms : List Name) → AllOf IsMessageName ms → map (marked e) ms ≡ map sure ms
   unfolding is_drawn
   had_sure [] h = refl
   had_sure (Sent m ∷ ms) h = ap (λ ns. sure (Sent m) ∷ ns) (had_sure ms h.1)
-  had_sure (Root w ∷ ms) h = absurd h.0
-  had_sure (Object w i ∷ ms) h = absurd h.0
-  had_sure (Promise w i ∷ ms) h = absurd h.0
-  had_sure (Answer w m ∷ ms) h = absurd h.0
-  had_sure (Gift w i ∷ ms) h = absurd h.0
+  had_sure other h = absurd h.0
 
   -- so is each name in a state with such names, as a step finds it
   pub state_sure : (x : World) (s : Vat Name) → AllOf IsMessageName s.mails → Parts (IsMade vats d) s.things s.slots s.lists s.queue s.known s.gifts s.outbox → maps.vat (marked e) (readied x s) ≡ maps.vat sure (readied x s)
@@ -113,17 +97,11 @@ module _ (d : List ℕ) where
 
     marked_name : (c : Coming Name Name) → name_of v (coming plain self (coming (marked d) self c)) ≡ name_of v c
     marked_name (IsRoot w) = refl
-    marked_name (IsOwn i) = refl
-    marked_name (IsAnswer h m) = refl
-    marked_name (IsGift h i) = refl
-    marked_name (IsLearnt x) = refl
+    marked_name other = refl
 
     sure_name : (c : Coming Name Name) → name_of v (coming plain self (coming sure self c)) ≡ name_of v c
     sure_name (IsRoot w) = refl
-    sure_name (IsOwn i) = refl
-    sure_name (IsAnswer h m) = refl
-    sure_name (IsGift h i) = refl
-    sure_name (IsLearnt x) = refl
+    sure_name other = refl
 
     same_mail : (c : Mailing Name) → mail_of v (mailing self c) ≡ mail_of v c
     same_mail (IsSent i) = refl
@@ -166,17 +144,11 @@ module _ (d : List ℕ) where
   unfolding is_drawn
   mails_sure [] h = tt
   mails_sure (Sent m ∷ ms) h = (refl, mails_sure ms h.1)
-  mails_sure (Root w ∷ ms) h = absurd h.0
-  mails_sure (Object w i ∷ ms) h = absurd h.0
-  mails_sure (Promise w i ∷ ms) h = absurd h.0
-  mails_sure (Answer w m ∷ ms) h = absurd h.0
-  mails_sure (Gift w i ∷ ms) h = absurd h.0
+  mails_sure other h = absurd h.0
 
   free : {A : Type 0} (o : Done Marked A) → FitsAfter Free o
   free (Gives a t) = tt
-  free (Throws p t) = tt
-  free (Ejects n y t) = tt
-  free (Stops c t) = tt
+  free other = tt
 
   kept_sure : (r : Vat Name) → maps.vat (marked d) r ≡ maps.vat sure r → r ≡ maps.vat (keep d) r
   unfolding kept

@@ -58,10 +58,8 @@ use Rattle.law_stops.proofs.Tables.{Exported, after_stops, left_bounded, left_on
 -- ---- outcomes that stop
 
 pub stops_in : (f : Local → Found) (d : Done Local (Unit {0})) (c : Stop) (z : Vat Found) → maps.done f (λ a. a) d ≡ Stops c z → (p : Vat Local) × (d ≡ Stops c p)
-stops_in f (Gives a p) c z e = cc
-stops_in f (Throws t p) c z e = cc
-stops_in f (Ejects n v p) c z e = cc
 stops_in f (Stops b p) c z e = let same : b ≡ c = cc in (p, ap (λ i. Stops i p) same)
+stops_in f other c z e = cc
 
 pub stop_ends : (t : Table) (r : Vat Name) (c : Stop) (d : Done Name (Unit {0})) → d ≡ Stops c r → names_in r.known ≡ t.names → r.mails ≡ t.mails → EndsWith t d
 stop_ends t r c d e f g = subst (λ z. EndsWith t z) (sym e) (f, g)
@@ -69,9 +67,8 @@ stop_ends t r c d e f g = subst (λ z. EndsWith t z) (sym e) (f, g)
 pub put_stops : (script : Script) (u : ℕ) (w y : World) (head : List Event) (k n : ℕ) (c : Stop) (d : Done Name (Unit {0})) → IsQuiet d → world.put_back u w head k d ≡ Stopped c n y → (r : Vat Name) × (d ≡ Stops c r)
 unfolding world.put_back
 put_stops script u w y head k n c (Gives a t) h e = cc
-put_stops script u w y head k n c (Throws p t) h e = absurd h
-put_stops script u w y head k n c (Ejects m z t) h e = absurd h
 put_stops script u w y head k n c (Stops b t) h e = let same : b ≡ c = cc in (t, ap (λ i. Stops i t) same)
+put_stops script u w y head k n c other h e = absurd h
 
 pub idle_goes : (script : Script) (k n : ℕ) (c : Stop) (x y : World) → world.idle script k x ≡ Stopped c n y → ⊥
 unfolding world.idle

@@ -51,9 +51,8 @@ later_then d es (Stopped c k y) f h g = later_stopped
 put_later : (v : ℕ) (w : World) (head : List Event) (k : ℕ) (s : Vat Name) (o : Done Name (Unit {0})) → s.drawn ≡ w.drawn → After SameDraws s o → Later w.drawn w.history (world.put_back v w head k o)
 unfolding world.put_back draws_of history_of
 put_later v w head k s (Gives a t) e h = let f = stays_front s.drawn t.drawn h in record { draws = (f.0, f.1 ∙ ap (λ z. z ++ f.0) e); events = (head ++ events_of w.links v t.happened, append_assoc w.history head (events_of w.links v t.happened)) }
-put_later v w head k s (Throws p t) e h = no_more w.drawn w.history (Stopped _ k w) refl refl
-put_later v w head k s (Ejects m y t) e h = no_more w.drawn w.history (Stopped _ k w) refl refl
 put_later v w head k s (Stops c t) e h = no_more w.drawn w.history (Stopped c k w) refl refl
+put_later v w head k s other e h = no_more w.drawn w.history (Stopped _ k w) refl refl
 
 within_later : (K : Naming Name Name) (what : Step Name Name) (v : ℕ) (w : World) (head : List Event) (k : ℕ) (o : Option (Vat Name)) → Later w.drawn w.history (world.within v w head k (does K what) o)
 unfolding world.within draws_of history_of world.readied

@@ -15,39 +15,21 @@ use Rattle.law_stops.proofs.Parted.{IsNoMessage, Parted, stays, grown, posted, b
 abbrev pub IsOfKind : Bit Name → Type 0
 IsOfKind (Named n) = IsNoMessage n
 IsOfKind (Mail n) = IsMessageName n
-IsOfKind (Drew i) = Unit {0}
-IsOfKind (At h) = Unit {0}
-IsOfKind (Off h) = Unit {0}
-IsOfKind (Entered n) = Unit {0}
-IsOfKind (Owns n i) = Unit {0}
-IsOfKind (Gave i) = Unit {0}
+IsOfKind other = Unit {0}
 
 no_message : (vats : List (Vat Name)) (d : List ℕ) (n : Name) → WasMade vats d n → IsNoMessage n
-no_message vats d (Root w) h = tt
-no_message vats d (Object w i) h = tt
-no_message vats d (Promise w i) h = tt
-no_message vats d (Answer w m) h = tt
-no_message vats d (Gift w i) h = tt
 no_message vats d (Sent m) h = absurd h
+no_message vats d other h = tt
 
 a_message : (vats : List (Vat Name)) (n : Name) → IsMessageMade vats n → IsMessageName n
 a_message vats (Sent m) h = tt
-a_message vats (Root w) h = absurd h
-a_message vats (Object w i) h = absurd h
-a_message vats (Promise w i) h = absurd h
-a_message vats (Answer w m) h = absurd h
-a_message vats (Gift w i) h = absurd h
+a_message vats other h = absurd h
 
 -- what was made is of its kind
 pub kind_made : (vats : List (Vat Name)) (d : List ℕ) (b : Bit Name) → IsMade vats d b → IsOfKind b
 kind_made vats d (Named n) h = no_message vats d n h
 kind_made vats d (Mail n) h = a_message vats n h
-kind_made vats d (Drew i) h = tt
-kind_made vats d (At g) h = tt
-kind_made vats d (Off g) h = tt
-kind_made vats d (Entered n) h = tt
-kind_made vats d (Owns n i) h = tt
-kind_made vats d (Gave i) h = tt
+kind_made vats d other h = tt
 
 after_given : {A B : Type 0} (a : A) (f : A → Act Name B) → Keeps Parted (give a >>= f) → Keeps Parted (f a)
 unfolding give ◌>>=◌ and_then

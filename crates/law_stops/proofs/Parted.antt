@@ -29,11 +29,7 @@ use Rattle.law_renaming.proofs.Same.{value_same, vat_same}
 
 abbrev pub IsNoMessage : Name → Type 0
 IsNoMessage (Sent m) = ⊥
-IsNoMessage (Root w) = Unit {0}
-IsNoMessage (Object w i) = Unit {0}
-IsNoMessage (Promise w i) = Unit {0}
-IsNoMessage (Answer h m) = Unit {0}
-IsNoMessage (Gift h i) = Unit {0}
+IsNoMessage other = Unit {0}
 
 pub record Parted (s t : Vat Name) : Type 0 where
   pub names : AllOf IsNoMessage (names_in s.known) → AllOf IsNoMessage (names_in t.known)
@@ -76,11 +72,7 @@ base = record {
 pub answered : (h : ℕ) (n : Name) → IsNoMessage (answer_of h n)
 unfolding answer_of
 answered h (Sent m) = tt
-answered h (Root w) = tt
-answered h (Object w i) = tt
-answered h (Promise w i) = tt
-answered h (Answer w m) = tt
-answered h (Gift w i) = tt
+answered h other = tt
 
 -- ---- a naming by which nothing is learnt
 
@@ -120,11 +112,9 @@ module _ (word : ℕ → ℕ) (v : ℕ) where
 
   made_name : (c : Coming Name ⊥) → IsNoMessage (name_of v (coming self never c))
   unfolding name_of
-  made_name (IsRoot w) = tt
-  made_name (IsOwn i) = tt
   made_name (IsAnswer h m) = answered h m
-  made_name (IsGift h i) = tt
   made_name (IsLearnt x) = absurd x
+  made_name other = tt
 
   made_mail : (c : Mailing ⊥) → IsMessageName (mail_of v (mailing never c))
   unfolding mail_of
@@ -188,9 +178,7 @@ module _ (word : ℕ → ℕ) (v : ℕ) where
 
   free : {A : Type 0} (d : Done Name A) → FitsAfter Free d
   free (Gives a t) = tt
-  free (Throws p t) = tt
-  free (Ejects n y t) = tt
-  free (Stops c t) = tt
+  free other = tt
 
   from_map : {A B : Type 0} (g : A → B) (s : Vat Name) (d : Done Name A) → After Parted s d → After Parted s (maps.done self g d)
   from_map g s (Gives a t) h = subst (λ z. Parted s z) (sym (vat_same t)) h

@@ -39,11 +39,7 @@ gift_more d l h i a = ap (λ p. name.Gift h p) (place_more d l (word_of i) a)
 pub made_more : (vats : List (Vat Name)) (d l : List ℕ) (n : Name) → WasMade vats d n → shown_name (d ++ l) n ≡ shown_name d n
 unfolding shown_name
 made_more vats d l (Gift h i) a = gift_more d l h i a
-made_more vats d l (Root w) a = refl
-made_more vats d l (Object w i) a = refl
-made_more vats d l (Promise w i) a = refl
-made_more vats d l (Answer h m) a = refl
-made_more vats d l (Sent m) a = refl
+made_more vats d l other a = refl
 
 kept_either : (d l : List ℕ) (h i : ℕ) (b : Bool) → is_in (word_of i) d ≡ b → shown_name (d ++ l) (elim b [ true ↦ Gift h i | false ↦ Root 0 ]) ≡ shown_name d (elim b [ true ↦ Gift h i | false ↦ Root 0 ])
 unfolding shown_name
@@ -53,20 +49,12 @@ kept_either d l h i false e = refl
 keep_more : (d l : List ℕ) (n : Name) → shown_name (d ++ l) (keep d n) ≡ shown_name d (keep d n)
 unfolding kept is_drawn
 keep_more d l (Gift h i) = kept_either d l h i (is_in (word_of i) d) refl
-keep_more d l (Root w) = unfold shown_name in refl
-keep_more d l (Object w i) = unfold shown_name in refl
-keep_more d l (Promise w i) = unfold shown_name in refl
-keep_more d l (Answer h m) = unfold shown_name in refl
-keep_more d l (Sent m) = unfold shown_name in refl
+keep_more d l other = unfold shown_name in refl
 
 msg_more : (d l : List ℕ) (n : Name) → shown_msg (d ++ l) n ≡ shown_msg d n
 unfolding shown_msg
 msg_more d l (Sent m) = refl
-msg_more d l (Root w) = refl
-msg_more d l (Object w i) = refl
-msg_more d l (Promise w i) = refl
-msg_more d l (Answer h m) = refl
-msg_more d l (Gift h i) = refl
+msg_more d l other = refl
 
 -- ---- what a note says
 
@@ -74,14 +62,7 @@ module _ (vats : List (Vat Name)) (d l : List ℕ) where
   said_value : (v : ℕ) (y : Value Name) → ValueOk (IsMade vats d) y → shown_value (d ++ l) v y ≡ shown_value d v y
   unfolding shown_value
   said_value v (Ref n) h = ap (λ m. shown.Name m) (made_more vats d l n h)
-  said_value v Null h = refl
-  said_value v (Flag b) h = refl
-  said_value v (Number z) h = refl
-  said_value v (Letter c) h = refl
-  said_value v (Text t) h = refl
-  said_value v (Prim n) h = refl
-  said_value v (Broken t) h = refl
-  said_value v (Items k) h = refl
+  said_value v other h = refl
 
   mutual
     unfolding shown_passed shown_all
@@ -117,14 +98,7 @@ module _ (d l : List ℕ) (v : ℕ) where
   value_more : (y : Value Name) → shown_value (d ++ l) v (maps.value (keep d) y) ≡ shown_value d v (maps.value (keep d) y)
   unfolding shown_value
   value_more (Ref n) = ap (λ m. shown.Name m) (keep_more d l n)
-  value_more Null = refl
-  value_more (Flag b) = refl
-  value_more (Number z) = refl
-  value_more (Letter c) = refl
-  value_more (Text t) = refl
-  value_more (Prim n) = refl
-  value_more (Broken t) = refl
-  value_more (Items k) = refl
+  value_more other = refl
 
   values_more : (ys : List (Value Name)) → shown_values (d ++ l) v (map (maps.value (keep d)) ys) ≡ shown_values d v (map (maps.value (keep d)) ys)
   unfolding shown_values
@@ -156,8 +130,6 @@ module _ (d l : List ℕ) (v : ℕ) where
   line_more (Took a m) = cc (msg_more d l (keep d m.id), value_more m.target, values_more m.args)
   line_more (Called a x verb args b) = cc (value_more x, values_more args)
   line_more (Back a x) = cc (value_more x)
-  line_more (Thrown a p) = refl
-  line_more (Left a) = refl
   line_more (Got a x) = cc (value_more x)
   line_more (SlotMade a k x) = cc (value_more x)
   line_more (SlotRead a k x) = cc (value_more x)
@@ -171,12 +143,11 @@ module _ (d l : List ℕ) (v : ℕ) where
   line_more (Sends a m) = cc (send_more a m m.answer)
   line_more (Reacts a x o m) = reaction_more a x o m m.answer
   line_more (Finished a x) = cc (value_more x)
-  line_more (Threw a p) = refl
   line_more (Settles n x) = cc (keep_more d l n, value_more x)
   line_more (Waits p q) = cc (keep_more d l p, keep_more d l q)
   line_more (Views p q) = cc (keep_more d l p, keep_more d l q)
   line_more (Lost m) = cc (msg_more d l (keep d m))
-  line_more (Posted w m) = refl
+  line_more other = refl
 
 -- ---- events
 

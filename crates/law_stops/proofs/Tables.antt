@@ -25,24 +25,17 @@ unfolding allowed other numbered
 no_object d u r b h i a = let least = claims_known u (Object h i) r.known a in let most = b.1 (Object h i) in absurd (omega arith)
 
 eventual : (n : Name) → IsNoMessage n → ((h i : ℕ) → n ≡ Object h i → ⊥) → IsEventual n
-eventual (Root w) p o = tt
-eventual (Promise w i) p o = tt
-eventual (Answer w m) p o = tt
-eventual (Gift w i) p o = tt
 eventual (Object w i) p o = absurd (o w i refl)
 eventual (Sent m) p o = absurd p
+eventual other p o = tt
 
 all_eventual : (ns : List Name) → AllOf IsNoMessage ns → ((h i : ℕ) → IsAmong (Object h i) ns → ⊥) → AllOf IsEventual ns
 all_eventual [] p o = tt
 all_eventual (n ∷ ns) p o = (eventual n p.0 (λ h i e. o h i (inl (sym e))), all_eventual ns p.1 (λ h i a. o h i (inr a)))
 
 eventual_no_message : (n : Name) → IsEventual n → IsNoMessage n
-eventual_no_message (Root w) h = tt
-eventual_no_message (Promise w i) h = tt
-eventual_no_message (Answer w m) h = tt
-eventual_no_message (Gift w i) h = tt
-eventual_no_message (Object w i) h = tt
 eventual_no_message (Sent m) h = absurd h
+eventual_no_message other h = tt
 
 pub all_no_messages : (ns : List Name) → AllOf IsEventual ns → AllOf IsNoMessage ns
 all_no_messages [] h = tt

@@ -50,14 +50,7 @@ module _ (vats : List (Vat Name)) (d e : List ℕ) (more : (w : ℕ) → IsAmong
   value_read : (ks : List Name) (y : Value Name) → ValueOk (IsMade vats d) y → maps.value (incoming (marked e) self) (world.read_value ks y).read ≡ maps.value (incoming sure self) (world.read_value ks y).read
   unfolding world.read_value
   value_read ks (Ref n) h = ap (λ m. Ref m) (name_read ks n h)
-  value_read ks Null h = refl
-  value_read ks (Flag b) h = refl
-  value_read ks (Number z) h = refl
-  value_read ks (Letter c) h = refl
-  value_read ks (Text t) h = refl
-  value_read ks (Prim n) h = refl
-  value_read ks (Broken t) h = refl
-  value_read ks (Items k) h = refl
+  value_read ks other h = refl
 
   mutual
     unfolding world.read_passed world.read_all world.plain_read world.many_read world.more_read
@@ -137,9 +130,7 @@ put_made v w x head k (Gives a t) e = let z : World = record { fuel = t.fuel; dr
   where
     is : (z x : World) → Going z ≡ Going x → x ≡ z
     is z x f = cc
-put_made v w x head k (Throws p t) e = cc
-put_made v w x head k (Ejects m y t) e = cc
-put_made v w x head k (Stops c t) e = cc
+put_made v w x head k other e = cc
 
 all_later : (d l e : List ℕ) → e ≡ d ++ l → (es : List Event) → AllOf (IsShownBy d) es → AllOf (IsShownBy e) es
 all_later d l e f es h = all_map (λ z i. subst (λ ds. IsShownBy ds z) (sym f) (shown_later d l z i)) es h

@@ -18,43 +18,12 @@ numbered_kind : (k : ℕ) (ws : List (List ℕ)) → kind_in (decimal k ∷ ws) 
 numbered_kind k ws = taken (is_number (decimal k)) (35 ∷ first_of ws) (cond (is_activation (decimal k)) (33 ∷ first_of ws) (cond (bytes_eq (decimal k) (codes "left")) (codes "left " ++ first_of ws) (cond (bytes_eq (decimal k) (codes "lost")) (codes "lost " ++ second_of ws) (decimal k)))) (decimal_passes is_digit digit_is k)
 
 pub kinds_told : WordsTellKinds
-kinds_told vats (Open v) = refl
 kinds_told vats (Turn k v) = numbered_kind k (codes "turn" ∷ vat vats v ∷ [])
 kinds_told vats (Idle k) = numbered_kind k (codes "idle" ∷ [])
 kinds_told vats (Carry k v w note) = numbered_kind k (codes "carry" ∷ vat vats v ∷ vat vats w ∷ note_words vats note)
 kinds_told vats (Cut k v w) = numbered_kind k (codes "cut" ∷ vat vats v ∷ vat vats w ∷ [])
 kinds_told vats (Notice k v w) = numbered_kind k (codes "notice" ∷ vat vats v ∷ vat vats w ∷ [])
-kinds_told vats (Frame bytes) = refl
-kinds_told vats (Take t) = refl
-kinds_told vats (Call c) = refl
-kinds_told vats (Back a x) = refl
-kinds_told vats (Thrown a x) = refl
-kinds_told vats (Gone a) = refl
-kinds_told vats (Got a x) = refl
-kinds_told vats (SlotMade a s x) = refl
-kinds_told vats (Read a s x) = refl
-kinds_told vats (Wrote a s x) = refl
-kinds_told vats (ListMade a l members) = refl
-kinds_told vats (Arrived l members) = refl
-kinds_told vats (Ejector a o) = refl
-kinds_told vats (Audition a o) = refl
-kinds_told vats (Promise a p o) = refl
-kinds_told vats (Made o) = refl
-kinds_told vats (Send m) = refl
-kinds_told vats (SendOnly m) = refl
-kinds_told vats (When w) = refl
-kinds_told vats (Done a x) = refl
-kinds_told vats (Threw a x) = refl
-kinds_told vats (Settle p x) = refl
-kinds_told vats (Wait p q) = refl
-kinds_told vats (View p q) = refl
-kinds_told vats (LostCut m) = refl
-kinds_told vats (LostBroken m) = refl
-kinds_told vats (LeftQueue v m) = refl
-kinds_told vats (LeftHeld v p m) = refl
-kinds_told vats (LeftWait v x m) = refl
-kinds_told vats (LeftLink v w note) = refl
-kinds_told vats End = refl
+kinds_told vats other = refl
 
 kinds_of : (vats : List (List ℕ)) (xs : List Event) → map kind_in (map (words vats) xs) ≡ map kind xs
 kinds_of vats [] = refl

@@ -48,10 +48,7 @@ module _ (vats : List (List ℕ)) (good : AreNames vats) where
 
   by_parts : (a : Name) → name vats a ≡ front a ++ mark a ∷ rest a
   by_parts (Object v n) = refl
-  by_parts (Own v n) = refl
-  by_parts (Answer h m) = refl
-  by_parts (Gift h i) = refl
-  by_parts (Root v) = refl
+  by_parts other = refl
 
   front_plain : (a : Name) → Unmarked (front a)
   front_plain (Object v n) = good.unmarked v
@@ -62,10 +59,7 @@ module _ (vats : List (List ℕ)) (good : AreNames vats) where
 
   marked : (a : Name) → unmarked (mark a) ≡ false
   marked (Object v n) = refl
-  marked (Own v n) = refl
-  marked (Answer h m) = refl
-  marked (Gift h i) = refl
-  marked (Root v) = refl
+  marked other = refl
 
   parts_told : (a b : Name) → IsNameOf vats a → IsNameOf vats b → front a ≡ front b → mark a ≡ mark b → rest a ≡ rest b → a ≡ b
   parts_told (Object v n) (Object w x) h k e t f = let one : v ≡ w = good.differ v w h.0 k.0 e in let two : n ≡ x = decimal_injective n x h.1 k.1 f in λ i. Object (one i) (two i)

@@ -153,54 +153,9 @@ made k w ps r =
 
 made_again : (e : Event) → made (kind e) (word_at 4 (told e).parts) (told e).parts (told e).rest ≡ e
 made_again (Open v) = refl
-made_again (Turn k v) = refl
-made_again (Idle k) = refl
 made_again (Carry k v w (Deliver m target verb args)) = refl
-made_again (Carry k v w (DeliverOnly m target verb args)) = refl
-made_again (Carry k v w (Settled n x)) = refl
-made_again (Carry k v w (Elsewhere n u)) = refl
-made_again (Carry k v w (Opens gift n)) = refl
-made_again (Carry k v w (Ask gift provider)) = refl
-made_again (Carry k v w (Shorten n gift)) = refl
-made_again (Cut k v w) = refl
-made_again (Notice k v w) = refl
-made_again (Frame bytes) = refl
-made_again (Take t) = refl
-made_again (Call c) = refl
-made_again (Back a x) = refl
-made_again (Thrown a x) = refl
-made_again (Gone a) = refl
-made_again (Got a x) = refl
-made_again (SlotMade a s x) = refl
-made_again (Read a s x) = refl
-made_again (Wrote a s x) = refl
-made_again (ListMade a l members) = refl
-made_again (Arrived l members) = refl
-made_again (Ejector a o) = refl
-made_again (Audition a o) = refl
-made_again (Promise a p o) = refl
-made_again (Made o) = refl
-made_again (Send m) = refl
-made_again (SendOnly m) = refl
-made_again (When w) = refl
-made_again (Done a x) = refl
-made_again (Threw a x) = refl
-made_again (Settle p x) = refl
-made_again (Wait p q) = refl
-made_again (View p q) = refl
-made_again (LostCut m) = refl
-made_again (LostBroken m) = refl
-made_again (LeftQueue v m) = refl
-made_again (LeftHeld v p m) = refl
-made_again (LeftWait v x m) = refl
 made_again (LeftLink v w (Deliver m target verb args)) = refl
-made_again (LeftLink v w (DeliverOnly m target verb args)) = refl
-made_again (LeftLink v w (Settled n x)) = refl
-made_again (LeftLink v w (Elsewhere n u)) = refl
-made_again (LeftLink v w (Opens gift n)) = refl
-made_again (LeftLink v w (Ask gift provider)) = refl
-made_again (LeftLink v w (Shorten n gift)) = refl
-made_again End = refl
+made_again other = refl
 
 -- of no vats
 abbrev again : Told → Event

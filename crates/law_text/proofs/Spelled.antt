@@ -84,9 +84,7 @@ module _ (vats : List (List ℕ)) (P : List ℕ → Type 0) (L : Leaves vats P) 
 
   mutual
     value_line : (x : Shown) → P (value vats x)
-    value_line Null = L.literal _ refl
     value_line (Bool true) = L.literal _ refl
-    value_line (Bool false) = L.literal _ refl
     value_line (Int z) = L.signed z
     value_line (Char c) = L.character c
     value_line (Text text) = L.text text
@@ -96,6 +94,7 @@ module _ (vats : List (List ℕ)) (P : List ℕ → Type 0) (L : Leaves vats P) 
     value_line (Slot v n) = numbered_line v 38 n refl
     value_line (Named n) = name_line n
     value_line (Members' shape row) = L.list (member_values vats row) (row_are row)
+    value_line other = L.literal _ refl
 
     pub row_are : {n : _} (row : Row_of-Shown n) → Are (member_values vats row)
     row_are end_of-Shown = tt

@@ -70,48 +70,11 @@ last_is (Stopped c k w) = ap (λ xs. xs ++ 10 ∷ []) (spelled c k) ∙ sym (app
 
 stop_kind : (c : Stop) (k : ℕ) → kind_in (stop_words c k) ≡ codes "stop"
 stop_kind Fuel k = refl
-stop_kind Deep k = refl
-stop_kind (Repeated i j) k = refl
-stop_kind Astray k = refl
+stop_kind other k = refl
 
 kinds_go : (e : Event) → bytes_eq (kind e) (codes "stop") ≡ false
 kinds_go (Open v) = refl
-kinds_go (Turn k v) = refl
-kinds_go (Idle k) = refl
-kinds_go (Carry k v w note) = refl
-kinds_go (Cut k v w) = refl
-kinds_go (Notice k v w) = refl
-kinds_go (Frame bytes) = refl
-kinds_go (Take t) = refl
-kinds_go (Call c) = refl
-kinds_go (Back a x) = refl
-kinds_go (Thrown a x) = refl
-kinds_go (Gone a) = refl
-kinds_go (Got a x) = refl
-kinds_go (SlotMade a s x) = refl
-kinds_go (Read a s x) = refl
-kinds_go (Wrote a s x) = refl
-kinds_go (ListMade a l members) = refl
-kinds_go (Arrived l members) = refl
-kinds_go (Ejector a o) = refl
-kinds_go (Audition a o) = refl
-kinds_go (Promise a p o) = refl
-kinds_go (Made o) = refl
-kinds_go (Send m) = refl
-kinds_go (SendOnly m) = refl
-kinds_go (When w) = refl
-kinds_go (Done a x) = refl
-kinds_go (Threw a x) = refl
-kinds_go (Settle p x) = refl
-kinds_go (Wait p q) = refl
-kinds_go (View p q) = refl
-kinds_go (LostCut m) = refl
-kinds_go (LostBroken m) = refl
-kinds_go (LeftQueue v m) = refl
-kinds_go (LeftHeld v p m) = refl
-kinds_go (LeftWait v x m) = refl
-kinds_go (LeftLink v w note) = refl
-kinds_go End = refl
+kinds_go other = refl
 
 -- ---- lines of events, and the last
 

@@ -44,17 +44,8 @@ pub digit_is : (d : ℕ) → d < 10 → is_digit (48 + d) ≡ true
 digit_is d h = grind (arith, nat_tests)
 
 digit_names : (d : ℕ) → d < 10 → names_vat (48 + d) ≡ true
-digit_names zero h = refl
-digit_names (suc zero) h = refl
-digit_names (suc (suc zero)) h = refl
-digit_names (suc (suc (suc zero))) h = refl
-digit_names (suc (suc (suc (suc zero)))) h = refl
-digit_names (suc (suc (suc (suc (suc zero))))) h = refl
-digit_names (suc (suc (suc (suc (suc (suc zero)))))) h = refl
-digit_names (suc (suc (suc (suc (suc (suc (suc zero))))))) h = refl
-digit_names (suc (suc (suc (suc (suc (suc (suc (suc zero)))))))) h = refl
-digit_names (suc (suc (suc (suc (suc (suc (suc (suc (suc zero))))))))) h = refl
 digit_names (suc (suc (suc (suc (suc (suc (suc (suc (suc (suc d)))))))))) h = absurd (omega arith)
+digit_names other h = refl
 
 -- what holds of each digit
 module _ (p : ℕ → Bools) (each : (d : ℕ) → d < 10 → p (48 + d) ≡ true) where
@@ -143,20 +134,14 @@ name_mark (Root v) = 64
 
 marks_name : (a : Name) → unmarked (name_mark a) ≡ false
 marks_name (Object v n) = refl
-marks_name (Own v n) = refl
-marks_name (Answer h m) = refl
-marks_name (Gift h i) = refl
-marks_name (Root v) = refl
+marks_name other = refl
 
 no_name : (a : Name) (k : ℕ) → unmarked k ≡ true → name_mark a ≡ k → ⊥
 no_name a k is e = true_false (sym is ∙ sym (ap unmarked e) ∙ marks_name a)
 
 name_fails : (a : Name) → names_vat (name_mark a) ≡ false
 name_fails (Object v n) = refl
-name_fails (Own v n) = refl
-name_fails (Answer h m) = refl
-name_fails (Gift h i) = refl
-name_fails (Root v) = refl
+name_fails other = refl
 
 -- ---- a text begins with its quote
 
@@ -183,9 +168,6 @@ module _ (vats : List (List ℕ)) (good : AreVats vats) where
   front _ = []
 
   abbrev mark : Shown → ℕ
-  mark Null = 10
-  mark (Bool b) = 10
-  mark (Int (pos n)) = 10
   mark (Int (negsuc n)) = 45
   mark (Char c) = 39
   mark (Text t) = 34
@@ -195,13 +177,11 @@ module _ (vats : List (List ℕ)) (good : AreVats vats) where
   mark (Slot v n) = 38
   mark (Named a) = name_mark a
   mark (Members' shape row) = 91
+  mark other = 10
 
   -- behind its text a line feed
   parts : (x : Shown) → (r : List ℕ) × (value vats x ++ 10 ∷ [] ≡ front x ++ mark x ∷ r)
-  parts Null = ([], refl)
   parts (Bool true) = ([], refl)
-  parts (Bool false) = ([], refl)
-  parts (Int (pos n)) = ([], refl)
   parts (Int (negsuc n)) = (decimal (suc n) ++ 10 ∷ [], refl)
   parts (Char c) = (_, refl)
   parts (Text t) = let q = starts t in (q.0 ++ 10 ∷ [], ap (λ xs. xs ++ 10 ∷ []) q.1)
@@ -215,39 +195,23 @@ module _ (vats : List (List ℕ)) (good : AreVats vats) where
   parts (Named (Gift h i)) = (decimal i ++ 10 ∷ [], append_assoc (vat vats h) (94 ∷ decimal i) (10 ∷ []))
   parts (Named (Root v)) = (vat vats v ++ 10 ∷ [], refl)
   parts (Members' shape row) = (_, refl)
+  parts other = ([], refl)
 
   fronts : (x : Shown) → All (front x)
-  fronts Null = refl
   fronts (Bool true) = refl
-  fronts (Bool false) = refl
   fronts (Int (pos n)) = decimal_passes names_vat digit_names n
-  fronts (Int (negsuc n)) = refl
-  fronts (Char c) = refl
-  fronts (Text t) = refl
-  fronts (Broken t) = refl
-  fronts (Prim n) = refl
   fronts (ListOf v n) = good.spelled v
   fronts (Slot v n) = good.spelled v
   fronts (Named (Object v n)) = good.spelled v
   fronts (Named (Own v n)) = good.spelled v
   fronts (Named (Answer h m)) = good.spelled h
   fronts (Named (Gift h i)) = good.spelled h
-  fronts (Named (Root v)) = refl
-  fronts (Members' shape row) = refl
+  fronts other = refl
 
   marks : (x : Shown) → names_vat (mark x) ≡ false
-  marks Null = refl
-  marks (Bool b) = refl
   marks (Int (pos n)) = refl
-  marks (Int (negsuc n)) = refl
-  marks (Char c) = refl
-  marks (Text t) = refl
-  marks (Broken t) = refl
-  marks (Prim n) = refl
-  marks (ListOf v n) = refl
-  marks (Slot v n) = refl
   marks (Named a) = name_fails a
-  marks (Members' shape row) = refl
+  marks other = refl
 
   -- a thing of a vat by its mark
   pub thing_told : (k v w n x : ℕ) → names_vat k ≡ false → (v < length vats) × (n < 2 ^ 64) → (w < length vats) × (x < 2 ^ 64) → numbered vats v k n ≡ numbered vats w k x → (v ≡ w) × (n ≡ x)
@@ -274,23 +238,16 @@ module _ (vats : List (List ℕ)) (good : AreVats vats) where
   behind_mark c (x ∷ xs) r e = cc
 
   pub value_full : (x : Shown) → IsFull (value vats x)
-  value_full Null e = cc
   value_full (Bool true) e = cc
-  value_full (Bool false) e = cc
   value_full (Int (pos n)) e = decimal_full n e
-  value_full (Int (negsuc n)) e = cc
-  value_full (Char c) e = cc
   value_full (Text t) e = let q = starts t in absurd (nothing 34 q.0 (sym e ∙ q.1))
-  value_full (Broken t) e = cc
-  value_full (Prim n) e = cc
   value_full (ListOf v n) e = behind_mark 37 (vat vats v) (decimal n) e
   value_full (Slot v n) e = behind_mark 38 (vat vats v) (decimal n) e
   value_full (Named (Object v n)) e = behind_mark 46 (vat vats v) (decimal n) e
   value_full (Named (Own v n)) e = behind_mark 126 (vat vats v) (decimal n) e
   value_full (Named (Answer h m)) e = behind_mark 63 (vat vats h) (message vats m) e
   value_full (Named (Gift h i)) e = behind_mark 94 (vat vats h) (decimal i) e
-  value_full (Named (Root v)) e = cc
-  value_full (Members' shape row) e = cc
+  value_full other e = cc
 
   row_full : {n : _} (row : Row_of-Shown n) → AllOf IsFull (member_values vats row)
   row_full end_of-Shown = tt
@@ -329,15 +286,6 @@ module _ (vats : List (List ℕ)) (good : AreVats vats) where
     kinds Null (Bool true) h k e f t' = absurd (other_word 110 (codes "null") (codes "true") refl refl f)
     kinds Null (Bool false) h k e f t' = absurd (other_word 110 (codes "null") (codes "false") refl refl f)
     kinds Null (Int (pos n)) h k e f t' = absurd (no_digits n (codes "null") refl (sym f))
-    kinds Null (Int (negsuc n)) h k e f t' = absurd (two_marks 10 45 refl t')
-    kinds Null (Char d) h k e f t' = absurd (two_marks 10 39 refl t')
-    kinds Null (Text u) h k e f t' = absurd (two_marks 10 34 refl t')
-    kinds Null (Broken u) h k e f t' = absurd (two_marks 10 58 refl t')
-    kinds Null (Prim n) h k e f t' = absurd (two_marks 10 60 refl t')
-    kinds Null (ListOf w n) h k e f t' = absurd (two_marks 10 37 refl t')
-    kinds Null (Slot w n) h k e f t' = absurd (two_marks 10 38 refl t')
-    kinds Null (Named b) h k e f t' = absurd (no_name b 10 refl (sym t'))
-    kinds Null (Members' shape row) h k e f t' = absurd (two_marks 10 91 refl t')
     kinds (Bool true) Null h k e f t' = absurd (other_word 116 (codes "true") (codes "null") refl refl f)
     kinds (Bool true) (Bool true) h k e f t' = same
     kinds (Bool true) (Bool false) h k e f t' = absurd (other_word 116 (codes "true") (codes "false") refl refl f)
@@ -355,32 +303,11 @@ module _ (vats : List (List ℕ)) (good : AreVats vats) where
     kinds (Bool false) (Bool true) h k e f t' = absurd (other_word 102 (codes "false") (codes "true") refl refl f)
     kinds (Bool false) (Bool false) h k e f t' = same
     kinds (Bool false) (Int (pos n)) h k e f t' = absurd (no_digits n (codes "false") refl (sym f))
-    kinds (Bool false) (Int (negsuc n)) h k e f t' = absurd (two_marks 10 45 refl t')
-    kinds (Bool false) (Char d) h k e f t' = absurd (two_marks 10 39 refl t')
-    kinds (Bool false) (Text u) h k e f t' = absurd (two_marks 10 34 refl t')
-    kinds (Bool false) (Broken u) h k e f t' = absurd (two_marks 10 58 refl t')
-    kinds (Bool false) (Prim n) h k e f t' = absurd (two_marks 10 60 refl t')
-    kinds (Bool false) (ListOf w n) h k e f t' = absurd (two_marks 10 37 refl t')
-    kinds (Bool false) (Slot w n) h k e f t' = absurd (two_marks 10 38 refl t')
-    kinds (Bool false) (Named b) h k e f t' = absurd (no_name b 10 refl (sym t'))
-    kinds (Bool false) (Members' shape row) h k e f t' = absurd (two_marks 10 91 refl t')
     kinds (Int (pos m)) Null h k e f t' = absurd (no_digits m (codes "null") refl f)
     kinds (Int (pos m)) (Bool true) h k e f t' = absurd (no_digits m (codes "true") refl f)
     kinds (Int (pos m)) (Bool false) h k e f t' = absurd (no_digits m (codes "false") refl f)
     kinds (Int (pos m)) (Int (pos n)) h k e f t' = subst (λ z. Alike (Int (pos m)) (Int z)) (ap pos (wide_is m n h k e)) same
-    kinds (Int (pos m)) (Int (negsuc n)) h k e f t' = absurd (two_marks 10 45 refl t')
-    kinds (Int (pos m)) (Char d) h k e f t' = absurd (two_marks 10 39 refl t')
-    kinds (Int (pos m)) (Text u) h k e f t' = absurd (two_marks 10 34 refl t')
-    kinds (Int (pos m)) (Broken u) h k e f t' = absurd (two_marks 10 58 refl t')
-    kinds (Int (pos m)) (Prim n) h k e f t' = absurd (two_marks 10 60 refl t')
-    kinds (Int (pos m)) (ListOf w n) h k e f t' = absurd (two_marks 10 37 refl t')
-    kinds (Int (pos m)) (Slot w n) h k e f t' = absurd (two_marks 10 38 refl t')
-    kinds (Int (pos m)) (Named b) h k e f t' = absurd (no_name b 10 refl (sym t'))
-    kinds (Int (pos m)) (Members' shape row) h k e f t' = absurd (two_marks 10 91 refl t')
-    kinds (Int (negsuc m)) Null h k e f t' = absurd (two_marks 45 10 refl t')
     kinds (Int (negsuc m)) (Bool true) h k e f t' = absurd (two_marks 45 10 refl t')
-    kinds (Int (negsuc m)) (Bool false) h k e f t' = absurd (two_marks 45 10 refl t')
-    kinds (Int (negsuc m)) (Int (pos n)) h k e f t' = absurd (two_marks 45 10 refl t')
     kinds (Int (negsuc m)) (Int (negsuc n)) h k e f t' = subst (λ z. Alike (Int (negsuc m)) (Int z)) (ap negsuc (suc_is m n (wide_is (suc m) (suc n) h k (tail_is 45 45 (decimal (suc m)) (decimal (suc n)) e)))) same
     kinds (Int (negsuc m)) (Char d) h k e f t' = absurd (two_marks 45 39 refl t')
     kinds (Int (negsuc m)) (Text u) h k e f t' = absurd (two_marks 45 34 refl t')
@@ -390,10 +317,7 @@ module _ (vats : List (List ℕ)) (good : AreVats vats) where
     kinds (Int (negsuc m)) (Slot w n) h k e f t' = absurd (two_marks 45 38 refl t')
     kinds (Int (negsuc m)) (Named b) h k e f t' = absurd (no_name b 45 refl (sym t'))
     kinds (Int (negsuc m)) (Members' shape row) h k e f t' = absurd (two_marks 45 91 refl t')
-    kinds (Char c) Null h k e f t' = absurd (two_marks 39 10 refl t')
     kinds (Char c) (Bool true) h k e f t' = absurd (two_marks 39 10 refl t')
-    kinds (Char c) (Bool false) h k e f t' = absurd (two_marks 39 10 refl t')
-    kinds (Char c) (Int (pos n)) h k e f t' = absurd (two_marks 39 10 refl t')
     kinds (Char c) (Int (negsuc n)) h k e f t' = absurd (two_marks 39 45 refl t')
     kinds (Char c) (Char d) h k e f t' = characters e
     kinds (Char c) (Text u) h k e f t' = absurd (two_marks 39 34 refl t')
@@ -403,10 +327,7 @@ module _ (vats : List (List ℕ)) (good : AreVats vats) where
     kinds (Char c) (Slot w n) h k e f t' = absurd (two_marks 39 38 refl t')
     kinds (Char c) (Named b) h k e f t' = absurd (no_name b 39 refl (sym t'))
     kinds (Char c) (Members' shape row) h k e f t' = absurd (two_marks 39 91 refl t')
-    kinds (Text t) Null h k e f t' = absurd (two_marks 34 10 refl t')
     kinds (Text t) (Bool true) h k e f t' = absurd (two_marks 34 10 refl t')
-    kinds (Text t) (Bool false) h k e f t' = absurd (two_marks 34 10 refl t')
-    kinds (Text t) (Int (pos n)) h k e f t' = absurd (two_marks 34 10 refl t')
     kinds (Text t) (Int (negsuc n)) h k e f t' = absurd (two_marks 34 45 refl t')
     kinds (Text t) (Char d) h k e f t' = absurd (two_marks 34 39 refl t')
     kinds (Text t) (Text u) h k e f t' = texts e
@@ -416,10 +337,7 @@ module _ (vats : List (List ℕ)) (good : AreVats vats) where
     kinds (Text t) (Slot w n) h k e f t' = absurd (two_marks 34 38 refl t')
     kinds (Text t) (Named b) h k e f t' = absurd (no_name b 34 refl (sym t'))
     kinds (Text t) (Members' shape row) h k e f t' = absurd (two_marks 34 91 refl t')
-    kinds (Broken t) Null h k e f t' = absurd (two_marks 58 10 refl t')
     kinds (Broken t) (Bool true) h k e f t' = absurd (two_marks 58 10 refl t')
-    kinds (Broken t) (Bool false) h k e f t' = absurd (two_marks 58 10 refl t')
-    kinds (Broken t) (Int (pos n)) h k e f t' = absurd (two_marks 58 10 refl t')
     kinds (Broken t) (Int (negsuc n)) h k e f t' = absurd (two_marks 58 45 refl t')
     kinds (Broken t) (Char d) h k e f t' = absurd (two_marks 58 39 refl t')
     kinds (Broken t) (Text u) h k e f t' = absurd (two_marks 58 34 refl t')
@@ -429,10 +347,7 @@ module _ (vats : List (List ℕ)) (good : AreVats vats) where
     kinds (Broken t) (Slot w n) h k e f t' = absurd (two_marks 58 38 refl t')
     kinds (Broken t) (Named b) h k e f t' = absurd (no_name b 58 refl (sym t'))
     kinds (Broken t) (Members' shape row) h k e f t' = absurd (two_marks 58 91 refl t')
-    kinds (Prim m) Null h k e f t' = absurd (two_marks 60 10 refl t')
     kinds (Prim m) (Bool true) h k e f t' = absurd (two_marks 60 10 refl t')
-    kinds (Prim m) (Bool false) h k e f t' = absurd (two_marks 60 10 refl t')
-    kinds (Prim m) (Int (pos n)) h k e f t' = absurd (two_marks 60 10 refl t')
     kinds (Prim m) (Int (negsuc n)) h k e f t' = absurd (two_marks 60 45 refl t')
     kinds (Prim m) (Char d) h k e f t' = absurd (two_marks 60 39 refl t')
     kinds (Prim m) (Text u) h k e f t' = absurd (two_marks 60 34 refl t')
@@ -442,10 +357,7 @@ module _ (vats : List (List ℕ)) (good : AreVats vats) where
     kinds (Prim m) (Slot w n) h k e f t' = absurd (two_marks 60 38 refl t')
     kinds (Prim m) (Named b) h k e f t' = absurd (no_name b 60 refl (sym t'))
     kinds (Prim m) (Members' shape row) h k e f t' = absurd (two_marks 60 91 refl t')
-    kinds (ListOf v m) Null h k e f t' = absurd (two_marks 37 10 refl t')
     kinds (ListOf v m) (Bool true) h k e f t' = absurd (two_marks 37 10 refl t')
-    kinds (ListOf v m) (Bool false) h k e f t' = absurd (two_marks 37 10 refl t')
-    kinds (ListOf v m) (Int (pos n)) h k e f t' = absurd (two_marks 37 10 refl t')
     kinds (ListOf v m) (Int (negsuc n)) h k e f t' = absurd (two_marks 37 45 refl t')
     kinds (ListOf v m) (Char d) h k e f t' = absurd (two_marks 37 39 refl t')
     kinds (ListOf v m) (Text u) h k e f t' = absurd (two_marks 37 34 refl t')
@@ -455,10 +367,7 @@ module _ (vats : List (List ℕ)) (good : AreVats vats) where
     kinds (ListOf v m) (Slot w n) h k e f t' = absurd (two_marks 37 38 refl t')
     kinds (ListOf v m) (Named b) h k e f t' = absurd (no_name b 37 refl (sym t'))
     kinds (ListOf v m) (Members' shape row) h k e f t' = absurd (two_marks 37 91 refl t')
-    kinds (Slot v m) Null h k e f t' = absurd (two_marks 38 10 refl t')
     kinds (Slot v m) (Bool true) h k e f t' = absurd (two_marks 38 10 refl t')
-    kinds (Slot v m) (Bool false) h k e f t' = absurd (two_marks 38 10 refl t')
-    kinds (Slot v m) (Int (pos n)) h k e f t' = absurd (two_marks 38 10 refl t')
     kinds (Slot v m) (Int (negsuc n)) h k e f t' = absurd (two_marks 38 45 refl t')
     kinds (Slot v m) (Char d) h k e f t' = absurd (two_marks 38 39 refl t')
     kinds (Slot v m) (Text u) h k e f t' = absurd (two_marks 38 34 refl t')
@@ -468,10 +377,7 @@ module _ (vats : List (List ℕ)) (good : AreVats vats) where
     kinds (Slot v m) (Slot w n) h k e f t' = let one = thing_told 38 v w m n refl h k e in subst (λ z. Alike (Slot v m) (Slot w z)) one.1 (subst (λ z. Alike (Slot v m) (Slot z m)) one.0 same)
     kinds (Slot v m) (Named b) h k e f t' = absurd (no_name b 38 refl (sym t'))
     kinds (Slot v m) (Members' shape row) h k e f t' = absurd (two_marks 38 91 refl t')
-    kinds (Named a) Null h k e f t' = absurd (no_name a 10 refl t')
     kinds (Named a) (Bool true) h k e f t' = absurd (no_name a 10 refl t')
-    kinds (Named a) (Bool false) h k e f t' = absurd (no_name a 10 refl t')
-    kinds (Named a) (Int (pos n)) h k e f t' = absurd (no_name a 10 refl t')
     kinds (Named a) (Int (negsuc n)) h k e f t' = absurd (no_name a 45 refl t')
     kinds (Named a) (Char d) h k e f t' = absurd (no_name a 39 refl t')
     kinds (Named a) (Text u) h k e f t' = absurd (no_name a 34 refl t')
@@ -481,10 +387,7 @@ module _ (vats : List (List ℕ)) (good : AreVats vats) where
     kinds (Named a) (Slot w n) h k e f t' = absurd (no_name a 38 refl t')
     kinds (Named a) (Named b) h k e f t' = subst (λ z. Alike (Named a) (Named z)) (name_told vats (are_names vats good) a b h k e) same
     kinds (Named a) (Members' shape row) h k e f t' = absurd (no_name a 91 refl t')
-    kinds (Members' shape row) Null h k e f t' = absurd (two_marks 91 10 refl t')
     kinds (Members' shape row) (Bool true) h k e f t' = absurd (two_marks 91 10 refl t')
-    kinds (Members' shape row) (Bool false) h k e f t' = absurd (two_marks 91 10 refl t')
-    kinds (Members' shape row) (Int (pos n)) h k e f t' = absurd (two_marks 91 10 refl t')
     kinds (Members' shape row) (Int (negsuc n)) h k e f t' = absurd (two_marks 91 45 refl t')
     kinds (Members' shape row) (Char d) h k e f t' = absurd (two_marks 91 39 refl t')
     kinds (Members' shape row) (Text u) h k e f t' = absurd (two_marks 91 34 refl t')
@@ -494,6 +397,24 @@ module _ (vats : List (List ℕ)) (good : AreVats vats) where
     kinds (Members' shape row) (Slot w n) h k e f t' = absurd (two_marks 91 38 refl t')
     kinds (Members' shape row) (Named b) h k e f t' = absurd (no_name b 91 refl (sym t'))
     kinds (Members' shape row) (Members' other others) h k e f t' = lists refl refl (inner row others h k (members_told row others e))
+    kinds other (Int (negsuc n)) h k e f t' = absurd (two_marks 10 45 refl t')
+    kinds other (Char d) h k e f t' = absurd (two_marks 10 39 refl t')
+    kinds other (Text u) h k e f t' = absurd (two_marks 10 34 refl t')
+    kinds other (Broken u) h k e f t' = absurd (two_marks 10 58 refl t')
+    kinds other (Prim n) h k e f t' = absurd (two_marks 10 60 refl t')
+    kinds other (ListOf w n) h k e f t' = absurd (two_marks 10 37 refl t')
+    kinds other (Slot w n) h k e f t' = absurd (two_marks 10 38 refl t')
+    kinds other (Named b) h k e f t' = absurd (no_name b 10 refl (sym t'))
+    kinds other (Members' shape row) h k e f t' = absurd (two_marks 10 91 refl t')
+    kinds (Int (negsuc m)) other h k e f t' = absurd (two_marks 45 10 refl t')
+    kinds (Char c) other h k e f t' = absurd (two_marks 39 10 refl t')
+    kinds (Text t) other h k e f t' = absurd (two_marks 34 10 refl t')
+    kinds (Broken t) other h k e f t' = absurd (two_marks 58 10 refl t')
+    kinds (Prim m) other h k e f t' = absurd (two_marks 60 10 refl t')
+    kinds (ListOf v m) other h k e f t' = absurd (two_marks 37 10 refl t')
+    kinds (Slot v m) other h k e f t' = absurd (two_marks 38 10 refl t')
+    kinds (Named a) other h k e f t' = absurd (no_name a 10 refl t')
+    kinds (Members' shape row) other h k e f t' = absurd (two_marks 91 10 refl t')
 
   pub value_told : (x y : Shown) → IsValueOf vats x → IsValueOf vats y → value vats x ≡ value vats y → Alike x y
   value_told x y h k e = kinds x y h k e (split x y e).0 (split x y e).1
@@ -525,10 +446,7 @@ module _ (vats : List (List ℕ)) (good : AreVats vats) where
       by_front w h x one.0 one.1
 
   by_arrow : (x : Shown) → codes "->" ≡ value vats x → 45 ≡ mark x → ⊥
-  by_arrow Null e t' = two_marks 45 10 refl t'
   by_arrow (Bool true) e t' = two_marks 45 10 refl t'
-  by_arrow (Bool false) e t' = two_marks 45 10 refl t'
-  by_arrow (Int (pos n)) e t' = two_marks 45 10 refl t'
   by_arrow (Int (negsuc n)) e t' = no_digits (suc n) (62 ∷ []) refl (sym (tail_is 45 45 (62 ∷ []) (decimal (suc n)) e))
   by_arrow (Char c) e t' = two_marks 45 39 refl t'
   by_arrow (Text t) e t' = two_marks 45 34 refl t'
@@ -538,6 +456,7 @@ module _ (vats : List (List ℕ)) (good : AreVats vats) where
   by_arrow (Slot v n) e t' = two_marks 45 38 refl t'
   by_arrow (Named a) e t' = no_name a 45 refl (sym t')
   by_arrow (Members' shape row) e t' = two_marks 45 91 refl t'
+  by_arrow other e t' = two_marks 45 10 refl t'
 
   pub arrow_is_no_value : (x : Shown) → codes "->" ≡ value vats x → ⊥
   arrow_is_no_value x e =

@@ -24,8 +24,6 @@ module _ (L : Limits) where
   IncomingFits (New n h) = NameFits L n × IsVat L h
 
   abbrev pub ReadFits : Value (Incoming Name Name) → Type 0
-  ReadFits Null = Unit {0}
-  ReadFits (Flag b) = Unit {0}
   ReadFits (Number z) = IsInt z
   ReadFits (Letter c) = IsScalar c
   ReadFits (Text t) = TextFits t
@@ -33,6 +31,7 @@ module _ (L : Limits) where
   ReadFits (Broken p) = TextFits p
   ReadFits (Items k) = IsLow L k
   ReadFits (Ref n) = IncomingFits n
+  ReadFits other = Unit {0}
 
   abbrev mutual
     pub ReadPassedFits : Passed (Incoming Name Name) → Type 0
@@ -55,11 +54,8 @@ module _ (L : Limits) where
   host_is_vat : (n : Name) → NameFits L n → IsVat L (host_of n)
   unfolding host_of
   host_is_vat (Root w) f = f
-  host_is_vat (Object w i) f = f.0
-  host_is_vat (Promise w i) f = f.0
-  host_is_vat (Answer w m) f = f.0
   host_is_vat (Gift w i) f = f
-  host_is_vat (Sent m) f = f.0
+  host_is_vat other f = f.0
 
   name_read : (ks : List Name) (n : Name) → NameFits L n → IncomingFits (world.read_name ks n)
   unfolding world.read_name
@@ -68,14 +64,7 @@ module _ (L : Limits) where
   value_read : (ks : List Name) (y : Value Name) → ValueFits L y → ReadFits (world.read_value ks y).read
   unfolding world.read_value
   value_read ks (Ref n) f = name_read ks n f
-  value_read ks Null f = f
-  value_read ks (Flag b) f = f
-  value_read ks (Number z) f = f
-  value_read ks (Letter c) f = f
-  value_read ks (Text t) f = f
-  value_read ks (Prim p) f = f
-  value_read ks (Broken p) f = f
-  value_read ks (Items k) f = f
+  value_read ks other f = f
 
   mutual
     unfolding world.read_passed world.read_all world.plain_read world.many_read world.more_read
@@ -186,9 +175,7 @@ module _ (L : Limits) where
     break_at : {C : Type 0} (n : Name) (p : Words) (t : Standing Name) → (C → NameFits L n) → (C → TextFits p) → Fine L C (arrive.break_at K n p t) (nothing L)
     unfolding arrive.break_at
     break_at n p (Settled y) g f = fine_give L tt (λ c. tt)
-    break_at n p Unsettled g f = settles n (Broken p) g f
-    break_at n p (WaitsOn q) g f = settles n (Broken p) g f
-    break_at n p (Viewed q) g f = settles n (Broken p) g f
+    break_at n p other g f = settles n (Broken p) g f
 
     break_unopened : {C : Type 0} (n : Name) (b : Bool) → (C → NameFits L n) → Fine L C (arrive.break_unopened K n b) (nothing L)
     unfolding arrive.break_unopened
@@ -198,9 +185,7 @@ module _ (L : Limits) where
     tell_asker : {C : Type 0} (n : Name) (w : ℕ) (t : Standing Name) → (C → NameFits L n) → (C → IsVat L w) → Fine L C (arrive.tell_asker K n w t) (nothing L)
     unfolding arrive.tell_asker
     tell_asker n w (Settled y) g i = fine_inform L word v inside n w g i
-    tell_asker n w Unsettled g i = fine_alter L word v inside (ToTell w) n i
-    tell_asker n w (WaitsOn q) g i = fine_alter L word v inside (ToTell w) n i
-    tell_asker n w (Viewed q) g i = fine_alter L word v inside (ToTell w) n i
+    tell_asker n w other g i = fine_alter L word v inside (ToTell w) n i
 
     -- ---- arrival
 
@@ -266,10 +251,7 @@ module _ (L : Limits) where
       where
         to : {C : Type 0} (p : Place Name) → (C → PlaceFits L p) → Fine L C (arrive.shorten_to K i p) (nothing L)
         to (Away h n true) f = fine_out L h (Open i n) (λ c. (f c).1)
-        to (Away h n false) f = fine_give L tt (λ c. tt)
-        to Near f = fine_give L tt (λ c. tt)
-        to (Mine n) f = fine_give L tt (λ c. tt)
-        to (Gone t) f = fine_give L tt (λ c. tt)
+        to other f = fine_give L tt (λ c. tt)
 
     pub fine_arrive : {C : Type 0} (from : ℕ) (n : Note (Incoming Name Name)) → (C → IsVat L from) → (C → ReadNoteFits n) → Fine L C (arrive.arrive K from n) (nothing L)
     unfolding arrive.arrive
@@ -284,10 +266,9 @@ module _ (L : Limits) where
 
     break_hosted : {C : Type 0} (w : ℕ) (n : Name) (p : Words) (t : Standing Name) → (C → NameFits L n) → (C → TextFits p) → Fine L C (arrive.break_hosted K w n p t) (nothing L)
     unfolding arrive.break_hosted
-    break_hosted w n p Unsettled g f = settles n (Broken p) g f
-    break_hosted w n p (WaitsOn q) g f = settles n (Broken p) g f
     break_hosted w n p (Viewed q) g f = fine_give L tt (λ c. tt)
     break_hosted w n p (Settled y) g f = fine_give L tt (λ c. tt)
+    break_hosted w n p other g f = settles n (Broken p) g f
 
     notice_names : {C : Type 0} (w : ℕ) (ks : List (Known Name)) → (C → AllOf (KnownFits L) ks) → Fine L C (each (arrive.notice_name K w) ks) (nothing L)
     unfolding each arrive.notice_name

@@ -29,10 +29,9 @@ use Rattle.law_text_runs.proofs.Perform.{GoodCaller, fine_make_list, fine_reply,
 -- ---- forms
 
 abbrev ItemFits : Item → Type 0
-ItemFits Begin = Unit {0}
-ItemFits End = Unit {0}
 ItemFits (Word w) = TextFits w
 ItemFits (Fact l) = LiteralFits l
+ItemFits other = Unit {0}
 
 abbrev ItemsFit : List Item → Type 0
 ItemsFit is = AllOf ItemFits is
@@ -71,8 +70,6 @@ module _ (rec : form.Former) (each : (e : ℕ) → ItemsFit (rec e)) where
 
   node_form_fits : (n : Node) → NodeFits n → ItemsFit (form.node_form rec n)
   unfolding form.node_form
-  node_form_fits (Lit l) f = headed_fits _ _ (plain _ refl) (f, tt)
-  node_form_fits (Noun x) f = headed_fits _ _ (plain _ refl) (f, tt)
   node_form_fits (Set x e) f = headed_fits _ _ (plain _ refl) (f, each e)
   node_form_fits (Def p j e) f = headed_fits _ _ (plain _ refl) (both (rec p ++ form.exit_form rec j) (rec e) (both (rec p) (form.exit_form rec j) (each p) (exit_fits j)) (each e))
   node_form_fits (Call r v es) f = headed_fits _ _ (plain _ refl) (both (rec r) (Word v ∷ form.forms rec es) (each r) (f, forms_fit es))
@@ -91,6 +88,7 @@ module _ (rec : form.Former) (each : (e : ℕ) → ItemsFit (rec e)) where
   node_form_fits (Any g) f = headed_fits _ _ (plain _ refl) (option_fits g)
   node_form_fits (ListPattern ps) f = headed_fits _ _ (plain _ refl) (forms_fit ps)
   node_form_fits (Via e p) f = headed_fits _ _ (plain _ refl) (both (rec e) (rec p) (each e) (each p))
+  node_form_fits other f = headed_fits _ _ (plain _ refl) (f, tt)
 
 form_found_fits : (tree : List Node) (rec : form.Former) → ((e : ℕ) → ItemsFit (rec e)) → (o : Option Node) → WhereSome NodeFits o → ItemsFit (form.form_found rec o)
 unfolding form.form_found
@@ -149,8 +147,7 @@ module _ (L : Limits) where
   named_fits : (o : Option Node) (x : Value Name) (here : Scope Name) → ValueFits L x → ScopeFits here → ScopeFits (scopes.named o x here)
   unfolding scopes.named scopes.with_noun scopes.any_guard
   named_fits (Some (Final y g)) x here f h = (h.0, ((f, refl), h.1))
-  named_fits (Some _) x here f h = h
-  named_fits None x here f h = h
+  named_fits other x here f h = h
 
   or_true : (b : Bool) → (b || true) ≡ true
   or_true true = refl
@@ -160,14 +157,12 @@ module _ (L : Limits) where
   called_by : (o : Option Node) → WhereSome NodeFits o → IsObjectName (scopes.name_of o)
   unfolding scopes.name_of
   called_by (Some (Final y g)) f = f.1
-  called_by (Some _) f = (utf8 _ refl, or_true (is_identifier (codes "_")))
-  called_by None f = (utf8 _ refl, or_true (is_identifier (codes "_")))
+  called_by other f = (utf8 _ refl, or_true (is_identifier (codes "_")))
 
   freedom_bound_fits : (o : Option (Bound Name)) (x : Words) → WhereSome (BoundFits L) o → FreedomFits L (scopes.freedom_of_bound o x)
   unfolding scopes.freedom_of_bound
   freedom_bound_fits (Some (Fixed y g)) x h = h.1
-  freedom_bound_fits (Some (Slot k)) x h = tt
-  freedom_bound_fits None x h = tt
+  freedom_bound_fits other x h = tt
 
   freedom_fits : (own : Option Words) (ns : List (Binding Name)) (x : Words) → NounsFit L ns → FreedomFits L (scopes.freedom_of own ns x)
   unfolding scopes.freedom_of
@@ -180,10 +175,9 @@ module _ (L : Limits) where
 
   told_fits : (x : Freedom Name) → FreedomFits L x → ValueFits L (scopes.guard_told x)
   unfolding scopes.guard_told scopes.any_guard
-  told_fits IsSafe h = refl
-  told_fits IsItself h = refl
   told_fits (IsFinal g) h = h
   told_fits IsVar h = tt
+  told_fits other h = refl
 
   guard_at_fits : (fs : List (FreeName Name)) (x : Words) → AllOf (λ (f : FreeName Name). FreedomFits L f.freedom) fs → ReplyFits L (scopes.guard_at fs x)
   unfolding scopes.guard_at
@@ -196,10 +190,9 @@ module _ (L : Limits) where
   guard_asked_fits fs _ h = plain _ refl
 
   abbrev AuditionAskFits : AuditionAsk Name → Type 0
-  AuditionAskFits GetsForm = Unit {0}
   AuditionAskFits (GetsGuard x) = ValueFits L x
   AuditionAskFits (Asks x) = ValueFits L x
-  AuditionAskFits NoAuditionAsk = Unit {0}
+  AuditionAskFits other = Unit {0}
 
   abbrev ResolverAskFits : ResolverAsk Name → Type 0
   ResolverAskFits (Resolves x) = ValueFits L x
@@ -214,9 +207,8 @@ module _ (L : Limits) where
 
   resolver_ask_fits : (verb : Words) (args : List (Value Name)) → ValuesFit L args → ResolverAskFits (scopes.resolver_ask verb args)
   unfolding scopes.resolver_ask
-  resolver_ask_fits verb [] h = tt
   resolver_ask_fits verb (x ∷ []) h = let i : ValueFits L x = h.0 in entry_has ResolverAskFits _ _ verb (i, (i, tt)) tt
-  resolver_ask_fits verb (x ∷ y ∷ ys) h = tt
+  resolver_ask_fits verb other h = tt
 
   ejector_ask_fits : (verb : Words) (args : List (Value Name)) → ValuesFit L args → WhereSome (ValueFits L) (scopes.ejector_ask verb args)
   unfolding scopes.ejector_ask
@@ -227,8 +219,7 @@ module _ (L : Limits) where
   pub literal_fits : (l : Literal) → LiteralFits l → ValueFits L (literal_value l)
   unfolding literal_value
   literal_fits (literal.Int z) f = f
-  literal_fits (literal.Char c) f = f
-  literal_fits (literal.Text t) f = f
+  literal_fits other f = f
 
   module _ (word : ℕ → ℕ) (v : ℕ) (inside : v < L.many) (tree : List Node) (good_tree : TreeFits tree) where
     abbrev K : Naming Name Name
@@ -265,9 +256,7 @@ module _ (L : Limits) where
     unfolding calls.audit
     audit again good act view a Near h g f = fine_bind L (IsLow L) (fine_thing L (Audition true view) g) (λ n. fine_then L (fine_tell L (AuditionMade act (K.object n)) (λ c. (h c.0, made_object n c.1)))
         (fine_bind L (ValueFits L) (fine_leaving n (good _ act a (codes "audit") (Ref (K.object n) ∷ []) (λ c. h c.0) (λ c. f c.0) (λ c. plain _ refl) (λ c. (made_object n c.1, tt)))) (λ x. fine_sees L _)))
-    audit again good act view a (Mine n) h g f = fine_throw L _ (λ c. plain _ refl)
-    audit again good act view a (Away w n o) h g f = fine_throw L _ (λ c. plain _ refl)
-    audit again good act view a (Gone t) h g f = fine_throw L _ (λ c. plain _ refl)
+    audit again good act view a other h g f = fine_throw L _ (λ c. plain _ refl)
 
     verdict : {C : Type 0} (again : Caller Name) → GoodCaller L again → (act : ℕ) (view : View Name) (a y : Value Name) → (C → IsLow L act) → (C → ViewFits L view) → (C → ValueFits L a) → Fine L C (calls.verdict K tree again act view a y) (nothing L)
     unfolding calls.verdict
@@ -407,8 +396,7 @@ module _ (L : Limits) where
       call_spot : {C : Type 0} (again : Caller Name) → GoodCaller L again → (act : ℕ) (x : Value Name) (p : Spot) (verb : Words) (args : List (Value Name)) → (C → IsLow L act) → (C → ValueFits L x) → (C → TextFits verb) → (C → ValuesFit L args) → Fine L C (calls.call_spot K tree rec again act x p verb args) (ValueFits L)
       unfolding calls.call_spot
       call_spot again h act x (Own i) verb args a f u k = fine_bind L (WhereSome (ThingFits L)) (look_thing i) (λ t. call_thing again h act x i t verb args (λ c. a c.0) (λ c. f c.0) (λ c. c.1) (λ c. u c.0) (λ c. k c.0))
-      call_spot again h act x (Foreign w) verb args a f u k = fine_throw L _ (λ c. plain _ refl)
-      call_spot again h act x NoObject verb args a f u k = fine_throw L _ (λ c. plain _ refl)
+      call_spot again h act x other verb args a f u k = fine_throw L _ (λ c. plain _ refl)
 
       call_value : {C : Type 0} (again : Caller Name) → GoodCaller L again → (act : ℕ) (x y : Value Name) (verb : Words) (args : List (Value Name)) → (C → IsLow L act) → (C → ValueFits L x) → (C → ValueFits L y) → (C → TextFits verb) → (C → ValuesFit L args) → Fine L C (calls.call_value K tree rec again act x y verb args) (ValueFits L)
       unfolding calls.call_value
@@ -446,8 +434,7 @@ module _ (L : Limits) where
       turn_spot : {C : Type 0} (act : ℕ) (p : Spot) (verb : Words) (args : List (Value Name)) → (C → IsLow L act) → (C → TextFits verb) → (C → ValuesFit L args) → Fine L C (calls.turn_spot K tree rec act p verb args) (ValueFits L)
       unfolding calls.turn_spot
       turn_spot act (Own i) verb args a u k = fine_bind L (WhereSome (ThingFits L)) (look_thing i) (λ t. turn_thing act i t verb args (λ c. a c.0) (λ c. c.1) (λ c. u c.0) (λ c. k c.0))
-      turn_spot act (Foreign w) verb args a u k = fine_stop L Astray
-      turn_spot act NoObject verb args a u k = fine_stop L Astray
+      turn_spot act other verb args a u k = fine_stop L Astray
 
       pub fine_turn_value : {C : Type 0} (act : ℕ) (x : Value Name) (verb : Words) (args : List (Value Name)) → (C → IsLow L act) → (C → ValueFits L x) → (C → TextFits verb) → (C → ValuesFit L args) → Fine L C (calls.turn_value K tree rec act x verb args) (ValueFits L)
       unfolding calls.turn_value

@@ -155,13 +155,7 @@ module _ (L : Limits) (word : ℕ → ℕ) (v : ℕ) (inside : v < L.many) (tree
         (λ j. match_ended j p x.scope (λ c. c.0.1.1) (good.pattern _ p x.value (Ref (K.object j)) x.scope (λ c. c.0.1.0) (λ c. made_object L word v inside tree good_tree j c.1) (λ c. c.0.1.1))))
     step id (Object p auditors members) here f h = fine_bind L (AnswersFit L) (all_of auditors here h)
         (λ xs. fine_make_object L word v inside tree good_tree (calls.call K tree rec) again id (slice_get tree p) (free_nouns tree members) xs.values xs.scope (node_at tree p good_tree) (λ c. c.1.0) (λ c. c.1.1))
-    step id (Method x ps b) here f h = fine_stop L Astray
-    step id (Matcher p b) here f h = fine_stop L Astray
-    step id (Final x g) here f h = fine_stop L Astray
-    step id (Var x g) here f h = fine_stop L Astray
-    step id (Any g) here f h = fine_stop L Astray
-    step id (ListPattern ps) here f h = fine_stop L Astray
-    step id (Via e p) here f h = fine_stop L Astray
+    step id other here f h = fine_stop L Astray
 
     -- ---- patterns
 

@@ -84,30 +84,23 @@ module _ (L : Limits) where
 
   more : {A : Type 0} (s t : Vat Name) → Grows s t → (d : Done Name A) → After Grows t d → After Grows s d
   more s t g (Gives a u) h = omega (arith, g, h)
-  more s t g (Throws p u) h = omega (arith, g, h)
-  more s t g (Ejects n v u) h = omega (arith, g, h)
-  more s t g (Stops c u) h = omega (arith, g, h)
+  more s t g other h = omega (arith, g, h)
 
   -- what comes behind a state made less than that state, where that made less than the limit
   behind : {A : Type 0} (G : A → Type 0) (t : Vat Name) (d : Done Name A) → After Grows t d → (size t < L.limit → Ends G d) → Ends G d
-  behind G t (Gives a u) g h = λ low. h (omega (arith, g, low)) low
-  behind G t (Throws p u) g h = λ low. h (omega (arith, g, low)) low
-  behind G t (Ejects n v u) g h = λ low. h (omega (arith, g, low)) low
   behind G t (Stops c u) g h = tt
+  behind G t other g h = λ low. h (omega (arith, g, low)) low
 
   grows_bind : {C A B : Type 0} (G : A → Type 0) (H : B → Type 0) (f : A → Act Name B) → ((a : A) → Fine (C × G a) (f a) H) → (s : Vat Name) (d : Done Name A) → After Grows s d → After Grows s (and_then d f)
   unfolding and_then
   grows_bind G H f k s (Gives a t) g = more s t g (f a t) ((k a).grows t)
-  grows_bind G H f k s (Throws p t) g = g
-  grows_bind G H f k s (Ejects n v t) g = g
-  grows_bind G H f k s (Stops c t) g = g
+  grows_bind G H f k s other g = g
 
   ends_bind : {C A B : Type 0} (G : A → Type 0) (H : B → Type 0) (f : A → Act Name B) → ((a : A) → Fine (C × G a) (f a) H) → C → (d : Done Name A) → Ends G d → Ends H (and_then d f)
   unfolding and_then
   ends_bind G H f k c (Gives a t) e = behind H t (f a t) ((k a).grows t) (λ low. (k a).after t (e low).0 (c, (e low).1))
-  ends_bind G H f k c (Throws p t) e = e
-  ends_bind G H f k c (Ejects n v t) e = e
   ends_bind G H f k c (Stops d t) e = tt
+  ends_bind G H f k c other e = e
 
   pub fine_bind : {C A B : Type 0} {m : Act Name A} {f : A → Act Name B} {H : B → Type 0} (G : A → Type 0) → Fine C m G → ((a : A) → Fine (C × G a) (f a) H) → Fine C (m >>= f) H
   unfolding ◌>>=◌
@@ -257,10 +250,8 @@ module _ (L : Limits) where
 
   dead_fits : (t : Thing Name) → ThingFits L t → ThingFits L (dead t)
   unfolding dead
-  dead_fits (Made node caught stamps) h = h
   dead_fits (Ejector live) h = tt
-  dead_fits (Audition live view) h = h
-  dead_fits (Resolver p) h = h
+  dead_fits other h = h
 
   pub fine_kill : {C : Type 0} (n : ℕ) → Fine C (kill n) nothing
   unfolding kill size

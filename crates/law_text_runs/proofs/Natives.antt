@@ -103,9 +103,6 @@ of_bits_is u l = by (nat_lt u (2 ^ 127)) refl
 
 apply_fits : (op : IntOp) (a b : ℤ) → IsInt a → IsInt b → ResultFits (ints.apply op a b)
 unfolding ints.apply
-apply_fits Add a b f g = in_range_fits _
-apply_fits Subtract a b f g = in_range_fits _
-apply_fits Multiply a b f g = in_range_fits _
 apply_fits FloorDivide a b f g = divided_fits b _
 apply_fits Remainder a b f g = divided_fits b _
 apply_fits Mod a b f g = divided_fits b _
@@ -113,6 +110,7 @@ apply_fits Pow a b f g = powered_fits a b f
 apply_fits And a b f g = of_bits_is _ (let l = and_le_l (ints.bits_of a) (ints.bits_of b) in let k = bits_low a f in omega (arith, l, k))
 apply_fits Or a b f g = of_bits_is _ (or_lt 128 (ints.bits_of a) (ints.bits_of b) (bits_low a f) (bits_low b g))
 apply_fits Xor a b f g = of_bits_is _ (xor_lt 128 (ints.bits_of a) (ints.bits_of b) (bits_low a f) (bits_low b g))
+apply_fits other a b f g = in_range_fits _
 
 code_is : (n : ℕ) → native.is_code n ≡ true → IsScalar n
 unfolding native.is_code
@@ -133,20 +131,16 @@ module _ (L : Limits) where
   abbrev pub AskedFits : Asked Name → Type 0
   AskedFits (MakesList vs) = ValuesFit L vs
   AskedFits (Ranges b x y) = ValueFits L x × ValueFits L y
-  AskedFits (Same x y) = Unit {0}
-  AskedFits (Compares t x y) = Unit {0}
   AskedFits (Loops o) = ValueFits L o
   AskedFits (SendsTo only x v l) = ValueFits L x × ValueFits L v × ValueFits L l
   AskedFits (CallsTo x v l) = ValueFits L x × ValueFits L v × ValueFits L l
-  AskedFits MakesPromise = Unit {0}
   AskedFits (Breaks x) = ValueFits L x
   AskedFits (Tells t x) = ValueFits L x
   AskedFits (Whens x o) = ValueFits L x × ValueFits L o
   AskedFits (ThrowsIt x) = ValueFits L x
-  AskedFits (IsStamped a x) = Unit {0}
   AskedFits (Coerces g x j) = GuardFits g × ValueFits L x × ValueFits L j
   AskedFits (AddsNull x) = ValueFits L x
-  AskedFits NoMethod = Unit {0}
+  AskedFits other = Unit {0}
 
   no_method_fits : ReplyFits native.no_method
   unfolding native.no_method
@@ -166,16 +160,13 @@ module _ (L : Limits) where
   unfolding native.int_alone
   alone_fits Negates z = by_int_fits _ (in_range_fits _)
   alone_fits AsChar z = as_char_fits z
-  alone_fits (Applies op) z = no_method_fits
-  alone_fits NoIntVerb z = no_method_fits
+  alone_fits other z = no_method_fits
 
   with_int_fits : (v : IntVerb) (a : ℤ) (x : Value Name) → IsInt a → ValueFits L x → ReplyFits (native.int_with v a x)
   unfolding native.int_with
   with_int_fits (Applies op) a (Number b) f g = by_int_fits _ (apply_fits op a b f g)
   with_int_fits (Applies op) a _ f g = plain _ refl
-  with_int_fits Negates a x f g = no_method_fits
-  with_int_fits AsChar a x f g = no_method_fits
-  with_int_fits NoIntVerb a x f g = no_method_fits
+  with_int_fits other a x f g = no_method_fits
 
   int_fits : (a : ℤ) (verb : Words) (xs : List (Value Name)) → IsInt a → ValuesFit L xs → ReplyFits (native.int_reply a verb xs)
   unfolding native.int_reply
@@ -187,11 +178,9 @@ module _ (L : Limits) where
   unfolding native.flag_with
   joined_fits NoFlagVerb a x = no_method_fits
   joined_fits Both a (Flag b) = tt
-  joined_fits Both a _ = plain _ refl
   joined_fits Either a (Flag b) = tt
-  joined_fits Either a _ = plain _ refl
   joined_fits Unlike a (Flag b) = tt
-  joined_fits Unlike a _ = plain _ refl
+  joined_fits other a _ = plain _ refl
 
   flag_fits : (a : Bool) (verb : Words) (xs : List (Value Name)) → ReplyFits (native.flag_reply a verb xs)
   unfolding native.flag_reply
@@ -261,9 +250,8 @@ module _ (L : Limits) where
   unfolding native.text_with
   text_with_fits Gets t u held x h i = got_fits Letter IsScalar (λ c s. s) (chars t) x (chars_scalar t u.0)
   text_with_fits Adds t u held x h i = text_and_fits t u.0 x i
-  text_with_fits AddsOne t u held x h i = no_method_fits
   text_with_fits Steps t u held x h i = (h, map_fits Letter IsScalar (λ c s. s) (chars t) (chars_scalar t u.0), subst (λ n. n < 2 ^ 64) (sym (length_map Letter (chars t))) (few_chars t u))
-  text_with_fits NoSeqVerb t u held x h i = no_method_fits
+  text_with_fits other t u held x h i = no_method_fits
 
   run_text : (t : Words) → TextFits t → (i j : Value Name) → ReplyFits (native.ran {A = ℕ} {N = Name} (λ cs. Writes (native.encoded cs)) (chars t) i j)
   run_text t u i j = ran_fits (λ (cs : List ℕ). Writes (native.encoded cs)) IsScalar (λ cs h. encoded_utf8 cs h) (chars t) i j (chars_scalar t u.0)
@@ -275,10 +263,8 @@ module _ (L : Limits) where
   text_fits t u verb (a ∷ []) (x ∷ []) h i = text_with_fits (native.text_verb verb) t u a x h.0 i.0
   text_fits t u verb (a ∷ []) (x ∷ y ∷ []) h i = entry_has ReplyFits _ _ verb (run_text t u x y, tt) no_method_fits
   text_fits t u verb (a ∷ []) (x ∷ y ∷ z ∷ zs) h i = no_method_fits
-  text_fits t u verb (a ∷ b ∷ cs) [] h i = no_method_fits
-  text_fits t u verb (a ∷ b ∷ cs) (x ∷ []) h i = no_method_fits
   text_fits t u verb (a ∷ b ∷ cs) (x ∷ y ∷ []) h i = entry_has ReplyFits _ _ verb (run_text t u x y, tt) no_method_fits
-  text_fits t u verb (a ∷ b ∷ cs) (x ∷ y ∷ z ∷ zs) h i = no_method_fits
+  text_fits t u verb (a ∷ b ∷ cs) other h i = no_method_fits
 
   pub list_at_fits : (ls : List (List (Value Name))) (k : ℕ) → AllOf (ValuesFit L) ls → ValuesFit L (list_at ls k)
   unfolding list_at
@@ -316,10 +302,8 @@ module _ (L : Limits) where
     list_fits vs low verb (a ∷ []) (x ∷ []) h i = list_with_fits (native.list_verb verb) vs a x low h i.0
     list_fits vs low verb (a ∷ []) (x ∷ y ∷ []) h i = entry_has ReplyFits _ _ verb (run_list vs x y h, tt) no_method_fits
     list_fits vs low verb (a ∷ []) (x ∷ y ∷ z ∷ zs) h i = no_method_fits
-    list_fits vs low verb (a ∷ b ∷ cs) [] h i = no_method_fits
-    list_fits vs low verb (a ∷ b ∷ cs) (x ∷ []) h i = no_method_fits
     list_fits vs low verb (a ∷ b ∷ cs) (x ∷ y ∷ []) h i = entry_has ReplyFits _ _ verb (run_list vs x y h, tt) no_method_fits
-    list_fits vs low verb (a ∷ b ∷ cs) (x ∷ y ∷ z ∷ zs) h i = no_method_fits
+    list_fits vs low verb (a ∷ b ∷ cs) other h i = no_method_fits
 
     pub data_fits : (y : Value Name) → ValueFits L y → (verb : Words) (held xs : List (Value Name)) → ValuesFit L held → ValuesFit L xs → ReplyFits (native.data_reply ls y verb held xs)
     unfolding native.data_reply
@@ -491,9 +475,7 @@ module _ (L : Limits) where
   guard_fits NullGuard f verb (x ∷ []) h = entry_has AskedFits _ _ verb (h.0, tt) tt
   guard_fits NullGuard f verb [] h = tt
   guard_fits NullGuard f verb (x ∷ y ∷ z ∷ zs) h = tt
-  guard_fits _ f verb [] h = tt
-  guard_fits _ f verb (x ∷ []) h = tt
-  guard_fits _ f verb (x ∷ y ∷ z ∷ zs) h = tt
+  guard_fits _ f verb other h = tt
 
   pub asked_fits : (p : Primitive) → IsGuarded p → (verb : Words) (args : List (Value Name)) → ValuesFit L args → AskedFits (native.asked p verb args)
   unfolding native.asked native.list_ask native.equalizer_ask native.comparer_ask native.run_ask native.send_ask native.ref_ask native.stamp_ask
@@ -502,32 +484,23 @@ module _ (L : Limits) where
   asked_fits MakeList q verb (a ∷ b ∷ []) h = let both : ValueFits L a × ValueFits L b = (h.0, h.1.0) in entry_has AskedFits _ _ verb (h, (both, (both, tt))) tt
   asked_fits MakeList q verb (a ∷ b ∷ c ∷ cs) h = entry_has AskedFits _ _ verb (h, tt) tt
   asked_fits Equalizer q verb (a ∷ b ∷ []) h = entry_has AskedFits _ _ verb (tt, tt) tt
-  asked_fits Equalizer q verb [] h = tt
-  asked_fits Equalizer q verb (a ∷ []) h = tt
   asked_fits Equalizer q verb (a ∷ b ∷ c ∷ cs) h = tt
   asked_fits Comparer q verb (a ∷ b ∷ []) h = entry_has AskedFits _ _ verb (tt, (tt, (tt, (tt, (tt, tt))))) tt
-  asked_fits Comparer q verb [] h = tt
-  asked_fits Comparer q verb (a ∷ []) h = tt
   asked_fits Comparer q verb (a ∷ b ∷ c ∷ cs) h = tt
-  asked_fits Looper q verb [] h = tt
   asked_fits Looper q verb (a ∷ []) h = entry_has AskedFits _ _ verb (h.0, tt) tt
   asked_fits Looper q verb (a ∷ b ∷ cs) h = tt
-  asked_fits Sender q verb [] h = tt
-  asked_fits Sender q verb (a ∷ []) h = tt
-  asked_fits Sender q verb (a ∷ b ∷ []) h = tt
   asked_fits Sender q verb (a ∷ b ∷ c ∷ []) h = let all : ValueFits L a × ValueFits L b × ValueFits L c = (h.0, h.1.0, h.1.1.0) in entry_has AskedFits _ _ verb (all, (all, (all, tt))) tt
-  asked_fits Sender q verb (a ∷ b ∷ c ∷ d ∷ ds) h = tt
   asked_fits References q verb [] h = entry_has AskedFits _ _ verb (tt, tt) tt
   asked_fits References q verb (a ∷ []) h = let x : ValueFits L a = h.0 in entry_has AskedFits _ _ verb (x, (x, (x, (x, (x, (x, (x, tt))))))) tt
   asked_fits References q verb (a ∷ b ∷ []) h = let x : ValueFits L a × ValueFits L b = (h.0, h.1.0) in entry_has AskedFits _ _ verb (x, tt) tt
   asked_fits References q verb (a ∷ b ∷ c ∷ cs) h = tt
-  asked_fits Thrower q verb [] h = tt
   asked_fits Thrower q verb (a ∷ []) h = entry_has AskedFits _ _ verb (h.0, tt) tt
   asked_fits Thrower q verb (a ∷ b ∷ cs) h = tt
-  asked_fits StampReader q verb [] h = tt
-  asked_fits StampReader q verb (a ∷ []) h = tt
   asked_fits StampReader q verb (a ∷ b ∷ []) h = entry_has AskedFits _ _ verb (tt, tt) tt
   asked_fits StampReader q verb (a ∷ b ∷ c ∷ cs) h = tt
   asked_fits (Guarding g) q verb args h = guard_fits g q verb args h
   asked_fits (Judging r) q verb args h = tt
   asked_fits NoPrimitive q verb args h = tt
+  asked_fits other q verb [] h = tt
+  asked_fits other q verb (a ∷ []) h = tt
+  asked_fits Sender q verb other h = tt

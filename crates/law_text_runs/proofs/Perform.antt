@@ -42,15 +42,8 @@ module _ (L : Limits) (word : ℕ → ℕ) (v : ℕ) (inside : v < L.many) (tree
   unfolding perform.taken
   taken_fits s AnyGuard x y i j = i
   taken_fits s VoidGuard x y i j = tt
-  taken_fits s IntGuard x y i j = where_taken _ y j
-  taken_fits s BooleanGuard x y i j = where_taken _ y j
-  taken_fits s CharGuard x y i j = where_taken _ y j
-  taken_fits s TextGuard x y i j = where_taken _ y j
-  taken_fits s ListGuard x y i j = where_taken _ y j
-  taken_fits s NullGuard x y i j = where_taken _ y j
-  taken_fits s NearGuard x y i j = where_taken _ y j
-  taken_fits s FrozenGuard x y i j = where_taken _ y j
   taken_fits s (OrNull g) x y i j = by_null (scopes.is_null y) (perform.taken K tree s g x y) (taken_fits s g x y i j)
+  taken_fits s other x y i j = where_taken _ y j
 
   pub fine_failed : {C A : Type 0} {G : A → Type 0} (again : Caller Name) → GoodCaller L again → (act : ℕ) (j : Value Name) (p : Words) → (C → IsLow L act) → (C → ValueFits L j) → (C → TextFits p) → Fine L C (perform.failed K tree {A = A} again act j p) G
   unfolding perform.failed perform.fail_by
@@ -173,27 +166,21 @@ module _ (L : Limits) (word : ℕ → ℕ) (v : ℕ) (inside : v < L.many) (tree
   problem_fits : (p : Place Name) → PlaceFits L p → ValueFits L (perform.problem_of K tree p)
   unfolding perform.problem_of
   problem_fits (Gone t) f = f
-  problem_fits Near f = tt
-  problem_fits (Mine n) f = tt
-  problem_fits (Away h n o) f = tt
+  problem_fits other f = tt
 
   fulfilled_fits : (x : Value Name) (p : Place Name) → ValueFits L x → PlaceFits L p → ReplyFits L (perform.fulfilled K tree x p)
   unfolding perform.fulfilled
-  fulfilled_fits x Near f g = f
-  fulfilled_fits x (Away h n true) f g = f
   fulfilled_fits x (Away h n false) f g = plain _ refl
   fulfilled_fits x (Gone t) f g = g
   fulfilled_fits x (Mine n) f g = plain _ refl
+  fulfilled_fits x other f g = f
 
   test_fits : (t : RefTest) (x : Value Name) (p : Place Name) → ValueFits L x → PlaceFits L p → ReplyFits L (perform.test_reply K tree t x p)
   unfolding perform.test_reply
-  test_fits IsNear x p f g = tt
-  test_fits IsFar x p f g = tt
-  test_fits IsResolved x p f g = tt
-  test_fits IsBroken x p f g = tt
   test_fits OptProblem x p f g = problem_fits p g
   test_fits Fulfillment x p f g = fulfilled_fits x p f g
   test_fits NoTest x p f g = plain _ refl
+  test_fits other x p f g = tt
 
   same_fits : (s : Vat Name) (x y : Value Name) → ReplyFits L (perform.same_reply K tree s x y)
   unfolding perform.same_reply
@@ -205,9 +192,7 @@ module _ (L : Limits) (word : ℕ → ℕ) (v : ℕ) (inside : v < L.many) (tree
     where
       near : (y : Value Name) (p : Place Name) → Fine L ((C × ValueFits L y) × Unit {0}) (perform.react_near K tree act x o y p) (ValueFits L)
       near y Near = fine_react L word v inside act x o y (λ c. a c.0.0) (λ c. f c.0.0) (λ c. g c.0.0) (λ c. c.0.1)
-      near y (Mine n) = fine_throw L _ (λ c. plain _ refl)
-      near y (Away h n b) = fine_throw L _ (λ c. plain _ refl)
-      near y (Gone t) = fine_throw L _ (λ c. plain _ refl)
+      near y other = fine_throw L _ (λ c. plain _ refl)
 
   after_turn : {C : Type 0} (more : Act Name (Value Name)) (y : Value Name) → Fine L C more (ValueFits L) → Fine L C (perform.after_turn K tree more y) (ValueFits L)
   unfolding perform.after_turn

@@ -43,11 +43,7 @@ module _ (L : Limits) where
   pub answer_fits : (h : ℕ) (n : Name) → IsVat L h → NameFits L n → NameFits L (answer_of h n)
   unfolding answer_of
   answer_fits h (Sent m) i f = (i, f)
-  answer_fits h (Root w) i f = f
-  answer_fits h (Object w j) i f = f
-  answer_fits h (Promise w j) i f = f
-  answer_fits h (Answer w m) i f = f
-  answer_fits h (Gift w j) i f = f
+  answer_fits h other i f = f
 
   -- ---- changes of what is known
 
@@ -59,18 +55,15 @@ module _ (L : Limits) where
   unfolding changed_to
   to_fits (Hold m) k g h = (h.0, h.1, h.2, all_end (MessageFits L) k.held m h.3 g, h.4, h.5, h.6)
   to_fits (Wait q) k g h = (h.0, h.1, h.2, h.3, all_end (NameFits L) k.waiting q h.4 g, h.5, h.6)
-  to_fits (WaitOn q) k g h = (h.0, h.1, g, h.3, h.4, h.5, h.6)
-  to_fits (See q) k g h = (h.0, h.1, g, h.3, h.4, h.5, h.6)
   to_fits (React m) k g h = (h.0, h.1, h.2, h.3, h.4, all_end (MessageFits L) k.reactions m h.5 g, h.6)
   to_fits (ToTell w) k g h = (h.0, h.1, h.2, h.3, h.4, h.5, told_fits w k.told g h.6)
   to_fits (Settle y) k g h = (h.0, h.1, g, tt, tt, tt, tt)
+  to_fits other k g h = (h.0, h.1, g, h.3, h.4, h.5, h.6)
 
   unless_fits : (x : Standing Name) (k new : Known Name) → KnownFits L k → KnownFits L new → KnownFits L (unless_settled x k new)
   unfolding unless_settled
   unless_fits (Settled y) k new h i = h
-  unless_fits Unsettled k new h i = i
-  unless_fits (WaitsOn q) k new h i = i
-  unless_fits (Viewed q) k new h i = i
+  unless_fits other k new h i = i
 
   changed_fits : (c : Change Name) (k : Known Name) → ChangeFits c → KnownFits L k → KnownFits L (changed c k)
   unfolding changed
@@ -172,21 +165,13 @@ module _ (L : Limits) where
     unfolding refs.led
     led_fits on n (Settled y) f g h = f y h
     led_fits on n (Viewed q) f g h = f (Ref q) h
-    led_fits on n (WaitsOn q) f g h = g
-    led_fits on n Unsettled f g h = g
+    led_fits on n other f g h = g
 
     follow_at_fits : (d : ℕ) (ks : List (Known Name)) (x : Value Name) → AllOf (KnownFits L) ks → ValueFits L x → ValueFits L (refs.follow_at K d ks x)
     unfolding refs.follow_at refs.standing_of
     follow_at_fits zero ks x h f = f
     follow_at_fits (suc d) ks (Ref n) h f = led_fits (λ y. refs.follow_at K d ks y) n (refs.standing_in (refs.entry_of K ks n)) (λ y g. follow_at_fits d ks y h g) f (standing_fits (refs.entry_of K ks n) (entry_fits ks n h))
-    follow_at_fits (suc d) ks Null h f = f
-    follow_at_fits (suc d) ks (Flag b) h f = f
-    follow_at_fits (suc d) ks (Number z) h f = f
-    follow_at_fits (suc d) ks (Letter c) h f = f
-    follow_at_fits (suc d) ks (Text t) h f = f
-    follow_at_fits (suc d) ks (Prim p) h f = f
-    follow_at_fits (suc d) ks (Broken p) h f = f
-    follow_at_fits (suc d) ks (Items k) h f = f
+    follow_at_fits (suc d) ks other h f = f
 
     severed_by_fits : (w : ℕ) (s : Vat Name) (n : Name) → NameFits L n → ValueFits L (refs.severed_by K w s n)
     unfolding refs.severed_by
@@ -201,14 +186,7 @@ module _ (L : Limits) where
     severed_fits : (s : Vat Name) (y : Value Name) → ValueFits L y → ValueFits L (refs.severed K s y)
     unfolding refs.severed
     severed_fits s (Ref n) f = severed_at_fits s n (K.spot n) f
-    severed_fits s Null f = f
-    severed_fits s (Flag b) f = f
-    severed_fits s (Number z) f = f
-    severed_fits s (Letter c) f = f
-    severed_fits s (Text t) f = f
-    severed_fits s (Prim p) f = f
-    severed_fits s (Broken p) f = f
-    severed_fits s (Items k) f = f
+    severed_fits s other f = f
 
     pub follow_fits : (s : Vat Name) (x : Value Name) → VatFits L s → ValueFits L x → ValueFits L (refs.follow K s x)
     unfolding refs.follow
@@ -241,13 +219,7 @@ module _ (L : Limits) where
     unfolding refs.place naming
     place_fits s (Ref n) h f = spot_fits s n h f
     place_fits s (Broken p) h f = f
-    place_fits s Null h f = tt
-    place_fits s (Flag b) h f = tt
-    place_fits s (Number z) h f = tt
-    place_fits s (Letter c) h f = tt
-    place_fits s (Text t) h f = tt
-    place_fits s (Prim p) h f = tt
-    place_fits s (Items k) h f = tt
+    place_fits s other h f = tt
 
     -- ---- looks
 
@@ -271,14 +243,7 @@ module _ (L : Limits) where
     shape_by_fits : (d : ℕ) (members : List (Value Name) → Passed Name) (ls : List (List (Value Name))) (y : Value Name) → ((vs : List (Value Name)) → ValuesFit L vs → PassedFits L d (members vs)) → AllOf (ValuesFit L) ls → ValueFits L y → PassedFits L d (refs.shape_by K members ls y)
     unfolding refs.shape_by
     shape_by_fits d members ls (Items k) m h f = m (list_at ls k) (list_at_fits L ls k h)
-    shape_by_fits d members ls Null m h f = (f, tt)
-    shape_by_fits d members ls (Flag b) m h f = (f, tt)
-    shape_by_fits d members ls (Number z) m h f = (f, tt)
-    shape_by_fits d members ls (Letter c) m h f = (f, tt)
-    shape_by_fits d members ls (Text t) m h f = (f, tt)
-    shape_by_fits d members ls (Prim p) m h f = (f, tt)
-    shape_by_fits d members ls (Broken p) m h f = (f, tt)
-    shape_by_fits d members ls (Ref n) m h f = (f, tt)
+    shape_by_fits d members ls other m h f = (f, tt)
 
     shapes_fit : (d : ℕ) (f : Value Name → Passed Name) → ((x : Value Name) → ValueFits L x → PassedFits L d (f x)) → (vs : List (Value Name)) → ValuesFit L vs → PassedsFit L (suc d) (refs.shapes K f vs)
     unfolding refs.shapes
@@ -298,14 +263,7 @@ module _ (L : Limits) where
     parcel_at_fits : (s : Vat Name) (y : Value Name) → VatFits L s → ValueFits L y → PassedFits L 100 (refs.parcel_at K s y).value
     unfolding refs.parcel_at
     parcel_at_fits s (Items k) h f = parcel_of_fits s (Items k) _ h f
-    parcel_at_fits s Null h f = (f, tt)
-    parcel_at_fits s (Flag b) h f = (f, tt)
-    parcel_at_fits s (Number z) h f = (f, tt)
-    parcel_at_fits s (Letter c) h f = (f, tt)
-    parcel_at_fits s (Text t) h f = (f, tt)
-    parcel_at_fits s (Prim p) h f = (f, tt)
-    parcel_at_fits s (Broken p) h f = (f, tt)
-    parcel_at_fits s (Ref n) h f = (f, tt)
+    parcel_at_fits s other h f = (f, tt)
 
     look_parcel : {C : Type 0} (x : Value Name) → (C → ValueFits L x) → Fine L C (look (λ s. refs.parcel K s x)) (λ y. PassedFits L 100 y.value)
     unfolding refs.parcel
@@ -316,8 +274,7 @@ module _ (L : Limits) where
     address_plain d w y (Away u n o) i g p = fine_if L (u == w) (fine_give L (Plain y) g)
         (fine_bind L (nothing L) fine_draw (λ j. fine_then L (fine_out L u (Open j n) (λ c. (p c.0).1)) (fine_give L (AGift u j) (λ c. (p c.0).0))))
     address_plain d w y (Mine n) i g p = fine_then L (fine_alter (ToTell w) n i) (fine_give L (Plain y) g)
-    address_plain d w y Near i g p = fine_give L (Plain y) g
-    address_plain d w y (Gone t) i g p = fine_give L (Plain y) g
+    address_plain d w y other i g p = fine_give L (Plain y) g
 
     mutual
       unfolding refs.address refs.address_all
@@ -386,10 +343,7 @@ module _ (L : Limits) where
       where
         inform_of : {C : Type 0} (p : Name) (w : ℕ) (y : Value Name) (q : Place Name) → (C → NameFits L p) → (C → IsVat L w) → (C → ValueFits L y) → (C → PlaceFits q) → Fine L C (refs.inform_of K p w y q) (nothing L)
         inform_of p w y (Away h n true) g i f k = fine_out L w (Elsewhere p h) (λ c. (g c, (k c).0))
-        inform_of p w y (Away h n false) g i f k = fine_bind L (PassedFits L 100) (fine_pass w y i f) (λ z. fine_out L w (SettledTo p z) (λ c. (g c.0, c.1)))
-        inform_of p w y Near g i f k = fine_bind L (PassedFits L 100) (fine_pass w y i f) (λ z. fine_out L w (SettledTo p z) (λ c. (g c.0, c.1)))
-        inform_of p w y (Mine n) g i f k = fine_bind L (PassedFits L 100) (fine_pass w y i f) (λ z. fine_out L w (SettledTo p z) (λ c. (g c.0, c.1)))
-        inform_of p w y (Gone t) g i f k = fine_bind L (PassedFits L 100) (fine_pass w y i f) (λ z. fine_out L w (SettledTo p z) (λ c. (g c.0, c.1)))
+        inform_of p w y other g i f k = fine_bind L (PassedFits L 100) (fine_pass w y i f) (λ z. fine_out L w (SettledTo p z) (λ c. (g c.0, c.1)))
 
     cut_fits : (b : Bool) (y : Value Name) → ValueFits L y → ValueFits L (refs.cut_cycle K b y)
     unfolding refs.cut_cycle
@@ -399,14 +353,7 @@ module _ (L : Limits) where
     target_fits : (s : Vat Name) (p : Name) (y : Value Name) → ValueFits L y → ValueFits L (refs.target_of K s p y)
     unfolding refs.target_of
     target_fits s p (Items k) f = cut_fits _ (Items k) f
-    target_fits s p Null f = f
-    target_fits s p (Flag b) f = f
-    target_fits s p (Number z) f = f
-    target_fits s p (Letter c) f = f
-    target_fits s p (Text t) f = f
-    target_fits s p (Prim q) f = f
-    target_fits s p (Broken q) f = f
-    target_fits s p (Ref n) f = f
+    target_fits s p other f = f
 
     settle_known : (settle : refs.Settler K) → GoodSettler settle → {C : Type 0} (p : Name) (y : Value Name) (k : Known Name) → (C → NameFits L p) → (C → ValueFits L y) → (C → KnownFits L k) → Fine L C (refs.settle_known K settle p y k) (nothing L)
     unfolding refs.settle_known each
@@ -460,18 +407,14 @@ module _ (L : Limits) where
         to : {C : Type 0} (p : Name) (y : Value Name) (q : Place Name) → (C → NameFits L p) → (C → ValueFits L y) → (C → PlaceFits q) → Fine L C (refs.resolve_to K p y q) (nothing L)
         to p y (Mine q) g f k = wait_unless p q g k
         to p y (Away h q false) g f k = wait_unless p q g (λ c. (k c).1)
-        to p y (Away h q true) g f k = fine_settle _ p y g f
-        to p y Near g f k = fine_settle _ p y g f
-        to p y (Gone t) g f k = fine_settle _ p y g f
+        to p y other g f k = fine_settle _ p y g f
 
     -- ---- sending and reacting
 
     answer_host_fits : (u : ℕ) (p : Place Name) → IsVat L u → PlaceFits p → IsVat L (refs.answer_host K u p)
     unfolding refs.answer_host
     answer_host_fits u (Away h n o) i f = f.0
-    answer_host_fits u Near i f = i
-    answer_host_fits u (Mine n) i f = i
-    answer_host_fits u (Gone t) i f = i
+    answer_host_fits u other i f = i
 
     send_first : {C : Type 0} (m : Message Name) (y : Value Name) (p : Place Name) → (C → MessageFits L m) → (C → ValueFits L y) → (C → PlaceFits p) → Fine L C (refs.send_first K m y p) (nothing L)
     unfolding refs.send_first
@@ -500,9 +443,7 @@ module _ (L : Limits) where
     unfolding refs.react_at
     react_at m (Mine n) g = fine_alter (React m) n g
     react_at m (Away h n false) g = fine_alter (React m) n g
-    react_at m (Away h n true) g = fine_enqueue L m g
-    react_at m Near g = fine_enqueue L m g
-    react_at m (Gone t) g = fine_enqueue L m g
+    react_at m other g = fine_enqueue L m g
 
     pub fine_react : {C : Type 0} (act : ℕ) (x o near : Value Name) → (C → IsLow L act) → (C → ValueFits L x) → (C → ValueFits L o) → (C → ValueFits L near) → Fine L C (refs.react K act x o near) (ValueFits L)
     unfolding refs.react refs.reaction

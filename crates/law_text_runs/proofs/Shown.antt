@@ -48,12 +48,9 @@ module _ (vats : List (List ℕ)) (d : List ℕ) (few : length d < 2 ^ 64) where
 
   pub name_fits : (n : Name) → NameFits L n → IsNameOf vats (shown_name d n)
   unfolding shown_name shown_gift msg_of
-  name_fits (Root v) f = f
-  name_fits (Object v i) f = f
-  name_fits (Promise v i) f = f
-  name_fits (Answer h m) f = f
   name_fits (Gift h i) f = (f, low_place (word_of i))
   name_fits (Sent m) f = (f.0, f)
+  name_fits other f = f
 
   pub gift_fits : (h i : ℕ) → IsVat L h → IsNameOf vats (shown_gift d h i)
   unfolding shown_gift
@@ -61,11 +58,8 @@ module _ (vats : List (List ℕ)) (d : List ℕ) (few : length d < 2 ^ 64) where
 
   pub some_vat : (n : Name) → NameFits L n → 0 < length vats
   some_vat (Root v) f = omega (arith, f)
-  some_vat (Object v i) f = let g = f.0 in omega (arith, g)
-  some_vat (Promise v i) f = let g = f.0 in omega (arith, g)
-  some_vat (Answer h m) f = let g = f.0 in omega (arith, g)
   some_vat (Gift h i) f = omega (arith, f)
-  some_vat (Sent m) f = let g = f.0 in omega (arith, g)
+  some_vat other f = let g = f.0 in omega (arith, g)
 
   pub msg_fits : (n : Name) → NameFits L n → IsMessageOf vats (shown_msg d n)
   unfolding shown_msg msg_of
@@ -78,15 +72,10 @@ module _ (vats : List (List ℕ)) (d : List ℕ) (few : length d < 2 ^ 64) where
 
   value_fits : (v : ℕ) (y : Value Name) → IsVat L v → ValueFits L y → IsValueOf vats (shown_value d v y)
   unfolding shown_value
-  value_fits v Null i f = tt
-  value_fits v (Flag b) i f = tt
   value_fits v (Number z) i f = wide z f
-  value_fits v (Letter c) i f = tt
-  value_fits v (Text t) i f = tt
-  value_fits v (Prim n) i f = tt
-  value_fits v (Broken p) i f = tt
   value_fits v (Items k) i f = (i, f)
   value_fits v (Ref n) i f = name_fits n f
+  value_fits v other i f = tt
 
   values_fit : (v : ℕ) (ys : List (Value Name)) → IsVat L v → ValuesFit L ys → AllOf (IsValueOf vats) (shown_values d v ys)
   unfolding shown_values
@@ -139,7 +128,6 @@ module _ (vats : List (List ℕ)) (d : List ℕ) (few : length d < 2 ^ 64) where
   happened_fits v (Took a m) i f = ((f.1.2.0, (f.0, (tt, (msg_fits m.id f.1.0, (value_fits v m.target i f.1.1, (f.1.2.0, tt))))), values_fit v m.args i f.1.3), tt)
   happened_fits v (Called a x verb args b) i f = ((f.2.0, (f.0, (tt, (value_fits v x i f.1, (f.2.0, tt)))), (values_fit v args i f.3, f.4)), tt)
   happened_fits v (Back a x) i f = ((tt, (f.0, (tt, (value_fits v x i f.1, tt))), tt), tt)
-  happened_fits v (Thrown a p) i f = ((tt, (f.0, (tt, (tt, tt))), tt), tt)
   happened_fits v (Left a) i f = ((tt, (f, (tt, tt)), tt), tt)
   happened_fits v (Got a x) i f = ((tt, (f.0, (tt, (value_fits v x i f.1, tt))), tt), tt)
   happened_fits v (SlotMade a k x) i f = ((tt, (f.0, (tt, ((i, f.1), (value_fits v x i f.2, tt)))), tt), tt)
@@ -154,12 +142,12 @@ module _ (vats : List (List ℕ)) (d : List ℕ) (few : length d < 2 ^ 64) where
   happened_fits v (Sends a m) i f = (send_fits v a m i f.0 m.answer f.1, tt)
   happened_fits v (Reacts a x o m) i f = reaction_fits v a x o m i f.0 f.1 f.2 f.3.0 m.answer f.3.4
   happened_fits v (Finished a x) i f = ((tt, (f.0, (tt, (value_fits v x i f.1, tt))), tt), tt)
-  happened_fits v (Threw a p) i f = ((tt, (f.0, (tt, (tt, tt))), tt), tt)
   happened_fits v (Settles n x) i f = ((tt, (tt, (name_fits n f.0, (value_fits v x i f.1, tt))), tt), tt)
   happened_fits v (Waits p q) i f = ((tt, (tt, (name_fits p f.0, (name_fits q f.1, tt))), tt), tt)
   happened_fits v (Views p q) i f = ((tt, (tt, (name_fits p f.0, (name_fits q f.1, tt))), tt), tt)
   happened_fits v (Lost m) i f = ((tt, (tt, (msg_fits m f, (tt, tt))), tt), tt)
   happened_fits v (Posted u m) i f = tt
+  happened_fits v other i f = ((tt, (f.0, (tt, (tt, tt))), tt), tt)
 
   -- ---- notes, behind the words before them
 
@@ -195,8 +183,6 @@ module _ (vats : List (List ℕ)) (d : List ℕ) (few : length d < 2 ^ 64) where
   event_fits (Carried k v u n bytes) f =
       let note = note_fits (Entry k ∷ Word (codes "carry") ∷ Vat v ∷ Vat u ∷ []) u n (f.0, (tt, (f.1, (f.2, tt)))) f.2 f.3 in
       ((note.0, note.1, note.2), ((tt, (tt, (tt, tt)), tt), tt))
-  event_fits (CutAt k v u) f = ((tt, (f.0, (tt, (f.1, (f.2, tt)))), tt), tt)
-  event_fits (NoticedAt k v u) f = ((tt, (f.0, (tt, (f.1, (f.2, tt)))), tt), tt)
   event_fits (Here v e) f = happened_fits v e f.0 f.1
   event_fits (LostCut m) f = ((tt, (tt, (msg_fits m f, (tt, tt))), tt), tt)
   event_fits (LeftQueue v m) f = ((tt, (tt, (tt, (f.0, (msg_fits m f.1, tt)))), tt), tt)
@@ -204,6 +190,7 @@ module _ (vats : List (List ℕ)) (d : List ℕ) (few : length d < 2 ^ 64) where
   event_fits (LeftWait v n m) f = ((tt, (tt, (tt, (f.0, (name_fits n f.1, (msg_fits m f.2, tt))))), tt), tt)
   event_fits (LeftLink v u n) f = let note = note_fits (Word (codes "left") ∷ Word (codes "link") ∷ Vat v ∷ Vat u ∷ []) u n (tt, (tt, (f.0, (f.1, tt)))) f.1 f.2 in ((note.0, note.1, note.2), tt)
   event_fits Ends f = ((tt, (tt, tt), tt), tt)
+  event_fits other f = ((tt, (f.0, (tt, (f.1, (f.2, tt)))), tt), tt)
 
   pub events_fit : (es : List Event) → AllOf (EventFits L) es → AllOf (IsEventOf vats) (shown_events d es)
   unfolding shown_events

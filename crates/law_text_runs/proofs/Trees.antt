@@ -45,24 +45,11 @@ NodeSpelled (Call r verb args) = IsUtf8 verb
 NodeSpelled (Method verb ps b) = IsUtf8 verb
 NodeSpelled (Final x g) = IsUtf8 x × IsObjectName x
 NodeSpelled (Var x g) = IsUtf8 x
-NodeSpelled (Def p j e) = Unit {0}
-NodeSpelled (Sequence es) = Unit {0}
-NodeSpelled (If t a b) = Unit {0}
-NodeSpelled (Escape p b c) = Unit {0}
-NodeSpelled (Try b p h) = Unit {0}
-NodeSpelled (Finally a b) = Unit {0}
-NodeSpelled (Hide e) = Unit {0}
-NodeSpelled (MatchBind e p) = Unit {0}
-NodeSpelled (Object p auditors members) = Unit {0}
-NodeSpelled (Matcher p b) = Unit {0}
-NodeSpelled (Any g) = Unit {0}
-NodeSpelled (ListPattern ps) = Unit {0}
-NodeSpelled (Via e p) = Unit {0}
+NodeSpelled other = Unit {0}
 
 literal_fits : (l : Literal) → IsLiteral l → IsShortLiteral l → LiteralFits l
-literal_fits (Int z) h k = h
-literal_fits (Char c) h k = h
 literal_fits (Text t) h k = (h, k)
+literal_fits other h k = h
 
 -- and it fits where its texts are short
 node_fits : (n : Node) → NodeSpelled n → IsShort n → NodeFits n

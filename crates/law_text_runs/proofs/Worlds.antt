@@ -144,9 +144,7 @@ module _ (L : Limits) where
           history = all_append (EventFits L) (w.history ++ head) _ (all_append (EventFits L) w.history head fits.history (heads c)) (events_fit w.links v t.happened (there v w s at fits.count) done.happened);
         },
   )
-  put_fits v w head n s at base (Throws p t) g ends heads = same_follows w base
-  put_fits v w head n s at base (Ejects k y t) g ends heads = same_follows w base
-  put_fits v w head n s at base (Stops c t) g ends heads = same_follows w base
+  put_fits v w head n s at base other g ends heads = same_follows w base
 
   ready_fits : (w : World) (s : Vat Name) (ms : List (Message Name)) → VatFits L s → AllOf (MessageFits L) ms → VatFits L (world.readied w (record s { queue = ms }))
   unfolding world.readied
@@ -158,9 +156,7 @@ module _ (L : Limits) where
 
   from_ready : {A : Type 0} (s r : Vat Name) → size r ≡ size s → (d : Done Name A) → After Grows r d → After (λ a b. size s ≤ size b) s d
   from_ready s r e (Gives a t) g = omega (arith, e, g)
-  from_ready s r e (Throws p t) g = omega (arith, e, g)
-  from_ready s r e (Ejects k y t) g = omega (arith, e, g)
-  from_ready s r e (Stops c t) g = omega (arith, e, g)
+  from_ready s r e other g = omega (arith, e, g)
 
   -- a step of the vat that is there, which has that queue
   within_fits : {C : Type 0} (v : ℕ) (w : World) (head : List Event) (n : ℕ) (m : Act Name (Unit {0})) (s : Vat Name) (ms : List (Message Name)) → slice_get w.vats v ≡ Some s → (C → WorldFits L w) → (C → AllOf (MessageFits L) ms) → Fine L C m (nothing L) → (C → AllOf (EventFits L) head)

@@ -35,9 +35,7 @@ use Rattle.law_told_once.proofs.Settling as settling
 unbind : {A B : Type 0} (d : Done Name A) (f : A → Act Name B) (b : B) (t : Vat Name) → and_then d f ≡ Gives b t → (a : A) × (r : Vat Name) × (d ≡ Gives a r) × (f a r ≡ Gives b t)
 unfolding and_then
 unbind (Gives a r) f b t e = (a, r, refl, e)
-unbind (Throws x r) f b t e = cc
-unbind (Ejects i y r) f b t e = cc
-unbind (Stops c r) f b t e = cc
+unbind other f b t e = cc
 
 pub given_by : {A : Type 0} (R : Vat Name → Vat Name → Type 0) (s t : Vat Name) (a : A) (d : Done Name A) → d ≡ Gives a t → After R s d → R s t
 given_by R s t a d e h = subst (After R s) e h
@@ -74,10 +72,7 @@ module _ (word : ℕ → ℕ) (h v : ℕ) where
   shorten_keeps : (i : ℕ) (q : Place Name) → Keeps Tells (arrive.shorten_to K i q)
   unfolding arrive.shorten_to with_news
   shorten_keeps i (Away c n true) = settling.lifted K v (telling.still_out K v c (Open i n) refl)
-  shorten_keeps i (Away c n false) = keeps_give Tells (settling.base K v) tt
-  shorten_keeps i (Mine n) = keeps_give Tells (settling.base K v) tt
-  shorten_keeps i Near = keeps_give Tells (settling.base K v) tt
-  shorten_keeps i (Gone x) = keeps_give Tells (settling.base K v) tt
+  shorten_keeps i other = keeps_give Tells (settling.base K v) tt
 
   pub arriving_shorten : (z : Incoming Name Name) (i : ℕ) → Keeps Tells (arrive.arrive_shorten K z i)
   unfolding arrive.arrive_shorten
@@ -134,9 +129,7 @@ module _ (word : ℕ → ℕ) (h v : ℕ) where
     said : (n : Name) (from : ℕ) (s : Vat Name) (x : Standing Name) → standing_of K s.known n ≡ x → After (Said n from) s (arrive.tell_asker K n from x s)
     unfolding arrive.tell_asker
     said n from s (Settled y) e = from_after (telling.Adds K v n (from ∷ [])) (Said n from) s s (refs.inform K n from s) (λ t g. inr ((y, e), g)) (telling.informs K v n from s)
-    said n from s Unsettled e = still_said n from s
-    said n from s (WaitsOn q) e = still_said n from s
-    said n from s (Viewed q) e = still_said n from s
+    said n from s other e = still_said n from s
 
     -- the gift, as the asker is told of it
     abbrev Answers : ℕ → Name → Type 0

@@ -51,10 +51,7 @@ front_or z (SettledTo n y) ns (inl e) = inl (inl e)
 front_or z (SettledTo n y) ns (inr a) = inr a
 front_or z (Elsewhere n c) ns (inl e) = inl (inl e)
 front_or z (Elsewhere n c) ns (inr a) = inr a
-front_or z (Deliver d n verb ys) ns a = inr a
-front_or z (Open i n) ns a = inr a
-front_or z (Ask p i n) ns a = inr a
-front_or z (Shorten n c i) ns a = inr a
+front_or z other ns a = inr a
 
 front_in : (z : Name) (n : Note Name) (ns : List Name) → IsAmong z (with_news n []) → IsAmong z (with_news n ns)
 unfolding with_news
@@ -62,19 +59,13 @@ front_in z (SettledTo n y) ns (inl e) = inl e
 front_in z (SettledTo n y) ns (inr a) = absurd a
 front_in z (Elsewhere n c) ns (inl e) = inl e
 front_in z (Elsewhere n c) ns (inr a) = absurd a
-front_in z (Deliver d n verb ys) ns a = absurd a
-front_in z (Open i n) ns a = absurd a
-front_in z (Ask p i n) ns a = absurd a
-front_in z (Shorten n c i) ns a = absurd a
+front_in z other ns a = absurd a
 
 rest_in : (z : Name) (n : Note Name) (ns : List Name) → IsAmong z ns → IsAmong z (with_news n ns)
 unfolding with_news
 rest_in z (SettledTo n y) ns a = inr a
 rest_in z (Elsewhere n c) ns a = inr a
-rest_in z (Deliver d n verb ys) ns a = a
-rest_in z (Open i n) ns a = a
-rest_in z (Ask p i n) ns a = a
-rest_in z (Shorten n c i) ns a = a
+rest_in z other ns a = a
 
 -- which of these notes it is
 news_of : (z : Name) (ns : List (Note Name)) → IsAmong z (news_in ns) → (n : Note Name) × IsAmong n ns × IsAmong z (with_news n [])
@@ -198,10 +189,9 @@ module _ (script : Script) where
     unfolding read_note with_news
     note_may (Deliver d z verb ys) e ok b = ok.0
     note_may (Open i z) e ok b = own_gift y v i
-    note_may (Ask p i z) e ok b = tt
     note_may (SettledTo z c) e ok b = told_may z b (subst (λ (m : Note Name). IsAmong z (with_news m [])) e (inl refl))
     note_may (Elsewhere z c) e ok b = told_may z b (subst (λ (m : Note Name). IsAmong z (with_news m [])) e (inl refl))
-    note_may (Shorten z c i) e ok b = tt
+    note_may other e ok b = tt
 
     arrived_well : Does script x v s s t (Receives a (read_note (names_of s) n)) → AllWell x → Kept word v (May y v) t
     unfolding naming world.names
@@ -277,10 +267,7 @@ module _ (script : Script) where
           go (SettledTo z y) i (inr j) = absurd j
           go (Elsewhere z y) i (inl e) = ap host_of e ∙ i
           go (Elsewhere z y) i (inr j) = absurd j
-          go (Deliver d z verb ys) i j = absurd j
-          go (Open k z) i j = absurd j
-          go (Ask p k z) i j = absurd j
-          go (Shorten z c k) i j = absurd j
+          go other i j = absurd j
 
       behind : (m : Note Name) → IsAmong m l.notes → IsAmong m l.log
       behind m b = subst (IsAmong m) (sym split.1) (right split.0)

@@ -150,29 +150,17 @@ module _ (script : Script) where
   -- all but the gifts of v for which no note that opens them has arrived
   abbrev May : List Link → ℕ → Name → Type 0
   May ls v (Gift h i) = h ≡ v → 1 + way_all i ls ≤ put_all i ls
-  May ls v (Root u) = Unit {0}
-  May ls v (Object u i) = Unit {0}
-  May ls v (Promise u i) = Unit {0}
-  May ls v (Answer u m) = Unit {0}
-  May ls v (Sent m) = Unit {0}
+  May ls v other = Unit {0}
 
   -- a name of another vat may
   far_may : (ls : List Link) (v : ℕ) (n : Name) → (host_of n ≡ v → ⊥) → May ls v n
   unfolding host_of
   far_may ls v (Gift h i) f = λ e. absurd (f e)
-  far_may ls v (Root u) f = tt
-  far_may ls v (Object u i) f = tt
-  far_may ls v (Promise u i) f = tt
-  far_may ls v (Answer u m) f = tt
-  far_may ls v (Sent m) f = tt
+  far_may ls v other f = tt
 
   later : (ls ks : List Link) → Gap ls ks → (v : ℕ) (n : Name) → May ls v n → May ks v n
   later ls ks g v (Gift h i) m = λ e. let a = m e in let b = g i in omega arith
-  later ls ks g v (Root u) m = tt
-  later ls ks g v (Object u i) m = tt
-  later ls ks g v (Promise u i) m = tt
-  later ls ks g v (Answer u j) m = tt
-  later ls ks g v (Sent j) m = tt
+  later ls ks g v other m = tt
 
   record Holds (w : World) : Type 0 where
     most : (i : ℕ) → way_all i w.links ≤ put_all i w.links
@@ -227,10 +215,9 @@ module _ (script : Script) where
     unfolding read_note
     note_may ks most gap (Deliver d z verb ys) e ok b = ok.0
     note_may ks most gap (Open i z) e ok b = opened_may ks i z e most gap
-    note_may ks most gap (Ask p i z) e ok b = tt
     note_may ks most gap (SettledTo z c) e ok b = told_may ks z b
     note_may ks most gap (Elsewhere z c) e ok b = told_may ks z b
-    note_may ks most gap (Shorten z c i) e ok b = tt
+    note_may ks most gap other e ok b = tt
 
   taken_gap : (a v : ℕ) (ls : List Link) (l : Link) (n : Note Name) (ns : List (Note Name)) → link_at a v ls ≡ Some l → l.notes ≡ n ∷ ns → Gap ls (with_link (with_notes ns) a v ls)
   taken_gap a v ls l n ns at notes i = let way = taken_way a v ls l n ns at notes i in let put = taken_put a v i ls ns in omega arith

@@ -17,11 +17,7 @@ use Rattle.law_told_once.specs.Told.{with_news, news_in}
 news_front : (n : Note Name) (xs ys : List Name) → with_news n (xs ++ ys) ≡ with_news n xs ++ ys
 unfolding with_news
 news_front (SettledTo n y) xs ys = refl
-news_front (Elsewhere n c) xs ys = refl
-news_front (Deliver d n verb zs) xs ys = refl
-news_front (Open i n) xs ys = refl
-news_front (Ask p i n) xs ys = refl
-news_front (Shorten n c i) xs ys = refl
+news_front other xs ys = refl
 
 pub news_twice : (xs ys : List (Note Name)) → news_in (xs ++ ys) ≡ news_in xs ++ news_in ys
 unfolding news_in
@@ -35,10 +31,7 @@ news_told z (SettledTo n y) ns (inl e) = inl (inl e)
 news_told z (SettledTo n y) ns (inr a) = inr a
 news_told z (Elsewhere n c) ns (inl e) = inl (inl e)
 news_told z (Elsewhere n c) ns (inr a) = inr a
-news_told z (Deliver d n verb ys) ns a = inr a
-news_told z (Open i n) ns a = inr a
-news_told z (Ask p i n) ns a = inr a
-news_told z (Shorten n c i) ns a = inr a
+news_told z other ns a = inr a
 
 pub news_named : (z : Name) (ns : List (Note Name)) → IsAmong z (news_in ns) → (n : Note Name) × IsAmong n ns × IsAmong z (told_in n)
 unfolding news_in

@@ -307,19 +307,11 @@ module _ (script : Script) where
 
     bare_of : (k : Note Name) → k ≡ n → NoteOk (Made script x) k → AsksOwn v k → IsBareOf script x v a s k
     bare_of (Ask p i z) e m o = (m.0.0, bare_there i (subst (λ j. AsksOf v j (Gift v i)) e o))
-    bare_of (Deliver d z verb ys) e m o = tt
-    bare_of (Open i z) e m o = tt
-    bare_of (SettledTo z c) e m o = tt
-    bare_of (Elsewhere z c) e m o = tt
-    bare_of (Shorten z c i) e m o = tt
+    bare_of other e m o = tt
 
     late_of : (k : Note Name) → k ≡ n → AsksOwn v k → (u : ℕ) (j : Link) → link_at v u x.links ≡ Some j → (z : Name) → LateBy script x v u a k z → IsAmong z (news_in j.log) → ⊥
     late_of (Ask p i c) e o u j back z q b = untold i (subst (λ k. AsksOf v k (Gift v i)) e o) j (subst (λ (w : ℕ). link_at v w x.links ≡ Some j) q.1 back) (subst (λ (m : Name). IsAmong m (news_in j.log)) q.0 b)
-    late_of (Deliver d c verb ys) e o u j back z q b = q
-    late_of (Open i c) e o u j back z q b = q
-    late_of (SettledTo c y) e o u j back z q b = q
-    late_of (Elsewhere c y) e o u j back z q b = q
-    late_of (Shorten c y i) e o u j back z q b = q
+    late_of other e o u j back z q b = q
 
     number : s.number ≡ v
     number = let k = (stands script x W.facts).vats v s there in let kept = k.kept in kept.number

@@ -25,9 +25,7 @@ none_settled y e = cc
 settles_now : (t : Standing Name) (k new : Known Name) → ((z : Value Name) → t ≡ Settled z → ⊥) → unless_settled t k new ≡ new
 unfolding unless_settled
 settles_now (Settled y) k new f = absurd (f y refl)
-settles_now Unsettled k new f = refl
-settles_now (WaitsOn q) k new f = refl
-settles_now (Viewed q) k new f = refl
+settles_now other k new f = refl
 
 settles_to : (y : Value Name) (k : Known Name) → ((z : Value Name) → k.standing ≡ Settled z → ⊥) → (changed (Settle y) k).standing ≡ Settled y
 unfolding changed changed_to

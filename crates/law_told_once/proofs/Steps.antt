@@ -40,20 +40,12 @@ module _ (script : Script) (w : World) (h v : ℕ) where
   -- what is told late: the gift for which the note asks, to the vat that asks for it
   abbrev pub LateBy : ℕ → Note Name → Name → Type 0
   LateBy from (Ask p i x) z = (z ≡ Gift h i) × (v ≡ from)
-  LateBy from (Deliver d x verb ys) z = ⊥
-  LateBy from (Open i x) z = ⊥
-  LateBy from (SettledTo x y) z = ⊥
-  LateBy from (Elsewhere x c) z = ⊥
-  LateBy from (Shorten x c i) z = ⊥
+  LateBy from other z = ⊥
 
   -- that gift is not in hand
   abbrev pub IsBareOf : Vat Name → Note Name → Type 0
   IsBareOf s (Ask p i x) = WasDrawn w.drawn i × Everywhere (Bare h i h) s
-  IsBareOf s (Deliver d x verb ys) = Unit {0}
-  IsBareOf s (Open i x) = Unit {0}
-  IsBareOf s (SettledTo x y) = Unit {0}
-  IsBareOf s (Elsewhere x c) = Unit {0}
-  IsBareOf s (Shorten x c i) = Unit {0}
+  IsBareOf s other = Unit {0}
 
   cared : (s : Vat Name) (i : ℕ) → s.number ≡ h → WasDrawn w.drawn i → Everywhere (Bare h i h) s → Sound (Bares h i h) (readied w s)
   unfolding readied

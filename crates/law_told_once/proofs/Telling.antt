@@ -46,13 +46,9 @@ ToldOf k = Once {A = ℕ} k.told
 
 to_once : (c : Change Name) (k : Known Name) → ToldOf k → ToldOf (changed_to c k)
 unfolding changed_to
-to_once (Hold m) k h = h
-to_once (Wait q) k h = h
-to_once (WaitOn q) k h = h
-to_once (See q) k h = h
-to_once (React m) k h = h
 to_once (ToTell w) k h = with_vat_once w k.told h
 to_once (Settle y) k h = tt
+to_once other k h = h
 
 changed_once : (c : Change Name) (k : Known Name) → ToldOf k → ToldOf (changed c k)
 unfolding changed
@@ -258,10 +254,7 @@ module _ (K : Naming Name Name) (v : ℕ) where
   inform_adds : (p : Name) (w : ℕ) (y : Value Name) (q : Place Name) (s : Vat Name) → After (Adds p (w ∷ [])) s (refs.inform_of K p w y q s)
   unfolding refs.inform_of with_news
   inform_adds p w y (Away h n true) s = out_adds p w (Elsewhere p h) refl s
-  inform_adds p w y (Away h n false) s = settled_adds p w y s
-  inform_adds p w y (Mine n) s = settled_adds p w y s
-  inform_adds p w y Near s = settled_adds p w y s
-  inform_adds p w y (Gone x) s = settled_adds p w y s
+  inform_adds p w y other s = settled_adds p w y s
 
   gone_or : (p : Name) (w : ℕ) (b : Bool) (m : Act Name (Unit {0})) (s : Vat Name) → After (Adds p (w ∷ [])) s (m s) → After (Adds p (w ∷ [])) s ((if b then give tt else m) s)
   unfolding give

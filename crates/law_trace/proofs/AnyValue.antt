@@ -21,11 +21,8 @@ use Rattle.law_trace.proofs.CharactersAgain.{characters_again}
 use Rattle.law_trace.proofs.TextsSeen.{seen_again}
 
 pub fits : (names : List (List ℕ)) (x : Name) → IsName (Below names) x → FitsName (length names) x
-fits names (Object v n) h = h
-fits names (Own v n) h = h
 fits names (Answer host m) h = (h.0, h.1.0, h.1.1)
-fits names (Gift host i) h = h
-fits names (Root v) h = h
+fits names other h = h
 
 -- a text begins with its quote, however long it is
 by_quote : (names : List (List ℕ)) (t u front behind : List ℕ) (b : Bools) → AreNames names → shown_text (cond b (quoted t) (quoted front ++ behind)) ≡ Ok u → value names (cond b (quoted t) (quoted front ++ behind)) ≡ Ok (Text u)
@@ -33,9 +30,7 @@ by_quote names t u front behind true are e = text_value_again names (flat_map es
 by_quote names t u front behind false are e = text_value_again names ((flat_map escaped front ++ 34 ∷ []) ++ behind) u are.lawful e
 
 pub value_again : (names : List (List ℕ)) (x : Shown) → AreNames names → IsValue (Below names) x → value names (lines.value names x) ≡ Ok (seen_value x)
-value_again names Null are h = refl
 value_again names (Bool true) are h = refl
-value_again names (Bool false) are h = refl
 value_again names (Int z) are h = integers_again names z are h
 value_again names (Char c) are h = characters_again names c are h
 value_again names (Text t) are h =
@@ -46,3 +41,4 @@ value_again names (ListOf v n) are h = list_again names v n are h.0 h.1
 value_again names (Slot v n) are h = slot_again names v n are h.0 h.1
 value_again names (Named n) are h = named_again names n are (fits names n h)
 value_again names (Members' shape row) are h = absurd h
+value_again names other are h = refl

@@ -70,12 +70,7 @@ module _ (names : List (List ℕ)) (are : AreNames names) where
   -- no vat makes a note of bytes by hand
   not_strange : (n : ShownNote) → (is_strange (note_words names n) ≡ false) × (is_raw (note_words names n) ≡ false)
   not_strange (Deliver m t q xs) = (refl, refl)
-  not_strange (DeliverOnly m t q xs) = (refl, refl)
-  not_strange (Settled n x) = (refl, refl)
-  not_strange (Elsewhere n v) = (refl, refl)
-  not_strange (Opens p q) = (refl, refl)
-  not_strange (Ask n v) = (refl, refl)
-  not_strange (Shorten p q) = (refl, refl)
+  not_strange other = (refl, refl)
 
   pub carried_again : (n : ShownNote) → IsNote (Below names) n → carried names (note_words names n) ≡ Ok (seen_note n)
   carried_again n h = ap (λ b. cond {A = Result ShownNote ℕ} b (strange_note (note_words names n)) (note names (note_words names n))) (not_strange n).0 ∙ note_again n h

@@ -87,27 +87,8 @@ short_problems_again names t are h = ap (λ w. value names (codes "broken:" ++ w
 -- ---- primitives
 
 safe_again : (names : List (List ℕ)) (n : ℕ) → n < 20 → value names (lines.value names (Prim n)) ≡ Ok (Prim n)
-safe_again names zero h = refl
-safe_again names (suc zero) h = refl
-safe_again names (suc (suc zero)) h = refl
-safe_again names (suc (suc (suc zero))) h = refl
-safe_again names (suc (suc (suc (suc zero)))) h = refl
-safe_again names (suc (suc (suc (suc (suc zero))))) h = refl
-safe_again names (suc (suc (suc (suc (suc (suc zero)))))) h = refl
-safe_again names (suc (suc (suc (suc (suc (suc (suc zero))))))) h = refl
-safe_again names (suc (suc (suc (suc (suc (suc (suc (suc zero)))))))) h = refl
-safe_again names (suc (suc (suc (suc (suc (suc (suc (suc (suc zero))))))))) h = refl
-safe_again names (suc (suc (suc (suc (suc (suc (suc (suc (suc (suc zero)))))))))) h = refl
-safe_again names (suc (suc (suc (suc (suc (suc (suc (suc (suc (suc (suc zero))))))))))) h = refl
-safe_again names (suc (suc (suc (suc (suc (suc (suc (suc (suc (suc (suc (suc zero)))))))))))) h = refl
-safe_again names (suc (suc (suc (suc (suc (suc (suc (suc (suc (suc (suc (suc (suc zero))))))))))))) h = refl
-safe_again names (suc (suc (suc (suc (suc (suc (suc (suc (suc (suc (suc (suc (suc (suc zero)))))))))))))) h = refl
-safe_again names (suc (suc (suc (suc (suc (suc (suc (suc (suc (suc (suc (suc (suc (suc (suc zero))))))))))))))) h = refl
-safe_again names (suc (suc (suc (suc (suc (suc (suc (suc (suc (suc (suc (suc (suc (suc (suc (suc zero)))))))))))))))) h = refl
-safe_again names (suc (suc (suc (suc (suc (suc (suc (suc (suc (suc (suc (suc (suc (suc (suc (suc (suc zero))))))))))))))))) h = refl
-safe_again names (suc (suc (suc (suc (suc (suc (suc (suc (suc (suc (suc (suc (suc (suc (suc (suc (suc (suc zero)))))))))))))))))) h = refl
-safe_again names (suc (suc (suc (suc (suc (suc (suc (suc (suc (suc (suc (suc (suc (suc (suc (suc (suc (suc (suc zero))))))))))))))))))) h = refl
 safe_again names (suc (suc (suc (suc (suc (suc (suc (suc (suc (suc (suc (suc (suc (suc (suc (suc (suc (suc (suc (suc n)))))))))))))))))))) h = absurd (omega arith)
+safe_again names other h = refl
 
 few : (guard : ℕ) → (((ltb 7 guard && ltb guard 15) || eqb guard 16) || eqb guard 17) ≡ true → guard < 18
 few guard h = grind (arith, nat_tests)
@@ -119,14 +100,6 @@ none_some : (n : ℕ) → None ≡ Some n → ⊥
 none_some n e = cc
 
 guarded_again : (names : List (List ℕ)) (guard n : ℕ) → guard < 18 → guarded guard ≡ Some n → value names (lines.value names (Prim n)) ≡ Ok (Prim n)
-guarded_again names zero n h e = absurd (none_some n e)
-guarded_again names (suc zero) n h e = absurd (none_some n e)
-guarded_again names (suc (suc zero)) n h e = absurd (none_some n e)
-guarded_again names (suc (suc (suc zero))) n h e = absurd (none_some n e)
-guarded_again names (suc (suc (suc (suc zero)))) n h e = absurd (none_some n e)
-guarded_again names (suc (suc (suc (suc (suc zero))))) n h e = absurd (none_some n e)
-guarded_again names (suc (suc (suc (suc (suc (suc zero)))))) n h e = absurd (none_some n e)
-guarded_again names (suc (suc (suc (suc (suc (suc (suc zero))))))) n h e = absurd (none_some n e)
 guarded_again names (suc (suc (suc (suc (suc (suc (suc (suc zero)))))))) n h e = subst (λ m. value names (lines.value names (Prim m)) ≡ Ok (Prim m)) (number_is 40 n e) refl
 guarded_again names (suc (suc (suc (suc (suc (suc (suc (suc (suc zero))))))))) n h e = subst (λ m. value names (lines.value names (Prim m)) ≡ Ok (Prim m)) (number_is 41 n e) refl
 guarded_again names (suc (suc (suc (suc (suc (suc (suc (suc (suc (suc zero)))))))))) n h e = subst (λ m. value names (lines.value names (Prim m)) ≡ Ok (Prim m)) (number_is 42 n e) refl
@@ -134,10 +107,10 @@ guarded_again names (suc (suc (suc (suc (suc (suc (suc (suc (suc (suc (suc zero)
 guarded_again names (suc (suc (suc (suc (suc (suc (suc (suc (suc (suc (suc (suc zero)))))))))))) n h e = subst (λ m. value names (lines.value names (Prim m)) ≡ Ok (Prim m)) (number_is 44 n e) refl
 guarded_again names (suc (suc (suc (suc (suc (suc (suc (suc (suc (suc (suc (suc (suc zero))))))))))))) n h e = subst (λ m. value names (lines.value names (Prim m)) ≡ Ok (Prim m)) (number_is 45 n e) refl
 guarded_again names (suc (suc (suc (suc (suc (suc (suc (suc (suc (suc (suc (suc (suc (suc zero)))))))))))))) n h e = subst (λ m. value names (lines.value names (Prim m)) ≡ Ok (Prim m)) (number_is 46 n e) refl
-guarded_again names (suc (suc (suc (suc (suc (suc (suc (suc (suc (suc (suc (suc (suc (suc (suc zero))))))))))))))) n h e = absurd (none_some n e)
 guarded_again names (suc (suc (suc (suc (suc (suc (suc (suc (suc (suc (suc (suc (suc (suc (suc (suc zero)))))))))))))))) n h e = subst (λ m. value names (lines.value names (Prim m)) ≡ Ok (Prim m)) (number_is 48 n e) refl
 guarded_again names (suc (suc (suc (suc (suc (suc (suc (suc (suc (suc (suc (suc (suc (suc (suc (suc (suc zero))))))))))))))))) n h e = subst (λ m. value names (lines.value names (Prim m)) ≡ Ok (Prim m)) (number_is 49 n e) refl
 guarded_again names (suc (suc (suc (suc (suc (suc (suc (suc (suc (suc (suc (suc (suc (suc (suc (suc (suc (suc k)))))))))))))))))) n h e = absurd (omega arith)
+guarded_again names other n h e = absurd (none_some n e)
 
 pub primitives_again : PrimitivesAreReadAgain
 primitives_again names n (inl h) = safe_again names n h

@@ -56,17 +56,10 @@ simple_by names word x (Some y) s e n =
 
 -- a value that is no list and no slot is one outside notes
 outside : (IsVat : ℕ → Type 0) (x : Shown) → IsSimple IsVat x → IsValue IsVat x × (is_place (seen_value x) ≡ false)
-outside IsVat Null h = (h, refl)
-outside IsVat (Bool b) h = (h, refl)
-outside IsVat (Int z) h = (h, refl)
-outside IsVat (Char c) h = (h, refl)
-outside IsVat (Text t) h = (h, refl)
-outside IsVat (Broken t) h = (h, refl)
-outside IsVat (Prim n) h = (h, refl)
-outside IsVat (Named n) h = (h, refl)
 outside IsVat (ListOf v n) h = absurd h
 outside IsVat (Slot v n) h = absurd h
 outside IsVat (Members' shape row) h = absurd h
+outside IsVat other h = (h, refl)
 
 simple_again : (names : List (List ℕ)) (x : Shown) → AreNames names → IsSimple (Below names) x → simple names (lines.value names x) ≡ Ok (seen_value x)
 simple_again names x are h = let o = outside (Below names) x h in simple_by names (lines.value names x) (seen_value x) (placed names (lines.value names x)) refl (value_again names x are o.0) o.1
@@ -81,18 +74,14 @@ text_starts true t front behind = refl
 text_starts false t front behind = refl
 
 simple_starts : (names : List (List ℕ)) (x : Shown) → AreNames names → IsSimple (Below names) x → starts 91 (lines.value names x) ≡ false
-simple_starts names Null are h = refl
 simple_starts names (Bool true) are h = refl
-simple_starts names (Bool false) are h = refl
 simple_starts names (Int z) are h = integer_starts z h
-simple_starts names (Char c) are h = refl
 simple_starts names (Text t) are h = text_starts (leb (length (chars t)) shown_length) t (encode_utf8_all (take shown_length (chars t))) (43 ∷ decimal (length (chars t) - shown_length))
-simple_starts names (Broken t) are h = refl
-simple_starts names (Prim n) are h = refl
 simple_starts names (Named n) are h = starts_not 91 (lines.name names n) refl refl (begins_so names n are (fits names n h))
 simple_starts names (ListOf v n) are h = absurd h
 simple_starts names (Slot v n) are h = absurd h
 simple_starts names (Members' shape row) are h = absurd h
+simple_starts names other are h = refl
 
 unbracketed : (names : List (List ℕ)) (height : ℕ) (word : List ℕ) → starts 91 word ≡ false → note_value names height word ≡ simple names word
 unbracketed names zero word h = refl
@@ -156,9 +145,8 @@ module _ (names : List (List ℕ)) (are : AreNames names) where
     passed_again height (Text t) h = plain_again names height (Text t) are h
     passed_again height (Broken t) h = plain_again names height (Broken t) are h
     passed_again height (Prim n) h = plain_again names height (Prim n) are h
-    passed_again height (ListOf v n) h = absurd h
-    passed_again height (Slot v n) h = absurd h
     passed_again height (Named n) h = plain_again names height (Named n) are h
+    passed_again height other h = absurd h
 
     row_again : {n : _} (height : ℕ) (row : Row_of-Shown n) → AreMembers (Below names) height row → RowIsRead height row
     row_again zero end_of-Shown h = h

@@ -40,13 +40,7 @@ module _ (P Q : ℕ → Type 0) (to : ℕ → ℕ) (each : (v : ℕ) → P v →
   value_fits (Slot v n) h = thing_fits v n h
   value_fits (Named x) h = name_fits x h
   value_fits (Members' shape row) h = absurd h
-  value_fits Null h = h
-  value_fits (Bool b) h = h
-  value_fits (Int z) h = h
-  value_fits (Char c) h = h
-  value_fits (Text t) h = h
-  value_fits (Broken t) h = h
-  value_fits (Prim n) h = h
+  value_fits other h = h
 
   values_fit : (xs : List Shown) → AreValues P xs → AreValues Q (values_to to xs)
   values_fit [] h = tt
@@ -67,13 +61,7 @@ module _ (P Q : ℕ → Type 0) (to : ℕ → ℕ) (each : (v : ℕ) → P v →
     passed_fits height (ListOf v n) h = absurd h
     passed_fits height (Slot v n) h = absurd h
     passed_fits height (Named x) h = name_fits x h
-    passed_fits height Null h = h
-    passed_fits height (Bool b) h = h
-    passed_fits height (Int z) h = h
-    passed_fits height (Char c) h = h
-    passed_fits height (Text t) h = h
-    passed_fits height (Broken t) h = h
-    passed_fits height (Prim n) h = h
+    passed_fits height other h = h
 
     row_fits : {n : _} (height : ℕ) (row : Row_of-Shown n) → AreMembers P height row → RowFits height row
     row_fits zero end_of-Shown h = h
@@ -97,7 +85,6 @@ module _ (P Q : ℕ → Type 0) (to : ℕ → ℕ) (each : (v : ℕ) → P v →
   pub event_fits : (e : Event) → IsRead P e → IsRead Q (event_to to e)
   event_fits (Open v) h = each v h
   event_fits (Turn k v) h = (h.0, each v h.1)
-  event_fits (Idle k) h = h
   event_fits (Carry k v w note) h = (h.0, each v h.1, each w h.2, note_fits note h.3)
   event_fits (Cut k v w) h = (h.0, each v h.1, each w h.2)
   event_fits (Notice k v w) h = (h.0, each v h.1, each w h.2)
@@ -106,7 +93,6 @@ module _ (P Q : ℕ → Type 0) (to : ℕ → ℕ) (each : (v : ℕ) → P v →
   event_fits (Call c) h = (h.0, value_fits c.target h.1, h.2, values_fit c.args h.3, h.4)
   event_fits (Back a x) h = (h.0, value_fits x h.1)
   event_fits (Thrown a x) h = (h.0, value_fits x h.1)
-  event_fits (Gone a) h = h
   event_fits (Got a x) h = (h.0, value_fits x h.1)
   event_fits (SlotMade a s x) h = (h.0, thing_fits s.0 s.1 h.1, value_fits x h.2)
   event_fits (Read a s x) h = (h.0, thing_fits s.0 s.1 h.1, value_fits x h.2)
@@ -131,4 +117,4 @@ module _ (P Q : ℕ → Type 0) (to : ℕ → ℕ) (each : (v : ℕ) → P v →
   event_fits (LeftHeld v p m) h = (each v h.0, name_fits p h.1, message_fits m h.2)
   event_fits (LeftWait v x m) h = (each v h.0, value_fits x h.1, message_fits m h.2)
   event_fits (LeftLink v w note) h = (each v h.0, each w h.1, note_fits note h.2)
-  event_fits End h = h
+  event_fits other h = h

@@ -62,14 +62,8 @@ module _ (names found : List (List ℕ)) (to : ℕ → ℕ) (P : ℕ → Type 0)
   value_same (Slot v n) h = thing_same v 38 n h
   value_same (Named x) h = name_same x h
   value_same (Members' shape row) h = absurd h
-  value_same Null h = refl
   value_same (Bool true) h = refl
-  value_same (Bool false) h = refl
-  value_same (Int z) h = refl
-  value_same (Char c) h = refl
-  value_same (Text t) h = refl
-  value_same (Broken t) h = refl
-  value_same (Prim n) h = refl
+  value_same other h = refl
 
   values_same : (xs : List Shown) → AreValues P xs → lines.values found (values_to to xs) ≡ lines.values names xs
   values_same [] h = refl
@@ -81,14 +75,8 @@ module _ (names found : List (List ℕ)) (to : ℕ → ℕ) (P : ℕ → Type 0)
     passed_same height (ListOf v n) h = absurd h
     passed_same height (Slot v n) h = absurd h
     passed_same height (Named x) h = name_same x h
-    passed_same height Null h = refl
     passed_same height (Bool true) h = refl
-    passed_same height (Bool false) h = refl
-    passed_same height (Int z) h = refl
-    passed_same height (Char c) h = refl
-    passed_same height (Text t) h = refl
-    passed_same height (Broken t) h = refl
-    passed_same height (Prim n) h = refl
+    passed_same height other h = refl
 
     row_same : {n : _} (height : ℕ) (row : Row_of-Shown n) → AreMembers P height row → map (lines.value found) (members_to to row) ≡ member_values names row
     row_same zero end_of-Shown h = absurd h
@@ -130,7 +118,6 @@ module _ (names found : List (List ℕ)) (to : ℕ → ℕ) (P : ℕ → Type 0)
   pub event_same : (e : Event) → IsRead P e → words found (event_to to e) ≡ words names e
   event_same (Open v) h = both_same refl (both_same (same v h) refl)
   event_same (Turn k v) h = both_same refl (both_same refl (both_same (same v h.1) refl))
-  event_same (Idle k) h = refl
   event_same (Carry k v w note) h = both_same refl (both_same refl (both_same (same v h.1) (both_same (same w h.2) (note_same note h.3))))
   event_same (Cut k v w) h = two_vats (decimal k) (codes "cut") v w h.1 h.2
   event_same (Notice k v w) h = two_vats (decimal k) (codes "notice") v w h.1 h.2
@@ -139,7 +126,6 @@ module _ (names found : List (List ℕ)) (to : ℕ → ℕ) (P : ℕ → Type 0)
   event_same (Call c) h = both_same refl (both_same refl (both_same (value_same c.target h.1) (both_same refl (appended _ _ _ _ (values_same c.args h.3) refl))))
   event_same (Back a x) h = one_value (lines.activation a) (codes "back") x h.1
   event_same (Thrown a x) h = one_value (lines.activation a) (codes "thrown") x h.1
-  event_same (Gone a) h = refl
   event_same (Got a x) h = one_value (lines.activation a) (codes "got") x h.1
   event_same (SlotMade a s x) h = slot_same (lines.activation a) (codes "slot") s x h.1 h.2
   event_same (Read a s x) h = slot_same (lines.activation a) (codes "read") s x h.1 h.2
@@ -165,7 +151,7 @@ module _ (names found : List (List ℕ)) (to : ℕ → ℕ) (P : ℕ → Type 0)
   event_same (LeftHeld v p m) h = both_same refl (both_same refl (both_same (same v h.0) (both_same (name_same p h.1) (both_same (message_same m h.2) refl))))
   event_same (LeftWait v x m) h = both_same refl (both_same refl (both_same (same v h.0) (both_same (value_same x h.1) (both_same (message_same m h.2) refl))))
   event_same (LeftLink v w note) h = both_same refl (both_same refl (both_same (same v h.0) (both_same (same w h.1) (note_same note h.2))))
-  event_same End h = refl
+  event_same other h = refl
 
 pub words_same : WordsAreSameByOtherNumbers
 words_same names found to e h = event_same names found to (λ v. vat found (to v) ≡ vat names v) (λ v k. k) e h

@@ -94,10 +94,7 @@ letter_stays b h = rw (not_mark b 34 h refl, not_mark b 39 h refl) refl
 -- a letter outside quotes leaves the reader there
 stays : (q : Quote) (b : ℕ) → (is_outside q && is_lower_or_digit b) ≡ true → behind_quote q b ≡ q
 stays quote.Outside b h = letter_stays b h
-stays quote.InText b h = absurd cc
-stays quote.InCharacter b h = absurd cc
-stays quote.EscapedText b h = absurd cc
-stays quote.EscapedCharacter b h = absurd cc
+stays other b h = absurd cc
 
 behind_space : (n : List ℕ) (q : Quote) (rooted : Bool) (run rest : List ℕ) → q ≡ quote.Outside → Stands n (scan quote.Outside false [] rest) → Stands n (scan q rooted run (32 ∷ rest))
 behind_space n q rooted run rest e i =

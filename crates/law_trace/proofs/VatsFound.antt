@@ -70,13 +70,7 @@ module _ (names : List (List ℕ)) (are : AreNames names) (Q : ℕ → Type 0) w
   value_in (Slot v n) tail e h f = thing v 38 n tail refl refl h f
   value_in (Named x) tail e h f = name_in x tail e h f
   value_in (Members' shape row) tail e h f = absurd h
-  value_in Null tail e h f = h
-  value_in (Bool b) tail e h f = h
-  value_in (Int z) tail e h f = h
-  value_in (Char c) tail e h f = h
-  value_in (Text t) tail e h f = h
-  value_in (Broken t) tail e h f = h
-  value_in (Prim n) tail e h f = h
+  value_in other tail e h f = h
 
   -- ---- lists in notes
 
@@ -109,13 +103,7 @@ module _ (names : List (List ℕ)) (are : AreNames names) (Q : ℕ → Type 0) w
     passed_in height (ListOf v n) tail e h f = absurd h
     passed_in height (Slot v n) tail e h f = absurd h
     passed_in height (Named x) tail e h f = name_in x tail e h f
-    passed_in height Null tail e h f = h
-    passed_in height (Bool b) tail e h f = h
-    passed_in height (Int z) tail e h f = h
-    passed_in height (Char c) tail e h f = h
-    passed_in height (Text t) tail e h f = h
-    passed_in height (Broken t) tail e h f = h
-    passed_in height (Prim n) tail e h f = h
+    passed_in height other tail e h f = h
 
     row_in : {n : _} (height : ℕ) (row : Row_of-Shown n) (tail : List ℕ) → AreMembers (Below names) height row → Finds (In (spaced (member_values names row) ++ 93 ∷ tail)) → AreMembers Q height row
     row_in zero end_of-Shown tail h f = h
@@ -271,7 +259,6 @@ module _ (names : List (List ℕ)) (are : AreNames names) (Q : ℕ → Type 0) w
   event_in : (e : Event) → IsRead (Below names) e → Finds (line_vats (words names e)) → IsRead Q e
   event_in (Open v) h f = vat_word v h (first (Alone (vat names v)) [] f)
   event_in (Turn k v) h f = (h.0, vat_word v h.1 (first (Alone (vat names v)) [] (entry_in k (codes "turn") (vat names v ∷ []) h.0 f)))
-  event_in (Idle k) h f = h
   event_in (Carry k v w note) h f =
       let p = pair_in v w (note_vats (note_words names note)) h.1 h.2 (entry_in k (codes "carry") (vat names v ∷ vat names w ∷ note_words names note) h.0 f) in (h.0, p.0, p.1, note_in note h.3 p.2)
   event_in (Cut k v w) h f = let p = pair_in v w [] h.1 h.2 (entry_in k (codes "cut") (vat names v ∷ vat names w ∷ []) h.0 f) in (h.0, p.0, p.1)
@@ -288,7 +275,6 @@ module _ (names : List (List ℕ)) (are : AreNames names) (Q : ℕ → Type 0) w
       )
   event_in (Back a x) h f = (h.0, one_value a (codes "back") x h.1 f)
   event_in (Thrown a x) h f = (h.0, one_value a (codes "thrown") x h.1 f)
-  event_in (Gone a) h f = h
   event_in (Got a x) h f = (h.0, one_value a (codes "got") x h.1 f)
   event_in (SlotMade a s x) h f = let d = slot_value a (codes "slot") s x h.1 h.2 f in (h.0, d.0, d.1)
   event_in (Read a s x) h f = let d = slot_value a (codes "read") s x h.1 h.2 f in (h.0, d.0, d.1)
@@ -333,7 +319,7 @@ module _ (names : List (List ℕ)) (are : AreNames names) (Q : ℕ → Type 0) w
       let ws = lines.message names m ∷ [] in let g = rest_of (Alone (vat names v)) (scanned (lines.value names x ∷ ws)) f in
       (vat_word v h.0 (first (Alone (vat names v)) (scanned (lines.value names x ∷ ws)) f), value_word x h.1 (head (lines.value names x) ws g), message_word m h.2 (head (lines.message names m) [] (behind (lines.value names x) ws g)))
   event_in (LeftLink v w note) h f = let p = pair_in v w (note_vats (note_words names note)) h.0 h.1 f in (p.0, p.1, note_in note h.2 p.2)
-  event_in End h f = h
+  event_in other h f = h
 
 module _ (names : List (List ℕ)) (are : AreNames names) (Q : ℕ → Type 0) where
   pub events_in : (es : List Event) → AllOf (IsRead (Below names)) es → Finds names are Q (flat_map line_vats (map (words names) es)) → AllOf (IsRead Q) es

@@ -161,50 +161,17 @@ object_is P verbs none word h = by (is_identifier word) (bytes_eq word (codes "_
 note_fits : (IsVat : ℕ → Type 0) (n : ShownNote) → IsNote IsVat n → NoteFits n
 note_fits IsVat (Deliver m target verb args) h = h.2
 note_fits IsVat (DeliverOnly m target verb args) h = h.2
-note_fits IsVat (Settled n x) h = tt
-note_fits IsVat (Elsewhere n v) h = tt
-note_fits IsVat (Opens gift n) h = tt
-note_fits IsVat (Ask gift provider) h = tt
-note_fits IsVat (Shorten n gift) h = tt
+note_fits IsVat other h = tt
 
 pub fits_as : (P : List ℕ → Type 0) → ((verb : List ℕ) → IsUtf8 verb → P (printed_verb verb)) → P (codes "_") → (IsVat : ℕ → Type 0) (e : Event) → IsRead IsVat e → FitsAs P e
-fits_as P verbs none IsVat (Open v) h = tt
-fits_as P verbs none IsVat (Turn k v) h = tt
-fits_as P verbs none IsVat (Idle k) h = tt
 fits_as P verbs none IsVat (Carry k v w note) h = note_fits IsVat note h.3
-fits_as P verbs none IsVat (Cut k v w) h = tt
-fits_as P verbs none IsVat (Notice k v w) h = tt
-fits_as P verbs none IsVat (Frame bytes) h = tt
 fits_as P verbs none IsVat (Take t) h = h.3
 fits_as P verbs none IsVat (Call c) h = h.2
-fits_as P verbs none IsVat (Back a x) h = tt
-fits_as P verbs none IsVat (Thrown a x) h = tt
-fits_as P verbs none IsVat (Gone a) h = tt
-fits_as P verbs none IsVat (Got a x) h = tt
-fits_as P verbs none IsVat (SlotMade a s x) h = tt
-fits_as P verbs none IsVat (Read a s x) h = tt
-fits_as P verbs none IsVat (Wrote a s x) h = tt
-fits_as P verbs none IsVat (ListMade a l members) h = tt
-fits_as P verbs none IsVat (Arrived l members) h = tt
-fits_as P verbs none IsVat (Ejector a o) h = tt
-fits_as P verbs none IsVat (Audition a o) h = tt
-fits_as P verbs none IsVat (Promise a p o) h = tt
 fits_as P verbs none IsVat (Made o) h = object_is P verbs none o.name h.2
 fits_as P verbs none IsVat (Send m) h = h.3
 fits_as P verbs none IsVat (SendOnly m) h = h.3
-fits_as P verbs none IsVat (When w) h = tt
-fits_as P verbs none IsVat (Done a x) h = tt
-fits_as P verbs none IsVat (Threw a x) h = tt
-fits_as P verbs none IsVat (Settle p x) h = tt
-fits_as P verbs none IsVat (Wait p q) h = tt
-fits_as P verbs none IsVat (View p q) h = tt
-fits_as P verbs none IsVat (LostCut m) h = tt
-fits_as P verbs none IsVat (LostBroken m) h = tt
-fits_as P verbs none IsVat (LeftQueue v m) h = tt
-fits_as P verbs none IsVat (LeftHeld v p m) h = tt
-fits_as P verbs none IsVat (LeftWait v x m) h = tt
 fits_as P verbs none IsVat (LeftLink v w note) h = note_fits IsVat note h.2
-fits_as P verbs none IsVat End h = tt
+fits_as P verbs none IsVat other h = tt
 
 pub words_again : WordsAreReadAgain
 words_again names e are h = words_back (words names e) (some_words names (ordinary_names names are.lawful) e (fits_as IsWord verb_word (ordinary_word (codes "_") refl) (Below names) e h))

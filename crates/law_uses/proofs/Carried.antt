@@ -52,13 +52,7 @@ module _ (draws : List ℕ) (es : List Event) (v : ℕ) (Starts : Thing → Type
     plain_came (Ref m) k g t (inl e) = subst Reached e (g (show.shown_name draws m) (inl refl))
     plain_came (Ref m) k g t (inr i) = absurd i
     plain_came (Items j) k g t i = absurd k
-    plain_came Null k g t i = absurd i
-    plain_came (Flag b) k g t i = absurd i
-    plain_came (Number z) k g t i = absurd i
-    plain_came (Letter z) k g t i = absurd i
-    plain_came (Text z) k g t i = absurd i
-    plain_came (Prim j) k g t i = absurd i
-    plain_came (Broken p) k g t i = absurd i
+    plain_came other k g t i = absurd i
 
     gift_came : (h j : ℕ) → ((n : ShownName) → IsAmong (AName n) (parts (show.shown_passed draws (AGift h j))) → Reached (AName n)) → (t : Thing) → IsAmong t (Of (Ref (Gift h j))) → Reached t
     unfolding show.shown_passed show.shown_value show.shown_name things_of
@@ -128,13 +122,7 @@ module _ (draws : List ℕ) (es : List Event) (v : ℕ) (Starts : Thing → Type
       unfolding show.shown_value things_of
       plain_passes x (Ref m) h c n i = named (show.shown_name draws m) n (AName (show.shown_name draws m) ∷ []) refl (name_covered m (leads_covered line shows x (Ref m) h c)) i
       plain_passes x (Items j) h c n i = absurd h
-      plain_passes x Null h c n i = absurd i
-      plain_passes x (Flag b) h c n i = absurd i
-      plain_passes x (Number z) h c n i = absurd i
-      plain_passes x (Letter z) h c n i = absurd i
-      plain_passes x (Text t) h c n i = absurd i
-      plain_passes x (Prim j) h c n i = absurd i
-      plain_passes x (Broken p) h c n i = absurd i
+      plain_passes x other h c n i = absurd i
 
       mutual
         unfolding show.shown_all

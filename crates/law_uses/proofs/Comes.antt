@@ -19,14 +19,7 @@ use Rattle.law_uses.proofs.Shown.{among_left, among_right, among_either, lines, 
 
 abbrev pub NoItems : Value Name → Type 0
 NoItems (Items k) = ⊥
-NoItems Null = Unit {0}
-NoItems (Flag b) = Unit {0}
-NoItems (Number z) = Unit {0}
-NoItems (Letter c) = Unit {0}
-NoItems (Text t) = Unit {0}
-NoItems (Prim n) = Unit {0}
-NoItems (Broken p) = Unit {0}
-NoItems (Ref n) = Unit {0}
+NoItems other = Unit {0}
 
 abbrev mutual
   pub NoList : Passed Name → Type 0
@@ -42,16 +35,8 @@ module _ (line : Happened Name → Type 0) (list : ℕ → List (Value Name) →
   mutual
     passes_no_list : (x : Value Name) (y : Passed Name) → PassesAs line list opened x y → NoList y
     passes_no_list x (Plain (Items k)) h = h
-    passes_no_list x (Plain Null) h = tt
-    passes_no_list x (Plain (Flag b)) h = tt
-    passes_no_list x (Plain (Number z)) h = tt
-    passes_no_list x (Plain (Letter c)) h = tt
-    passes_no_list x (Plain (Text t)) h = tt
-    passes_no_list x (Plain (Prim n)) h = tt
-    passes_no_list x (Plain (Broken p)) h = tt
-    passes_no_list x (Plain (Ref n)) h = tt
-    passes_no_list x (AGift w i) h = tt
     passes_no_list x (Many ys) h = pass_no_lists h.1 ys h.4
+    passes_no_list x other h = tt
 
     pub pass_no_lists : (xs : List (Value Name)) (ys : Passeds Name) → PassAll line list opened xs ys → NoLists ys
     pass_no_lists [] NoMore h = tt
@@ -70,14 +55,7 @@ module _ (draws : List ℕ) where
   pub value_parts : (v : ℕ) (x : Value Name) → parts (show.shown_value draws v x) ≡ things_of (show.shown_value draws v x)
   unfolding show.shown_value things_of
   value_parts v Null = refl
-  value_parts v (Flag b) = refl
-  value_parts v (Number z) = refl
-  value_parts v (Letter c) = refl
-  value_parts v (Text t) = refl
-  value_parts v (Prim n) = refl
-  value_parts v (Broken p) = refl
-  value_parts v (Items k) = refl
-  value_parts v (Ref n) = refl
+  value_parts v other = refl
 
   pub values_parts : (v : ℕ) (xs : List (Value Name)) → all_parts (show.shown_values draws v xs) ≡ things (show.shown_values draws v xs)
   unfolding show.shown_values
@@ -90,16 +68,9 @@ module _ (draws : List ℕ) where
   -- a value that passes plain is one thing here and there
   pub plain_here : (v u : ℕ) (y : Value Name) (n : ShownName) → IsAmong (AName n) (things_of (show.shown_value draws v y)) → IsAmong (AName n) (things_of (show.shown_value draws u y))
   unfolding show.shown_value things_of
-  plain_here v u (Ref m) n i = i
   plain_here v u (Items k) n (inl e) = absurd (list_is_no_name v k n e)
   plain_here v u (Items k) n (inr i) = absurd i
-  plain_here v u Null n i = i
-  plain_here v u (Flag b) n i = i
-  plain_here v u (Number z) n i = i
-  plain_here v u (Letter c) n i = i
-  plain_here v u (Text t) n i = i
-  plain_here v u (Prim k) n i = i
-  plain_here v u (Broken p) n i = i
+  plain_here v u other n i = i
 
   same_list : (v a k l : ℕ) → AList v k ≡ AList a l → (v ≡ a) × (k ≡ l)
   same_list v a k l e = (cc, cc)
@@ -111,13 +82,7 @@ module _ (draws : List ℕ) where
   list_thing v (Items l) a k (inr i) = absurd i
   list_thing v (Ref n) a k (inl e) = cc
   list_thing v (Ref n) a k (inr i) = absurd i
-  list_thing v Null a k i = absurd i
-  list_thing v (Flag b) a k i = absurd i
-  list_thing v (Number z) a k i = absurd i
-  list_thing v (Letter c) a k i = absurd i
-  list_thing v (Text t) a k i = absurd i
-  list_thing v (Prim n) a k i = absurd i
-  list_thing v (Broken p) a k i = absurd i
+  list_thing v other a k i = absurd i
 
   pub many_parts : (ys : Passeds Name) → parts (show.shown_passed draws (Many ys)) ≡ all_parts (show.shown_all draws ys)
   unfolding show.shown_passed

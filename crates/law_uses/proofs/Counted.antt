@@ -62,11 +62,7 @@ HappenedMails _ = Unit {0}
 
 abbrev pub NoteMails : Note Name → Type 0
 NoteMails (Deliver d n verb ys) = IsMail d.message
-NoteMails (Open i n) = Unit {0}
-NoteMails (Ask p i n) = Unit {0}
-NoteMails (SettledTo n y) = Unit {0}
-NoteMails (Elsewhere n c) = Unit {0}
-NoteMails (Shorten n c i) = Unit {0}
+NoteMails other = Unit {0}
 
 abbrev pub Mails : Event → Type 0
 Mails (Here v e) = HappenedMails e
@@ -134,10 +130,7 @@ module _ (draws : List ℕ) (m : Msg) where
     refl,
   )
   carried_quiet k v w (Open j n) bytes i e = (refl, refl, refl)
-  carried_quiet k v w (Ask p j n) bytes i e = (refl, refl, refl)
-  carried_quiet k v w (SettledTo n y) bytes i e = (refl, refl, refl)
-  carried_quiet k v w (Elsewhere n c) bytes i e = (refl, refl, refl)
-  carried_quiet k v w (Shorten n c j) bytes i e = (refl, refl, refl)
+  carried_quiet k v w other bytes i e = (refl, refl, refl)
 
   pub event_quiet : (e : Event) → Mails e → sent_by X e ≡ 0 → carried_by X e ≡ 0 → Quiet (show.shown_event draws e)
   unfolding show.shown_event sent_by carried_by had carried_with sent_with

@@ -120,11 +120,7 @@ happened_mails _ f = tt
 note_mails : (n : Note Name) → ((x : Name) → 1 ≤ of_note x n → IsMail x) → NoteMails n
 unfolding of_note in_note
 note_mails (Deliver d n verb ys) f = f d.message (one_least d.message)
-note_mails (Open i n) f = tt
-note_mails (Ask p i n) f = tt
-note_mails (SettledTo n y) f = tt
-note_mails (Elsewhere n c) f = tt
-note_mails (Shorten n c i) f = tt
+note_mails other f = tt
 
 event_mails : (e : Event) → ((x : Name) → 1 ≤ sent_by x e → IsMail x) → ((x : Name) → 1 ≤ carried_by x e → IsMail x) → Mails e
 unfolding sent_by carried_by
@@ -395,10 +391,7 @@ module _ (draws : List ℕ) (v : ℕ) (w y : World) (e : Event) (s t : Vat Name)
       pass_all_map (Line P t) (HasLine y v) kept (Members t) (HasList y v) next_list (Offers t) (HasOpened y v) next_opened f.0.args ys f.5,
     )
     note_source (Open i n) f = tt
-    note_source (Ask p i n) f = tt
-    note_source (SettledTo n x) f = tt
-    note_source (Elsewhere n c) f = tt
-    note_source (Shorten n c i) f = tt
+    note_source other f = tt
 
     -- ---- lists
 

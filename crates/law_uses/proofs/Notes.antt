@@ -99,11 +99,7 @@ module _ (draws : List ℕ) where
     pub carry_sent : (k v : ℕ) (n : Note Name) → NoteWell draws w u n → CarriesSent (lines draws w.history) (event.Carry k u v (show.shown_note draws v n))
     unfolding CarriesSent delivered show.shown_note
     carry_sent k v (Deliver d n verb ys) h = delivery_carries (lines draws w.history) d.asks (show.shown_msg draws d.message) (show.shown_name draws n) verb (show.shown_all draws ys) (note_may d n verb ys h)
-    carry_sent k v (Open i n) h = tt
-    carry_sent k v (Ask p i n) h = tt
-    carry_sent k v (SettledTo n y) h = tt
-    carry_sent k v (Elsewhere n c) h = tt
-    carry_sent k v (Shorten n c i) h = tt
+    carry_sent k v other h = tt
 
   -- ---- what is taken
 

@@ -54,21 +54,15 @@ end_none (x ∷ xs) = ap (λ r. x ∷ r) (end_none xs)
 -- what a step that gives has
 ends_gives : (p : Past) (r t : Vat Name) (d : Done Name (Unit {0})) → Ends p r (Any p) d → d ≡ Gives tt t → Later r t × Good p t
 ends_gives p r t (Gives u x) h q = let same : x ≡ t = cc in subst (λ z. Later r z × Good p z) same (h.0, h.1)
-ends_gives p r t (Throws u x) h q = cc
-ends_gives p r t (Ejects n y x) h q = cc
-ends_gives p r t (Stops c x) h q = cc
+ends_gives p r t other h q = cc
 
 after_gives : (P : Vat Name → Vat Name → Type 0) (r t : Vat Name) (d : Done Name (Unit {0})) → After P r d → d ≡ Gives tt t → P r t
 after_gives P r t (Gives u x) h q = let same : x ≡ t = cc in subst (λ z. P r z) same h
-after_gives P r t (Throws u x) h q = cc
-after_gives P r t (Ejects n y x) h q = cc
-after_gives P r t (Stops c x) h q = cc
+after_gives P r t other h q = cc
 
 dies_after : (r t : Vat Name) (d : Done Name (Unit {0})) → LeavesDead r d → d ≡ Gives tt t → (i : ℕ) → live_at t.things i ≡ true → live_at r.things i ≡ true
 dies_after r t (Gives u x) h q = let same : x ≡ t = cc in subst (λ (z : Vat Name). (i : ℕ) → live_at z.things i ≡ true → live_at r.things i ≡ true) same h
-dies_after r t (Throws u x) h q = cc
-dies_after r t (Ejects n y x) h q = cc
-dies_after r t (Stops c x) h q = cc
+dies_after r t other h q = cc
 
 module _ (draws : List ℕ) (script : Script) where
   -- what holds of a world
@@ -154,8 +148,7 @@ module _ (draws : List ℕ) (script : Script) where
     unfolding world.put_back
     back_whole (Gives u t) q f = record { still = still_of t q; fated = λ x. f x; stands = stands_of t q (λ x. f x); made = made_of t q }
     back_whole (Throws x t) q f = record { still = still; fated = λ y. f y; stands = h; made = made }
-    back_whole (Ejects i y t) q f = record { still = still; fated = λ x. f x; stands = h; made = made }
-    back_whole (Stops c t) q f = record { still = still; fated = λ x. f x; stands = h; made = made }
+    back_whole other q f = record { still = still; fated = λ x. f x; stands = h; made = made }
 
     within_whole : AllFated (world.within v w (e ∷ []) n (does (names script v) step) (Some (record s { queue = ms }))) → Reached Whole (world.within v w (e ∷ []) n (does (names script v) step) (Some (record s { queue = ms })))
     unfolding world.within
@@ -211,11 +204,7 @@ module _ (draws : List ℕ) (script : Script) where
   came_comes : (w : World) (k v to : ℕ) (ks : List Name) (n : Note Name) (bytes : List ℕ) → NoteWell draws w v n → (t : Vat Name) (m : Message Name) → Came t (Receives v (read_note ks n)) m → Comes to (Carried k v to n bytes) t m
   unfolding read_note world.read_value
   came_comes w k v to ks (Deliver d z verb ys) bytes h t m c = (k, v, d, z, verb, ys, bytes, refl, sym c.0, c.2 ∙ value_read (world.read_all ys ks).known (Ref z), all_read (Members t) ys ks m.args c.3, pass_no_lists (HasLine w v) (HasList w v) (HasOpened w v) h.0.args ys h.4)
-  came_comes w k v to ks (Open i z) bytes h t m c = absurd c
-  came_comes w k v to ks (Ask p i z) bytes h t m c = absurd c
-  came_comes w k v to ks (SettledTo z y) bytes h t m c = absurd c
-  came_comes w k v to ks (Elsewhere z b) bytes h t m c = absurd c
-  came_comes w k v to ks (Shorten z b i) bytes h t m c = absurd c
+  came_comes w k v to ks other bytes h t m c = absurd c
 
   carried_is : (k v to j a b : ℕ) (n m : Note Name) (bytes more : List ℕ) → Carried k v to n bytes ≡ Carried j a b m more → (v ≡ a) × (n ≡ m)
   carried_is k v to j a b n m bytes more e = (cc, cc)

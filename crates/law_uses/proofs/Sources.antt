@@ -167,11 +167,7 @@ module _ (draws : List ℕ) where
   -- a note from vat u
   abbrev pub NoteWell : World → ℕ → Note Name → Type 0
   NoteWell w u (Deliver d n verb ys) = (m : Message Name) × Source w u m × (m.id ≡ d.message) × LeadsTo (HasLine w u) m.target (Ref n) × ArgsPass w u m.args ys
-  NoteWell w u (Open i n) = Unit {0}
-  NoteWell w u (Ask p i n) = Unit {0}
-  NoteWell w u (SettledTo n y) = Unit {0}
-  NoteWell w u (Elsewhere n c) = Unit {0}
-  NoteWell w u (Shorten n c i) = Unit {0}
+  NoteWell w u other = Unit {0}
 
   abbrev pub LinkWell : World → Link → Type 0
   LinkWell w l = AllOf (NoteWell w l.from) l.notes
@@ -214,8 +210,4 @@ module _ (draws : List ℕ) where
 
     pub note_grow : (u : ℕ) (n : Note Name) → ((d : Delivery Name) (z : Name) (verb : Words) (ys : Passeds Name) → n ≡ Deliver d z verb ys → Silent es d.message) → NoteWell w u n → NoteWell y u n
     note_grow u (Deliver d n verb ys) q h = (h.0, source_grow u h.0 (subst (λ z. Silent es z) (sym h.2) (q d n verb ys refl)) h.1, h.2, leads_grow w y g u h.0.target (Ref n) h.3, args_grow w y g u h.0.args ys h.4)
-    note_grow u (Open i n) q h = tt
-    note_grow u (Ask p i n) q h = tt
-    note_grow u (SettledTo n y) q h = tt
-    note_grow u (Elsewhere n c) q h = tt
-    note_grow u (Shorten n c i) q h = tt
+    note_grow u other q h = tt

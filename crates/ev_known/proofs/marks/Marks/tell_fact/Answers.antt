@@ -4,12 +4,12 @@ use Rattle.ev_known.specs.declared.facts.Fact.{Fact}
 use Rattle.ev_known.proofs.Marking.{captured_held, given_held}
 use Rattle.ev_known.proofs.marks.Marks.tell_fact.Goals as goal
 
-pub returns-in_ok-mark-in-Given-clause-stands : goal.returns-in_ok-mark-in-Given-clause-stands
-returns-in_ok-mark-in-Given-clause-stands c past s i m =
-    c.in_ok-mark-in-Given.ensures.stands past
+pub returns-in-Given-clause-stands : goal.returns-in-Given-clause-stands
+returns-in-Given-clause-stands c past s i m =
+    c.mark.ensures.stands past
     (given_held c.args.facts.now past c.in-Given.activation c.in-Given.label s (subst (λ (f : Fact). IsAmong f c.args.facts.now) c.in-Given.is i)) m
 
-pub returns-in_ok-mark-in-Captured-clause-stands : goal.returns-in_ok-mark-in-Captured-clause-stands
-returns-in_ok-mark-in-Captured-clause-stands c past s i m =
-    c.in_ok-mark-in-Captured.ensures.stands past
+pub returns-in-Captured-clause-stands : goal.returns-in-Captured-clause-stands
+returns-in-Captured-clause-stands c past s i m =
+    c.mark-in-Captured.ensures.stands past
     (captured_held c.args.facts.now past c.in-Captured.object c.in-Captured.label s (subst (λ (f : Fact). IsAmong f c.args.facts.now) c.in-Captured.is i)) m

@@ -1,4 +1,5 @@
 use Rattle.std.proofs.Common.{Some, None, inl, inr, refl, sym, subst, ◌∙◌}
+use Rattle.std.proofs.lemmas.Result.{on_ok_weaker}
 use Rattle.def_trace.specs.Uses as uses
 use Rattle.ev_known.specs.Telling.{key}
 use Rattle.ev_known.specs.Following.{FollowedAs}
@@ -26,9 +27,12 @@ pub returns : goal.returns
 unfolding key
 returns c past s t =
     let a : uses.Activation = record { at = c.args.activation.at; number = c.args.activation.number } in
+    on_ok_weaker c.put.result (
+    λ put.
     inr (
       not_told c.args.facts.now past (uses.Begun a) s (sym c.has.ensures ∙ c.if-has.false),
       Some c.in-Some.object,
       subst (FollowedAs past c.args.activation.at c.args.target.now) c.in-Some.is (c.in_ok-object.ensures past t),
-      c.in_ok-put.ensures,
+      put,
     )
+    ) c.put.ensures

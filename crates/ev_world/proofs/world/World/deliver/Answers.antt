@@ -1,77 +1,22 @@
-use Rattle.std.proofs.Common.{◌≡◌, ℕ, List, Option, Ok, Some, ◌∙◌, length, refl, slice_get, slice_set, subst, sym, ap}
-use Rattle.std.proofs.lemmas.Bool.{ltb-true}
-use Rattle.std.proofs.lemmas.Option.{slice_get_read}
-use Rattle.std.specs.Prelude.{IfSome}
-use Rattle.std.specs.Vec.{with_item}
+use Rattle.std.proofs.Common.{ℕ, List, subst, sym}
 use Rattle.def_local.specs.Numbers.{step, step_number}
 use Rattle.def_run.specs.World.{Carry}
-use Rattle.ev_resident.specs.MemberHearing.{BringsSo, frame_heard}
-use Rattle.ev_resident.specs.declared.Arrival.{Arrival}
-use Rattle.ev_resident.specs.declared.resident.Resident.{Resident}
-use Rattle.ev_world.specs.Carrying.{TellsFrame, with_ways}
-use Rattle.ev_world.specs.Exporting.{AreCounted}
-use Rattle.ev_world.proofs.Acting.{Took, stops_with}
-use Rattle.ev_world.proofs.CarryingSteps.{CallHears, call_astray, call_comes, call_halts}
-use Rattle.ev_world.proofs.Readies.{set_ready}
+use Rattle.ev_world.specs.Midway.{IsMidway}
+use Rattle.ev_world.proofs.Acting.{stops_with}
 use Rattle.ev_world.proofs.world.World.deliver.Goals as goal
 
-pub hear-requires : goal.hear-requires
-hear-requires c =
-    let rs = c.args.self.now.residents.items in
-    let r = c.in-Some.receiver.now in
-    record { ready = c.requires.ready c.to.inside.0 r (slice_get_read rs (length rs) c.to.inside.0 r refl (ltb-true c.to.inside.0 (length rs) (sym c.in-Some.ensures.item.0)) c.in-Some.ensures.item.1) }
-
-pub returns-in_err-arrival-clause-step : goal.returns-in_err-arrival-clause-step
-returns-in_err-arrival-clause-step c = λ S w rows at next left steady.
-    let rs = c.args.self.now.residents.items in
-    let there : slice_get rs c.args.to ≡ Some c.in-Some.receiver.now =
-    subst (λ (k : ℕ). slice_get rs k ≡ Some c.in-Some.receiver.now) c.to.view_is
-    (slice_get_read rs (length rs) c.to.inside.0 c.in-Some.receiver.now refl (ltb-true c.to.inside.0 (length rs) (sym c.in-Some.ensures.item.0)) c.in-Some.ensures.item.1) in
-    stops_with S c.from_residual-in_err-arrival.result c.in_err-arrival.field-0.0 (step_number S c.args.number) (step S (Carry c.args.from c.args.to) c.args.number w)
-    (record c.args.self.now { residents = with_item c.args.self.now.residents c.to.inside.0 c.hear.new.self; words = c.hear.new.words }) c.from_residual-in_err-arrival.ensures
-    (call_halts S w c.args.from c.args.to c.args.number (with_ways rows c.args.self.now) c.args.frame c.in-Some.receiver.now at next there (λ (a : Arrival). a.sendings.items) c.in_err-arrival.field-0.0 c.hear.new.self.member c.as_slice.result.now
-    c.args.self.now.wire c.args.self.now.history c.as_slice.ensures c.in_err-arrival.ensures.step at.history)
-
-pub returns-in_default-2-clause-step : goal.returns-in_default-2-clause-step
-returns-in_default-2-clause-step c = λ S w rows at next left steady.
-    let rs = c.args.self.now.residents.items in
-    let r = c.in-Some.receiver.now in
-    let there : slice_get rs c.args.to ≡ Some r =
-    subst (λ (k : ℕ). slice_get rs k ≡ Some r) c.to.view_is
-    (slice_get_read rs (length rs) c.to.inside.0 r refl (ltb-true c.to.inside.0 (length rs) (sym c.in-Some.ensures.item.0)) c.in-Some.ensures.item.1) in
-    call_astray S w c.args.from c.args.to c.args.number (with_ways rows c.args.self.now) c.args.frame r at next there (λ (a : Arrival). a.sendings.items) c.hear.new.self.member c.as_slice.result.now c.args.self.now.wire c.args.self.now.history c.as_slice.ensures
-    (subst (λ (o : Option Arrival). CallHears (with_ways rows c.args.self.now) c.args.from (λ (a : Arrival). a.sendings.items) (Ok o) r c.hear.new.self.member c.as_slice.result.now) c.in_default-2.is c.in_ok-arrival.ensures.step) at.history
+pub returns-in_err-heard-clause-step : goal.returns-in_err-heard-clause-step
+returns-in_err-heard-clause-step c = λ S w rows at next left steady.
+    stops_with S c.from_residual.result c.in_err-heard.field-0.0 (step_number S c.args.number) (step S (Carry c.args.from c.args.to) c.args.number w) c.hear.new.self c.from_residual.ensures
+    (c.in_err-heard.ensures.step S w rows c.args.number at next left steady)
 
 pub returns-clause-step : goal.returns-clause-step
 returns-clause-step c = λ S w rows at next left steady.
-    let was = with_ways rows c.args.self.now in
-    let rs = c.args.self.now.residents.items in
-    let r = c.in-Some.receiver.now in
-    let q = c.hear.new.self in
-    let before = c.as_slice-3.result.now in
-    let there : slice_get rs c.args.to ≡ Some r =
-    subst (λ (k : ℕ). slice_get rs k ≡ Some r) c.to.view_is
-    (slice_get_read rs (length rs) c.to.inside.0 r refl (ltb-true c.to.inside.0 (length rs) (sym c.in-Some.ensures.item.0)) c.in-Some.ensures.item.1) in
-    let mid = record c.args.self.now { residents = with_item c.args.self.now.residents c.to.inside.0 q; words = c.hear.new.words; history = c.tell_note.new.history } in
-    let took : Took c.args.to before was mid r q = record {
-      found = there;
-      counted = subst (λ (ks : List ℕ). AreCounted r.member (length rs) ks) (sym c.as_slice-3.ensures.value) (subst (λ (n : ℕ). AreCounted r.member n c.in_ok-before.before.items) (c.len-count.ensures ∙ c.args.self.now.residents.ok.0) c.in_ok-before.ensures);
-      residents = ap (λ (k : ℕ). slice_set rs k q) c.to.view_is;
-      words = c.in_ok-arrival.ensures.lent;
-      names = c.in_ok-arrival.ensures.names;
-      ready = c.in_ok-arrival.ensures.ready;
-      key = c.in_ok-arrival.ensures.key;
-      limits = refl;
-      programs = refl;
-      nouns = refl;
-      wire = refl;
-    } in
-    call_comes S w c.args.from c.args.to c.args.number was c.args.frame r at next there (λ (a : Arrival). a.sendings.items) c.in-Some-2.arrival c.as_slice.result.now before c.imports-first.result c.in-Some-2.arrival.news c.in_ok-told.told mid c.finish.new.self q c.as_slice.ensures
-    (subst (λ (o : Option Arrival). CallHears was c.args.from (λ (a : Arrival). a.sendings.items) (Ok o) r q.member c.as_slice.result.now) c.in-Some-2.is c.in_ok-arrival.ensures.step)
-    (λ m same is. subst (λ (o : Option Arrival). IfSome o (λ a. BringsSo c.args.from m (frame_heard c.args.from m c.as_slice.result.now) a.news)) c.in-Some-2.is (c.in_ok-arrival.ensures.news m same is))
-    c.imports-first.ensures took steady
-    (subst (λ (xs : List Resident). TellsFrame xs c.args.from c.args.to c.imports-first.result c.in-Some-2.arrival.news c.args.frame c.in_ok-told.told) c.as_slice-2.ensures.value c.in_ok-told.ensures)
-    left c.in_ok-tell_note.ensures (λ z y h g t midway. c.in_ok-finish.ensures.finished S z y h g t midway)
+    let heard = c.in_ok-heard.heard in
+    let mid = record c.hear.new.self { history = c.tell_note.new.history } in
+    c.in_ok-heard.ensures.step S w rows c.args.number at next left steady c.tell_note.new.history c.finish.new.self c.in_ok-tell_note.ensures
+    (λ z y head g t midway. c.in_ok-finish.ensures.finished S z y head g t
+    (subst (λ (ks : List ℕ). IsMidway S z c.args.to y head g t ks heard.sendings.items c.args.frame.message heard.told mid) (sym c.as_slice.ensures.value) midway))
 
 pub returns-clause-ready : goal.returns-clause-ready
-returns-clause-ready c = c.in_ok-finish.ensures.ready (set_ready c.args.self.now.residents.items c.to.inside.0 c.hear.new.self c.requires.ready c.in_ok-arrival.ensures.ready)
+returns-clause-ready c = c.in_ok-finish.ensures.ready c.in_ok-heard.ensures.ready
