@@ -11,11 +11,11 @@ use Rattle.ev_refs.specs.Changes.{seen_as, with_waiting}
 use Rattle.ev_refs.specs.Follow.{followed, host_of, place_of}
 use Rattle.ev_refs.specs.References.{References}
 use Rattle.ev_refs.specs.declared.follow.Place.{Place}
-use Rattle.ev_refs.specs.declared.follow.Place.TheVariants.{Near, Mine, FarPromise, FarObject, Gone}
+use Rattle.ev_refs.specs.declared.follow.Place.TheVariants.{FarObject}
 use Rattle.ev_refs.specs.declared.known.Known.{Known}
 use Rattle.ev_refs.specs.declared.known.Message.{Message}
 use Rattle.ev_refs.specs.declared.known.Standing.{Standing}
-use Rattle.ev_refs.specs.declared.known.Standing.TheVariants.{Unsettled, WaitsOn, Viewed, Settled}
+use Rattle.ev_refs.specs.declared.known.Standing.TheVariants.{Unsettled, WaitsOn, Settled}
 use Rattle.ev_pass.specs.Acts as inner
 use Rattle.ev_pass.specs.Acts.{draw, send_out, tell, to_tell}
 use Rattle.ev_pass.specs.Delivering.{inform}

@@ -6,7 +6,7 @@ use Rattle.ev_heap.specs.declared.kept.Thing.{Thing}
 use Rattle.def_machine.specs.Arrive as machine
 use Rattle.def_machine.specs.Receive as receiving
 use Rattle.def_machine.specs.State as state
-use Rattle.def_machine.specs.State.{Done, ListCame, Vat}
+use Rattle.def_machine.specs.State.{Done, Vat}
 use Rattle.def_machine.specs.Values.{Words, Local}
 use Rattle.ev_arrive.proofs.Notices.{notices_is}
 use Rattle.ev_arrive.specs.Acts.{Out}

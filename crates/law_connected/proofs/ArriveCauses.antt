@@ -3,7 +3,7 @@ use Rattle.std.proofs.Common.{◌≡◌, ℕ, Bool, true, false, List, [], ◌�
 use Rattle.std.specs.Prelude.{codes}
 use Rattle.std.proofs.lemmas.Bool.{eqb-true}
 use Rattle.def_machine.specs.Values.{Words, Value, Null, Flag, Number, Letter, Text, Prim, Broken, Items, Ref, Naming, IsAnswer, IsGift, IsLearnt, IsCarried, under}
-use Rattle.def_machine.specs.State.{Standing, Unsettled, WaitsOn, Viewed, Settled, Known, Wait, See, ToTell, Passed, Passeds, Plain, AGift, Many, NoMore, More, Note, Delivery, Deliver, Open, Ask, SettledTo, Elsewhere, Shorten, GiftEntry, Happened, Views, Vat, ◌>>=◌, ◌>>◌, and_then, give, look, tell, each, draw, new_gift, is_gift, open_gift, mark, send_out, alter, come, mail, is_in}
+use Rattle.def_machine.specs.State.{Standing, Viewed, Settled, Known, Wait, See, ToTell, Passed, Passeds, Plain, AGift, Many, NoMore, More, Note, Delivery, Deliver, Open, Ask, SettledTo, Elsewhere, Shorten, GiftEntry, Happened, Views, Vat, ◌>>=◌, ◌>>◌, and_then, give, look, tell, each, draw, new_gift, is_gift, open_gift, mark, send_out, alter, come, mail, is_in}
 use Rattle.def_machine.specs.Refs as refs
 use Rattle.def_machine.specs.Refs.{Place, Away, standing_of, host_at}
 use Rattle.def_machine.specs.Arrive as arrive

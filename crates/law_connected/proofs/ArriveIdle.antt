@@ -1,9 +1,9 @@
 -- What arrives and what is noticed is idle.
 use Rattle.std.proofs.Common.{ℕ}
-use Rattle.def_machine.specs.Values.{Prim, Naming}
+use Rattle.def_machine.specs.Values.{Naming}
 use Rattle.def_machine.specs.State.{Note}
 use Rattle.def_machine.specs.Arrive as arrive
-use Rattle.def_machine.specs.Arrive.{Incoming, Old, New}
+use Rattle.def_machine.specs.Arrive.{Incoming}
 use Rattle.law_machine.proofs.ArriveWalk.{walk_arrive, walk_notice}
 use Rattle.law_connected.proofs.Idle.{Idle, IdleBy, idle_closed, idle_in_refs, idle_in_refs_under, idle_settling, idle_in_arrive, idle_in_arrive_under}
 

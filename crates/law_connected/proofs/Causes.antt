@@ -1,11 +1,11 @@
 -- What is kept of a vat in a step, so that each settling, wait and view has its cause before it.
 use Rattle.std.proofs.Common.{◌≡◌, ◌≤◌, arith, ℕ, suc, Bool, true, false, List, [], ◌∷◌, ◌++◌, Option, Some, None, ◌==◌, refl, sym, ap, ◌∙◌, subst, length, ◌⊎◌, inl, inr}
 use Rattle.std.specs.Prelude.{codes, nat_le}
-use Rattle.def_machine.specs.Values.{Words, Value, Prim, Broken, Items, Naming, Coming, Mailing}
+use Rattle.def_machine.specs.Values.{Words, Value, Broken, Items, Naming, Coming, Mailing}
 use Rattle.std.proofs.lemmas.Bool.{eqb-true}
-use Rattle.def_machine.specs.State.{Message, Standing, Unsettled, WaitsOn, Viewed, Settled, Known, Change, Hold, Wait, WaitOn, See, React, ToTell, Note, GiftEntry, Passed, Passeds, Plain, AGift, Many, NoMore, More, Deliver, Open, Ask, SettledTo, Elsewhere, Shorten, Happened, Waits, Views, ListCame, Vat, Stop, Done, Gives, Throws, Ejects, Stops, Act, ◌>>=◌, ◌>>◌, and_then, give, stop, look, tell, spend, spent, enqueue, send_out, new_list, new_gift, is_gift, open_gift, with_opened, mark, is_in, unless_settled, changed_to, changed, with_change, begun, draws, alter, come, mail, new_promise, new_message, new_lone_message, draw}
+use Rattle.def_machine.specs.State.{Message, Standing, Settled, Known, Change, Hold, Wait, WaitOn, See, React, ToTell, Note, GiftEntry, Passed, Passeds, Many, NoMore, More, Open, SettledTo, Happened, Waits, Views, ListCame, Vat, Stop, Done, Gives, Throws, Ejects, Stops, Act, ◌>>=◌, ◌>>◌, and_then, give, stop, look, tell, spend, spent, enqueue, send_out, new_list, new_gift, is_gift, open_gift, with_opened, mark, is_in, unless_settled, changed_to, changed, with_change, begun, draws, alter, come, mail, new_promise, new_message, new_lone_message, draw}
 use Rattle.def_machine.specs.Arrive.{Incoming, make_list}
-use Rattle.law_machine.specs.Steps.{Step, Opens, Takes, Receives, Notices}
+use Rattle.law_machine.specs.Steps.{Step, Receives, Notices}
 use Rattle.law_machine.proofs.Walks.{Property, Holds, IsClosed}
 use Rattle.law_connected.specs.Known.{IsAmong, AllOf, Start, Leads, settled, viewed, settles, views, Reaches, itself, onward}
 use Rattle.law_connected.proofs.Knowing.{among_more, reaches_more, thing_more}

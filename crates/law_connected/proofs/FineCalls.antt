@@ -5,12 +5,12 @@ use Rattle.def_machine.specs.Values.{Words, Value, Null, Flag, Number, Letter, T
 use Rattle.def_machine.specs.State.{Bound, Fixed, Slot, Scope, Binding, Cell, View, Thing, Made, Ejector, Audition, Resolver, Standing, Unsettled, Happened, Called, AuditionMade, Vat, Done, Gives, Throws, Ejects, Stops, Act, ◌>>=◌, ◌>>◌, and_then, ending, give, throw, eject, look, tell, new_thing, new_activation}
 use Rattle.def_machine.specs.Refs.{Place, Near, follow, settle, resolve}
 use Rattle.def_machine.specs.Form.{Item as Piece, Begin, End, Word, Fact as Fixing, literal_value}
-use Rattle.def_machine.specs.Native.{Reply, Says, Writes, Lists as Listed, Iterates, Fails, Guard, Asked, MakesList, Ranges, Same as SameEver, Compares, Loops, SendsTo, CallsTo, MakesPromise, Breaks, Tells, Whens, ThrowsIt, IsStamped, Coerces, AddsNull, NoMethod}
+use Rattle.def_machine.specs.Native.{Reply, Says, Writes, Lists as Listed, Iterates, Fails, Guard, Asked, MakesList, Loops, SendsTo, CallsTo, MakesPromise, Tells, Whens, IsStamped, Coerces, NoMethod}
 use Rattle.def_machine.specs.Free.{same_words}
 use Rattle.def_machine.specs.Scopes as scopes
 use Rattle.def_machine.specs.Perform as perform
 use Rattle.def_machine.specs.Calls as calls
-use Rattle.def_machine.specs.Scopes.{Answer, Evaluator, Caller, Body, Case, AuditionAsk, GetsForm, GetsGuard, Asks, NoAuditionAsk, ResolverAsk, Resolves, Smashes, NoResolverAsk}
+use Rattle.def_machine.specs.Scopes.{Evaluator, Caller, Body, Case, AuditionAsk, GetsForm, GetsGuard, Asks, NoAuditionAsk, ResolverAsk, Resolves, Smashes, NoResolverAsk}
 use Rattle.def_kernel.specs.declared.node.Node.{Node}
 use Rattle.law_connected.specs.Known.{AValue, AGuard, itself as at_itself, IsAmong, AllOf, tells, by, values, Runs, called, told, endowed}
 use Rattle.law_connected.specs.Connected.{served, unless_begun, open_after, callee, uses, evaluates, asks}
@@ -84,9 +84,8 @@ module _ {N W : Type 0} (K : Naming N W) (E : Ground N W) (spots : (i : ℕ) →
 
   pub fine_coerce : {a : ℕ} {C : Fact N} → (again : Caller N) → GoodCaller K E a again → GoodCoercer K E a again → (act : ℕ) → Gets K E a C (IsAct act) → (g : Value N) → Gets K E a C (IsGuard g) → (j : Value N) → Gets K E a C (IsValue j) → (x : Value N) → Gets K E a C (IsValue x) → Fine K E a C (perform.coerce K tree again act g j x) IsValue
   unfolding perform.coerce
-  fine_coerce {a = a} {C = C} again g_again h_again act g_act (Prim n) g_g j g_j x g_x = search (fine, fine_coerce_native) depth 30
-  fine_coerce {a = a} {C = C} again g_again h_again act g_act (Ref n) g_g j g_j x g_x = search (fine, fine_coerce_near) depth 30
-  fine_coerce {a = a} {C = C} again g_again h_again act g_act _ g_g j g_j x g_x = search (fine) depth 30
+  fine_coerce {a = a} {C = C} again g_again h_again act g_act (Prim n) g_g j g_j x g_x = search (fine, fine_coerce_native, fine_coerce_near) depth 30
+  fine_coerce {a = a} {C = C} again g_again h_again act g_act other g_g j g_j x g_x = search (fine, fine_coerce_native, fine_coerce_near) depth 30
 
   pub fine_store : {a : ℕ} {C : Fact N} → (act : ℕ) → Gets K E a C (IsAct act) → (vs : List (Value N)) → Gets K E a C (AreValues vs) → Fine K E a C (perform.store K tree act vs) IsValue
   unfolding perform.store
@@ -160,9 +159,8 @@ module _ {N W : Type 0} (K : Naming N W) (E : Ground N W) (spots : (i : ℕ) →
 
   pub fine_after_turn : {a : ℕ} {C : Fact N} → (more : Act N (Value N)) → Fine K E a C more IsValue → (v : Value N) → Fine K E a C (perform.after_turn K tree more v) IsValue
   unfolding perform.after_turn
-  fine_after_turn {a = a} {C = C} more g_more (Flag true) = search (fine) depth 30
-  fine_after_turn {a = a} {C = C} more g_more (Flag false) = search (fine) depth 30
-  fine_after_turn {a = a} {C = C} more g_more _ = search (fine) depth 30
+  fine_after_turn {a = a} {C = C} more g_more (Flag true) = search fine depth 30
+  fine_after_turn {a = a} {C = C} more g_more other = search fine depth 30
 
   pub fine_turns : {a : ℕ} {C : Fact N} → (n : ℕ) → (body : Act N (Value N)) → Fine K E a C body IsValue → Fine K E a C (perform.turns K tree n body) IsValue
   unfolding perform.turns
@@ -246,9 +244,8 @@ module _ {N W : Type 0} (K : Naming N W) (E : Ground N W) (spots : (i : ℕ) →
 
   pub fine_verdict : {a : ℕ} {C : Fact N} → (again : Caller N) → GoodCaller K E a again → (act : ℕ) → Gets K E a C (IsAct act) → (view : View N) → Gets K E a C (IsJudging view) → (x : Value N) → Gets K E a C (IsValue x) → (y : Value N) → Fine K E a C (calls.verdict K tree again act view x y) nothing
   unfolding calls.verdict
-  fine_verdict {a = a} {C = C} again g_again act g_act view g_view x g_x (Prim n) = search (fine) depth 30
-  fine_verdict {a = a} {C = C} again g_again act g_act view g_view x g_x (Ref n) = search (fine, fine_audit) depth 30
-  fine_verdict {a = a} {C = C} again g_again act g_act view g_view x g_x _ = search (fine) depth 30
+  fine_verdict {a = a} {C = C} again g_again act g_act view g_view x g_x (Prim n) = search (fine, fine_audit) depth 30
+  fine_verdict {a = a} {C = C} again g_again act g_act view g_view x g_x other = search (fine, fine_audit) depth 30
 
   pub fine_ask_all : {a : ℕ} {C : Fact N} → (again : Caller N) → GoodCaller K E a again → (act : ℕ) → Gets K E a C (IsAct act) → (view : View N) → Gets K E a C (IsJudging view) → (xs : List (Value N)) → Gets K E a C (AreValues xs) → Fine K E a C (calls.ask_all K tree again act view xs) AreValues
   unfolding calls.ask_all

@@ -7,9 +7,9 @@ use Rattle.def_machine.specs.Free.{same_words, BoundNoun}
 use Rattle.def_machine.specs.Scopes as scopes
 use Rattle.def_machine.specs.Calls as calls
 use Rattle.def_machine.specs.Eval as eval
-use Rattle.def_machine.specs.Scopes.{any_guard, Answer, Answers, Evaluator, Caller}
+use Rattle.def_machine.specs.Scopes.{any_guard, Answer, Evaluator, Caller}
 use Rattle.def_kernel.specs.declared.node.Node.{Node}
-use Rattle.def_kernel.specs.declared.node.Node.TheVariants.{Lit, Noun, Set, Def, Call, Sequence, If, Escape, Try, Finally, Hide, MatchBind, Object, Final, Var, Any, ListPattern, Via}
+use Rattle.def_kernel.specs.declared.node.Node.TheVariants.{Lit, Final, Any}
 use Rattle.law_connected.specs.Known.{Item, AValue, AGuard, ASlot, IsAmong, AllOf, Knows, plain, serves, tells, by, values, parts_of, parts_of_all}
 use Rattle.law_connected.specs.Connected.{LineWell, served, open_after, uses, itself}
 use Rattle.law_connected.proofs.Traces.{among_last}
@@ -211,8 +211,7 @@ module _ {N W : Type 0} (K : Naming N W) (E : Ground N W) (spots : (i : ℕ) →
   pub fine_choose : {a : ℕ} {C : Fact N} → (rec : Evaluator N) → GoodEvaluator K E rec → (x : ℕ) → (y : ℕ) → (here : Scope N) → Gets K E a C (IsScope here) → (inner : Scope N) → Gets K E a C (IsScope inner) → (v : Value N) → Fine K E a C (eval.choose K tree rec x y here inner v) answer
   unfolding eval.choose
   fine_choose {a = a} {C = C} rec g_rec x y here g_here inner g_inner (Flag true) = search (fine, fine_answered, g_rec.expression) depth 30
-  fine_choose {a = a} {C = C} rec g_rec x y here g_here inner g_inner (Flag false) = search (fine, fine_answered, g_rec.expression) depth 30
-  fine_choose {a = a} {C = C} rec g_rec x y here g_here inner g_inner _ = search (fine) depth 30
+  fine_choose {a = a} {C = C} rec g_rec x y here g_here inner g_inner other = search (fine, fine_answered, g_rec.expression) depth 30
 
   pub fine_unmatched_noun : {a : ℕ} {C : Fact N} → (act : ℕ) → Gets K E a C (IsAct act) → (b : Bool) → Fine K E a C (eval.unmatched_noun K tree act b) IsBound
   unfolding eval.unmatched_noun
@@ -243,23 +242,6 @@ module _ {N W : Type 0} (K : Naming N W) (E : Ground N W) (spots : (i : ℕ) →
       (λ c. fine_write_cell {C = Also C (MayCell k c)} rec good act (got_left K E a C (MayCell k c) (IsAct act) i) k (got_left K E a C (MayCell k c) (IsSlot k) d) v (got_left K E a C (MayCell k c) (IsValue v) g) c (got K E a C (MayCell k c)))
   fine_write_bound {a = a} {C = C} rec good act i _ h v g = search (fine) depth 30
 
-  pub fine_step : {a : ℕ} {C : Fact N} → (rec : Evaluator N) → GoodEvaluator K E rec → (id : ℕ) → (n : Node) → (here : Scope N) → Gets K E a C (IsScope here) → Fine K E a C (eval.step K tree rec id n here) answer
-  unfolding eval.step
-  fine_step {a = a} {C = C} rec g_rec id (Lit l) here g_here = search (fine, fine_answered) depth 30
-  fine_step {a = a} {C = C} rec g_rec id (Noun x) here g_here = search (fine, fine_read_bound, fine_answered) depth 30
-  fine_step {a = a} {C = C} rec g_rec id (Set x e) here g_here = search (fine, fine_write_bound, fine_answered, g_rec.expression) depth 30
-  fine_step {a = a} {C = C} rec g_rec id (Def p exit e) here g_here = search (fine, fine_exit_of, fine_answered, g_rec.expression, g_rec.pattern) depth 30
-  fine_step {a = a} {C = C} rec g_rec id (Call r verb args) here g_here = search (fine, fine_all_of, fine_call, fine_answered, g_rec.expression) depth 30
-  fine_step {a = a} {C = C} rec g_rec id (Sequence es) here g_here = search (fine, fine_last_of) depth 30
-  fine_step {a = a} {C = C} rec g_rec id (If t x y) here g_here = search (fine, fine_choose, g_rec.expression) depth 30
-  fine_step {a = a} {C = C} rec g_rec id (Escape p body c) here g_here = search (fine, fine_escaped, g_rec.expression, g_rec.pattern) depth 30
-  fine_step {a = a} {C = C} rec g_rec id (Try body p h) here g_here = search (fine, fine_tried, g_rec.expression) depth 30
-  fine_step {a = a} {C = C} rec g_rec id (Finally x y) here g_here = search (fine, fine_at_last, g_rec.expression) depth 30
-  fine_step {a = a} {C = C} rec g_rec id (Hide e) here g_here = search (fine, fine_answered, g_rec.expression) depth 30
-  fine_step {a = a} {C = C} rec g_rec id (MatchBind e p) here g_here = search (fine, fine_match_ended, g_rec.expression, g_rec.pattern) depth 30
-  fine_step {a = a} {C = C} rec g_rec id (Object p auditors members) here g_here = search (fine, fine_all_of, fine_make_object, fine_call) depth 30
-  fine_step {a = a} {C = C} rec g_rec id _ here g_here = search (fine) depth 30
-
   pub fine_guard_of : {a : ℕ} {C : Fact N} → (rec : Evaluator N) → GoodEvaluator K E rec → (o : Option ℕ) → (here : Scope N) → Gets K E a C (IsScope here) → Fine K E a C (eval.guard_of K tree rec o here) answer
   unfolding eval.guard_of
   fine_guard_of {a = a} {C = C} rec g_rec None here g_here = search (fine, fine_answered) depth 30
@@ -274,14 +256,18 @@ module _ {N W : Type 0} (K : Naming N W) (E : Ground N W) (spots : (i : ℕ) →
   fine_bind_items {a = a} {C = C} rec g_rec ps j g_j here g_here (Items k) g_v = search (fine, fine_bind_list) depth 30
   fine_bind_items {a = a} {C = C} rec g_rec ps j g_j here g_here _ g_v = search (fine, fine_failed, fine_call) depth 30
 
+  -- what the nodes of the language are put together from: a node that is put together so too is no more text here
+  ruleset nodes = (fine, fine_answered, fine_read_bound, fine_write_bound, fine_failed, fine_handed, fine_coerce, fine_leave, fine_bind_all, fine_call, fine_call_guard, fine_make_object, fine_all_of, fine_last_of, fine_exit_of, fine_caught_by, fine_escaped, fine_handles, fine_tried, fine_at_last, fine_choose, fine_unmatched, fine_not_matched, fine_match_ended, fine_guard_of, fine_bind_list, fine_bind_items)
+
+  pub fine_step : {a : ℕ} {C : Fact N} → (rec : Evaluator N) → GoodEvaluator K E rec → (id : ℕ) → (n : Node) → (here : Scope N) → Gets K E a C (IsScope here) → Fine K E a C (eval.step K tree rec id n here) answer
+  unfolding eval.step
+  fine_step {a = a} {C = C} rec good id (Lit l) here g = search (nodes, good.expression, good.pattern) depth 30
+  fine_step {a = a} {C = C} rec good id other here g = search (nodes, good.expression, good.pattern) depth 30
+
   pub fine_bind_step : {a : ℕ} {C : Fact N} → (rec : Evaluator N) → GoodEvaluator K E rec → (n : Node) → (v : Value N) → Gets K E a C (IsValue v) → (j : Value N) → Gets K E a C (IsValue j) → (here : Scope N) → Gets K E a C (IsScope here) → Fine K E a C (eval.bind_step K tree rec n v j here) IsScope
   unfolding eval.bind_step
-  fine_bind_step {a = a} {C = C} rec g_rec (Final x g) v g_v j g_j here g_here = search (fine, fine_guard_of, fine_coerce, fine_call, fine_call_guard) depth 30
-  fine_bind_step {a = a} {C = C} rec g_rec (Var x g) v g_v j g_j here g_here = search (fine, fine_guard_of, fine_coerce, fine_call, fine_call_guard) depth 30
-  fine_bind_step {a = a} {C = C} rec g_rec (Any g) v g_v j g_j here g_here = search (fine, fine_guard_of, fine_coerce, fine_call, fine_call_guard) depth 30
-  fine_bind_step {a = a} {C = C} rec g_rec (ListPattern ps) v g_v j g_j here g_here = search (fine, fine_bind_items) depth 30
-  fine_bind_step {a = a} {C = C} rec g_rec (Via e p) v g_v j g_j here g_here = search (fine, fine_handed, fine_call, g_rec.expression, g_rec.pattern) depth 30
-  fine_bind_step {a = a} {C = C} rec g_rec _ v g_v j g_j here g_here = search (fine) depth 30
+  fine_bind_step {a = a} {C = C} rec good (Any o) v g j h here k = search (nodes, good.expression, good.pattern) depth 30
+  fine_bind_step {a = a} {C = C} rec good other v g j h here k = search (nodes, good.expression, good.pattern) depth 30
 
   fine_bind_found : {a : ℕ} {C : Fact N} → (rec : Evaluator N) → GoodEvaluator K E rec → (o : Option Node) → (v : Value N) → Gets K E a C (IsValue v) → (j : Value N) → Gets K E a C (IsValue j) → (here : Scope N) → Gets K E a C (IsScope here) → Fine K E a C (eval.bind_found K tree rec o v j here) IsScope
   unfolding eval.bind_found

@@ -2,8 +2,8 @@
 use Rattle.std.proofs.Common.{◌≡◌, ◌≤◌, arith, length, ℕ, zero, suc, true, false, List, [], ◌∷◌, ◌++◌, Option, Some, None, refl, sym, ap, ◌∙◌, subst, map, inl, inr}
 use Rattle.std.specs.Prelude.{slice_get}
 use Rattle.std.proofs.lemmas.Bool.{eq-eqb}
-use Rattle.def_machine.specs.Values.{Words, Value, Null, Flag, Number, Letter, Text, Prim, Broken, Items, Ref, Name, Naming, naming, numbering, spot_of, local_spot, Spot, Own, Foreign, NoObject}
-use Rattle.def_machine.specs.State.{Binding, Scope, Thing, Made, Ejector, Audition, Resolver, Message, Standing, Unsettled, WaitsOn, Viewed, Settled, Known, Happened, Took, Finished, Threw, Vat, Done, Gives, Throws, Ejects, Stops, Astray, Act, ◌>>=◌, ◌>>◌, and_then, end_by, ending, give, throw, stop, look, tell, new_activation, for_some}
+use Rattle.def_machine.specs.Values.{Words, Value, Null, Flag, Number, Letter, Text, Prim, Broken, Items, Ref, Name, Naming, naming, numbering, spot_of, local_spot, Spot, Own, Foreign}
+use Rattle.def_machine.specs.State.{Binding, Scope, Thing, Made, Ejector, Audition, Resolver, Message, Standing, Viewed, Settled, Known, Happened, Took, Finished, Threw, Vat, Done, Gives, Throws, Ejects, Stops, Astray, Act, ◌>>=◌, ◌>>◌, and_then, end_by, ending, give, throw, stop, look, tell, new_activation, for_some}
 use Rattle.def_machine.specs.Refs.{standing_of, settle, resolve}
 use Rattle.def_machine.specs.Free.{same_words}
 use Rattle.def_machine.specs.Native.{asked, primitive}

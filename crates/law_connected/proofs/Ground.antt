@@ -2,7 +2,7 @@
 use Rattle.std.proofs.Common.{◌≡◌, ℕ, suc, arith, true, List, [], ◌∷◌, ◌++◌, Option, Some, None, refl, sym, ap, ◌∙◌, subst, length, map, ◌⊎◌, inl, inr}
 use Rattle.std.specs.Prelude.{slice_get}
 use Rattle.def_machine.specs.Values.{Words, Value, Ref, Naming, Own}
-use Rattle.def_machine.specs.State.{Thing, Made, Resolver, Binding, Cell, Freedom, IsSafe, IsItself, IsFinal, IsVar, View, Audition, Happened, Took, Called, Back, Thrown, Left, Got, SlotMade, SlotRead, SlotWrote, ListMade, ListCame, EjectorMade, AuditionMade, PromiseMade, ObjectMade, Sends, Reacts, Finished, Threw, Settles, Waits, Views, Lost, Posted, Vat}
+use Rattle.def_machine.specs.State.{Thing, Made, Resolver, Binding, Cell, Freedom, IsFinal, View, Audition, Happened, Called, Back, Got, SlotMade, SlotWrote, ListCame, AuditionMade, ObjectMade, Reacts, Settles, Waits, Views, Lost, Posted, Vat}
 use Rattle.law_connected.specs.Known.{Item, AValue, AGuard, IsAmong, AllOf, Start, Holdings, Reaches, IsThing, Knows}
 use Rattle.law_connected.specs.Connected.{Open, open_after, open_from, Judges, evaluates, asks, AskedThen, GivenBack, BackWell, ComesWell, LineWell, ConnectedAfter, Connected, uses, itself}
 use Rattle.law_connected.specs.ConnectedLaws as laws

@@ -2,7 +2,7 @@
 use Rattle.std.proofs.Common.{◌≡◌, ℕ, ◌-◌, Bool, true, false, List, [], ◌∷◌, ◌++◌, Option, Some, None, refl, ap, ◌∙◌, length, map, subst, sym}
 use Rattle.std.specs.Prelude.{nat_le, slice_get}
 use Rattle.def_machine.specs.Values.{Words, Value, Items, Naming, Coming, Mailing}
-use Rattle.def_machine.specs.State.{Took, Called, Back, Thrown, Left, Got, SlotMade, SlotRead, SlotWrote, ListMade, EjectorMade, AuditionMade, PromiseMade, ObjectMade, Sends, Reacts, Finished, Threw, Ask, Shorten, See, Settle, Message, Happened, ListCame, Settles, Waits, Views, Lost, Posted, Vat, Stop, Done, Gives, Throws, Ejects, Stops, Act, ◌>>=◌, ◌>>◌, and_then, give, throw, stop, look, tell, spend, spent, new_list, enqueue, Change, Note, send_out, new_gift, open_gift, mark, draws, alter, come, mail, new_promise, new_message, draw, new_lone_message}
+use Rattle.def_machine.specs.State.{Ask, Shorten, See, Settle, Message, Happened, ListCame, Settles, Waits, Views, Lost, Posted, Vat, Stop, Done, Gives, Throws, Ejects, Stops, Act, ◌>>=◌, ◌>>◌, and_then, give, throw, stop, look, tell, spend, spent, new_list, enqueue, Change, Note, send_out, new_gift, open_gift, mark, draws, alter, come, mail, new_promise, new_message, draw, new_lone_message}
 use Rattle.def_machine.specs.Arrive.{make_list}
 use Rattle.law_machine.proofs.Walks.{Property, Holds, IsClosed, IsOfRefs, InRefs, InRefsUnder, InSettling, InArrive, InArriveUnder}
 use Rattle.law_machine.proofs.RefsWalk.{settles_by_lines}

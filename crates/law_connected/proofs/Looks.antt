@@ -1,14 +1,14 @@
 -- What an activation looks at, it knows.
 use Rattle.std.proofs.Common.{◌≡◌, ℕ, Bool, true, false, List, [], ◌∷◌, ◌++◌, Option, Some, None, refl, subst, length, map, ◌⊎◌, inl, inr}
 use Rattle.std.specs.Prelude.{slice_get, codes}
-use Rattle.def_machine.specs.Values.{Words, Value, Null, Flag, Number, Letter, Text, Prim, Broken, Items, Ref, Naming}
-use Rattle.def_machine.specs.State.{Bound, Fixed, Slot, Binding, Scope, Freedom, IsSafe, IsItself, IsFinal, IsVar, FreeName, View, Cell, Thing, Made, Ejector, Audition, Resolver, Called, Vat, look}
+use Rattle.def_machine.specs.Values.{Words, Value, Null, Flag, Number, Text, Prim, Items, Naming}
+use Rattle.def_machine.specs.State.{Bound, Fixed, Slot, Binding, Scope, Freedom, IsItself, IsFinal, FreeName, View, Cell, Thing, Made, Audition, Resolver, Called, Vat, look}
 use Rattle.def_machine.specs.Refs as refs
-use Rattle.def_machine.specs.Refs.{Place, Near, Mine, Away, Gone, follow, place}
+use Rattle.def_machine.specs.Refs.{Place, Near, Away, follow, place}
 use Rattle.def_machine.specs.Free.{same_words, entry}
 use Rattle.def_machine.specs.Form as form
 use Rattle.def_machine.specs.Native as native
-use Rattle.def_machine.specs.Native.{list_at, Reply, Says, Writes, Lists as Listed, Iterates, Fails, Guard, AnyGuard, VoidGuard, IntGuard, BooleanGuard, CharGuard, TextGuard, ListGuard, NullGuard, NearGuard, FrozenGuard, OrNull, Primitive, RefTest, IsNear, IsFar, IsResolved, IsBroken, OptProblem, Fulfillment, NoTest, Order}
+use Rattle.def_machine.specs.Native.{list_at, Reply, Says, Fails, Guard, AnyGuard, VoidGuard, IntGuard, BooleanGuard, CharGuard, TextGuard, ListGuard, NullGuard, NearGuard, FrozenGuard, OrNull, Primitive, RefTest, OptProblem, Fulfillment, NoTest, Order}
 use Rattle.def_machine.specs.Scopes as scopes
 use Rattle.def_machine.specs.Scopes.{any_guard, with_noun}
 use Rattle.def_machine.specs.Perform as perform

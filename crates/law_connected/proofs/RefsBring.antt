@@ -2,7 +2,7 @@
 use Rattle.std.proofs.Common.{◌≡◌, ℕ, zero, suc, Bool, true, false, List, [], ◌∷◌, Option, Some, None, length, refl, sym, ◌∙◌, subst, ◌⊎◌, inl, inr, if◌then◌else◌, ◌==◌}
 use Rattle.std.specs.Prelude.{slice_get, codes}
 use Rattle.def_machine.specs.Values.{Words, Value, Null, Flag, Number, Letter, Text, Prim, Broken, Items, Ref, Name, Root, Object, Promise, Answer, Gift, Sent, spot_of, Spot, Own, Foreign, NoObject, naming, same_reference}
-use Rattle.def_machine.specs.State.{SettledTo, Elsewhere, and_then, send_out, look, tell, new_message, Message, Standing, Unsettled, WaitsOn, Viewed, Settled, Known, Passed, Passeds, Plain, AGift, Many, NoMore, More, Deliver, Hold, React, Settle, Sends, Reacts, Settles, Vat, Act, is_in, spend, each, give, ◌>>=◌, ◌>>◌, new_lone_message}
+use Rattle.def_machine.specs.State.{SettledTo, Elsewhere, and_then, send_out, look, tell, new_message, Message, Standing, Viewed, Settled, Known, Passed, Passeds, Plain, AGift, Many, NoMore, More, Deliver, Hold, React, Settle, Sends, Reacts, Settles, Vat, Act, is_in, spend, each, give, ◌>>=◌, ◌>>◌, new_lone_message}
 use Rattle.def_machine.specs.Native.{list_at}
 use Rattle.def_machine.specs.Refs as refs
 use Rattle.def_machine.specs.Refs.{Place, Near, Mine, Away, Gone, Parcel}
@@ -11,7 +11,7 @@ use Rattle.law_connected.specs.Known.{IsAmong, AllOf}
 use Rattle.law_connected.specs.Stems.{LeadsTo, itself, settled, viewed}
 use Rattle.law_connected.proofs.Passing.{kept_all, passes_on, leads_on, leads_map, all_map}
 use Rattle.law_connected.proofs.Moments.{Past, Line, Members, StandTold, Fine, fine_later, ReactionFine, reaction_later, Passing, PassingAll, line_later, passing_later, passing_all_later, KnownFine, Good, Ends, Any, Brings, Does, Lasting, does_bind, does_then, does_also, does_any, does_from, does_to, does_keep, does_give, does_look, brings_does, brings_bind, brings_then, brings_look, brings_give, brings_each, does_for_some, brings_some}
-use Rattle.law_connected.proofs.Singles.{brings, brings_spend, brings_draw, brings_come, brings_message, brings_open, does_tell, does_enqueue, does_out, does_open, does_alter, alters_tell, tells_posted, tells_lost, brings_lone_message}
+use Rattle.law_connected.proofs.Singles.{brings, brings_spend, brings_draw, brings_come, brings_message, does_tell, does_enqueue, does_out, does_open, does_alter, alters_tell, tells_posted, tells_lost, brings_lone_message}
 
 abbrev pub GoodSettler : Past → (Name → Value Name → Act Name (Unit {0})) → Type 0
 GoodSettler past settle = (p : Name) (y : Value Name) → Brings past (settle p y)

@@ -1,18 +1,18 @@
 -- What a vat does with references: each settling and each wait has its cause.
 use Rattle.std.proofs.Common.{◌≡◌, ℕ, zero, suc, Bool, true, false, List, [], ◌∷◌, ◌++◌, Option, Some, None, if◌then◌else◌, ◌==◌, refl, sym, subst, length, inl, inr}
 use Rattle.std.specs.Prelude.{codes}
-use Rattle.def_machine.specs.Values.{Words, Value, Null, Flag, Number, Letter, Text, Prim, Broken, Items, Ref, Naming, Spot, Own, Foreign, NoObject, IsAnswer}
-use Rattle.def_machine.specs.State.{Message, Standing, Unsettled, WaitsOn, Viewed, Settled, Known, WaitOn, Settle, Passed, Passeds, Plain, AGift, Many, NoMore, More, Happened, Settles, Waits, Lost, Posted, Vat, Done, Gives, Act, ◌>>=◌, ◌>>◌, and_then, give, look, tell, each, for_some, enqueue, send_out, alter, with_change, changed_to, come, is_in}
+use Rattle.def_machine.specs.Values.{Words, Value, Broken, Items, Ref, Naming, Spot, Own, Foreign, NoObject, IsAnswer}
+use Rattle.def_machine.specs.State.{Message, Standing, Settled, Known, WaitOn, Settle, Passed, Passeds, Plain, AGift, Many, NoMore, More, Happened, Settles, Waits, Lost, Posted, Vat, Done, Gives, Act, ◌>>=◌, ◌>>◌, and_then, give, look, tell, each, for_some, enqueue, send_out, alter, with_change, changed_to, come, is_in}
 use Rattle.def_machine.specs.Refs as refs
-use Rattle.def_machine.specs.Refs.{Place, Near, Mine, Away, Gone, entry_of, standing_of, follow_at, led}
-use Rattle.law_machine.proofs.Walks.{Holds, walk, walk_each}
+use Rattle.def_machine.specs.Refs.{Place, Near, Mine, Away, Gone, entry_of}
+use Rattle.law_machine.proofs.Walks.{walk, walk_each}
 use Rattle.law_connected.specs.Known.{IsAmong, AllOf, Start, Reaches, itself}
 use Rattle.law_connected.proofs.Knowing.{among_more}
 use Rattle.law_connected.proofs.Passing.{all_map}
 use Rattle.law_connected.proofs.Traces.{among_last, traces_settled, traces_give}
 use Rattle.law_connected.proofs.StepTraces.{follow_reaches}
 use Rattle.law_connected.specs.Settlings.{IsNew, WaitsFor, Follows, IsGiven, waited, lost, SettlesWell, WaitsWell}
-use Rattle.law_connected.proofs.Causes.{Causes, Ends, Any, Further, further_on, up, ends_then, ends_more, WaitTold, MessageTold, EntryTold, waits_more, message_more, follows_more, follows_trans, given_more, settles_more, has_more, causes_line, alter_causes, tells, comes, holds, waits, Steady, SteadyBy, steady_closed, steady_spend, steady_enqueue, steady_out, steady_draw, steady_react, steady_to_tell, steady_wait_on, steady_stop, steady_give}
+use Rattle.law_connected.proofs.Causes.{Causes, Ends, Any, Further, further_on, up, ends_then, ends_more, WaitTold, MessageTold, EntryTold, waits_more, message_more, follows_trans, given_more, causes_line, alter_causes, tells, comes, holds, waits, Steady, SteadyBy, steady_closed, steady_spend, steady_enqueue, steady_out, steady_draw, steady_react, steady_to_tell, steady_wait_on, steady_stop, steady_give}
 
 pub ruleset steady = (walk, steady_closed, steady_spend, steady_enqueue, steady_out, steady_draw, steady_react, steady_to_tell)
 

@@ -1,8 +1,8 @@
 -- What is done with references, but for sending and reacting, is idle.
-use Rattle.def_machine.specs.Values.{Value, Prim, Naming}
+use Rattle.def_machine.specs.Values.{Value, Naming}
 use Rattle.def_machine.specs.State.{Message}
 use Rattle.def_machine.specs.Refs as refs
-use Rattle.def_machine.specs.Refs.{Place, Near, Mine, Away, Gone}
+use Rattle.def_machine.specs.Refs.{Place}
 use Rattle.law_machine.proofs.RefsWalk.{walk_settle, walk_resolve, walk_send_first, walk_react_at}
 use Rattle.law_connected.proofs.Idle.{Idle, IdleBy, idle_closed, idle_in_refs, idle_in_refs_under, idle_settling}
 

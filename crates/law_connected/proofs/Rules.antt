@@ -4,7 +4,7 @@ use Rattle.std.proofs.lemmas.Bool.{eqb-true}
 use Rattle.def_machine.specs.Values.{Words, Value, Ref, Naming, Own, Null, IsOwn}
 use Rattle.def_machine.specs.State.{Bound, Fixed, Slot, Binding, Scope, Thing, Ejector, Resolver, Message, Standing, Happened, Called, Back, Thrown, Left, Got, EjectorMade, PromiseMade, Sends, Reacts, Vat, Done, Gives, Throws, Ejects, Stops, Act, ◌>>=◌, ◌>>◌, and_then, end_by, ending, give, throw, eject, tell, new_thing, new_promise, begun}
 use Rattle.def_machine.specs.Refs as refs
-use Rattle.def_machine.specs.Refs.{Place, follow, settle, resolve}
+use Rattle.def_machine.specs.Refs.{Place, settle, resolve}
 use Rattle.def_machine.specs.Native.{Reply}
 use Rattle.def_machine.specs.Scopes as scopes
 use Rattle.def_machine.specs.Scopes.{Answer, Answers}
@@ -21,7 +21,7 @@ use Rattle.law_connected.specs.News.{own_number}
 use Rattle.law_connected.proofs.Idle.{idle_promise, idle_message, idle_lone_message}
 use Rattle.law_connected.proofs.RefsIdle.{idle_settle, idle_resolve, idle_send_first, idle_react_at}
 use Rattle.law_connected.proofs.Ground.{Ground, opens, with_line, opens_last, held, Has, Knew, Grows, Good, grows_line, grows_trans, good_line}
-use Rattle.law_connected.proofs.Fine.{MayBe, Fact, Nothing, Also, IsAct, IsValue, IsCallee, AreValues, IsBound, IsScope, MayValue, MadeEjector, WasHanded, WasCalled, MayGive, IsReply, answer, answers, nothing, BoundKnown, NounKnown, Handed, Holds, Gets, Keeps, Passes, Ends, Fine, holds_up, still_holds, handed_up, passes_same, passes_trans, widen, fine_bind, fine_less, fine_then, fine_ending, fine_some, fine_some_name, fine_if, fine_give, fine_throw, fine_eject, fine_stop, fine_look, act_is, then_line, thing_block, uses_values, is_told, fine_left, fine_spend, fine_kill, bind_slot, bind_list, then_read, then_wrote, fine_idle, fine_steady, Leads, IsPlaced, IsLine, GivenTo, MaySettle}
+use Rattle.law_connected.proofs.Fine.{Fact, Nothing, Also, IsAct, IsValue, IsCallee, AreValues, IsBound, IsScope, MayValue, MadeEjector, WasHanded, WasCalled, MayGive, IsReply, answer, answers, nothing, BoundKnown, NounKnown, Handed, Holds, Gets, Keeps, Passes, Ends, Fine, holds_up, still_holds, handed_up, widen, fine_bind, fine_less, fine_then, fine_ending, fine_some, fine_some_name, fine_if, fine_give, fine_throw, fine_eject, fine_stop, fine_look, act_is, then_line, thing_block, uses_values, is_told, fine_left, fine_spend, fine_kill, bind_slot, bind_list, then_read, then_wrote, fine_idle, fine_steady, Leads, IsPlaced, IsLine, GivenTo, MaySettle}
 use Rattle.law_connected.proofs.Looks.{got, got_left, got_right, got_itself, got_both, got_nothing, got_guard, got_null, got_flag, got_number, got_text, got_prim, got_none, got_more, got_no_lists, got_lists, got_act, got_with, got_fixed, got_slot, got_any, got_no_match, got_literal, got_safe, got_bound_in, got_asked, got_audition_ask, got_may_give, got_item, got_stamp, look_follow, look_leads, look_place, look_list, look_cell, look_data, look_range, look_compared, look_null_or, look_taken, look_same, look_broken, look_thrown, look_test}
 
 module _ {N W : Type 0} (K : Naming N W) (E : Ground N W) (a : ℕ) where

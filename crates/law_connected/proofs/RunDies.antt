@@ -2,7 +2,7 @@
 use Rattle.std.proofs.Common.{◌≡◌, ℕ, zero, suc, Bool, true, false, List, [], ◌∷◌, Some, None, refl, sym, subst}
 use Rattle.std.specs.Prelude.{slice_get}
 use Rattle.def_machine.specs.Values.{Name}
-use Rattle.def_machine.specs.State.{Vat, Done, Gives, Throws, Ejects, Stops}
+use Rattle.def_machine.specs.State.{Vat, Done, Gives}
 use Rattle.law_machine.specs.Steps.{Step, does}
 use Rattle.def_run.specs.World.{Script, Program, Entry, Event, World, Goes, put_at, put_back, readied, within, names, fresh, fresh_from, begins, open_from, steps_from}
 use Rattle.law_run.proofs.RunKeeps.{Begins, IsKeptByRuns, run_keeps, opens_keep}

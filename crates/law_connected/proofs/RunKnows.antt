@@ -2,7 +2,7 @@
 use Rattle.std.proofs.Common.{◌+◌, arith, ◌≡◌, ℕ, zero, suc, Bool, true, false, List, [], ◌∷◌, ◌++◌, Option, Some, None, refl, sym, ap, ◌∙◌, subst, ◌⊎◌, inl, inr}
 use Rattle.std.specs.Prelude.{slice_get}
 use Rattle.def_machine.specs.Values.{Value, Name, Root}
-use Rattle.def_machine.specs.State.{Message, Note, Happened, Sends, Reacts, Vat, Done, Gives, Throws, Ejects, Stops}
+use Rattle.def_machine.specs.State.{Message, Note, Happened, Sends, Reacts, Vat, Done, Gives}
 use Rattle.def_machine.specs.Arrive.{notice}
 use Rattle.def_machine.specs.Eval.{opening}
 use Rattle.law_machine.specs.Steps.{Step, Opens as Starts, Takes, Receives, Notices, does, After}
@@ -19,7 +19,7 @@ use Rattle.law_connected.proofs.FineRuns.{own_spots}
 use Rattle.law_fate.specs.FateRuns.{Reached}
 use Rattle.law_fate.proofs.RunCounts.{pick}
 use Rattle.law_connected.specs.Stems as stems
-use Rattle.law_connected.specs.Stems.{HasLine, Stems, IsReaction, StemsOrReacts}
+use Rattle.law_connected.specs.Stems.{HasLine, Stems, StemsOrReacts}
 use Rattle.law_connected.specs.MessageLaws.{AllStem}
 use Rattle.law_connected.specs.Begotten.{AreRoots, IsTaken, IsReached, start, opened, entered, IsConnected, Knew, Begotten, sent, carried, Reacted, LinesConnected, TakenBegotten}
 use Rattle.law_connected.proofs.Events.{among_either, events_here, IsNobodys, nobodys_join, lost_on_nobodys, vats_nobodys, links_nobodys}

@@ -1,8 +1,8 @@
 -- In every world of a run each message stems from what was sent.
 use Rattle.std.proofs.Common.{◌≡◌, ℕ, zero, suc, Bool, true, false, List, [], ◌∷◌, ◌++◌, Option, Some, None, refl, sym, ◌∙◌, subst, map, ◌⊎◌, inl, inr, ◌==◌}
 use Rattle.std.specs.Prelude.{slice_get}
-use Rattle.def_machine.specs.Values.{Value, Null, Flag, Number, Letter, Text, Prim, Broken, Items, Ref, Name, Root, Object, host_of}
-use Rattle.def_machine.specs.State.{Message, Known, Passed, Passeds, Plain, AGift, Many, NoMore, More, Note, Deliver, Open, Ask, SettledTo, Elsewhere, Shorten, Put, Happened, Took, Settles, Views, Vat, Done, Gives, Throws, Ejects, Stops, begun}
+use Rattle.def_machine.specs.Values.{Value, Ref, Name, Root, Object, host_of}
+use Rattle.def_machine.specs.State.{Message, Known, Passed, Passeds, Plain, AGift, Many, NoMore, More, Note, Deliver, SettledTo, Elsewhere, Shorten, Put, Happened, Took, Settles, Views, Vat, Done, Gives, begun}
 use Rattle.def_machine.specs.Arrive.{Old, New, notice}
 use Rattle.def_machine.specs.Eval.{opening}
 use Rattle.law_machine.specs.Steps.{Step, Opens as Starts, Takes, Receives, Notices, does}

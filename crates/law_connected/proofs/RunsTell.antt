@@ -2,7 +2,7 @@
 use Rattle.std.proofs.Common.{◌≡◌, ℕ, zero, suc, Bool, true, false, List, [], ◌∷◌, ◌++◌, Some, None, refl, sym, subst, map, ◌⊎◌, inl, inr}
 use Rattle.std.specs.Prelude.{slice_get}
 use Rattle.def_machine.specs.Values.{Words, Value, Name, Object, Own, spot_of, same_reference, naming}
-use Rattle.def_machine.specs.State.{Binding, Cell, Made, Resolver, Known, begun, Happened, PromiseMade, Waits, Views, ObjectMade, SlotMade, SlotWrote, Vat, Done, Gives, Throws, Ejects, Stops}
+use Rattle.def_machine.specs.State.{Binding, Cell, Made, Resolver, Known, begun, Happened, PromiseMade, Waits, Views, ObjectMade, SlotMade, SlotWrote, Vat, Done, Gives, Throws}
 use Rattle.law_machine.specs.Steps.{Step, does, After}
 use Rattle.def_run.specs.World.{Script, Program, Entry, Event, Here, Link, World, Goes, event_of, events_of, put_at, put_back, readied, within, names, known_root, fresh, fresh_from, begins, open_from, steps_from}
 use Rattle.law_run.proofs.RunKeeps.{Begins, IsKeptByRuns, run_keeps, opens_keep}

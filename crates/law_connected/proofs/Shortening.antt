@@ -1,9 +1,9 @@
 -- What is opened for a note that asks for it is what the name leads to.
 use Rattle.std.proofs.Common.{◌≡◌, ℕ, Bool, true, false, [], ◌∷◌, ◌++◌, refl, sym, ap, ◌∙◌, subst, ◌==◌}
-use Rattle.def_machine.specs.Values.{Value, Null, Flag, Number, Letter, Text, Prim, Broken, Items, Ref, Naming, Spot, Own, Foreign, NoObject, IsLearnt}
+use Rattle.def_machine.specs.Values.{Value, Ref, Naming, Spot, Own, Foreign, NoObject, IsLearnt}
 use Rattle.def_machine.specs.State.{Open, Shorten, Vat, ◌>>=◌, and_then, give, look, come, send_out}
 use Rattle.def_machine.specs.Refs as refs
-use Rattle.def_machine.specs.Refs.{Place, Near, Mine, Away, Gone}
+use Rattle.def_machine.specs.Refs.{Place, Mine, Away}
 use Rattle.def_machine.specs.Arrive as arrive
 use Rattle.def_machine.specs.Arrive.{Incoming, Old, New}
 use Rattle.law_machine.specs.Steps.{Receives, does, After}

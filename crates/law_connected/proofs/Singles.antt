@@ -2,12 +2,12 @@
 use Rattle.std.proofs.Common.{◌≡◌, ℕ, zero, suc, Bool, true, false, List, [], ◌∷◌, ◌++◌, Option, Some, None, length, refl, sym, subst, inl, inr}
 use Rattle.std.specs.Prelude.{slice_get, nat_le}
 use Rattle.def_machine.specs.Values.{Words, Value, Name, Coming, Mailing, naming, same_reference}
-use Rattle.def_machine.specs.State.{Thing, Bound, Message, Standing, Unsettled, WaitsOn, Viewed, Settled, Known, Note, Open, Ask, Shorten, Put, Happened, Called, Back, Thrown, Left, Got, SlotMade, SlotRead, SlotWrote, ListMade, ListCame, EjectorMade, AuditionMade, PromiseMade, ObjectMade, Sends, Reacts, Finished, Threw, Settles, Waits, Views, Lost, Posted, Vat, tell, spend, spent, new_activation, new_thing, kill, new_slot, write_slot, new_list, enqueue, Change, Hold, Wait, WaitOn, See, React, ToTell, Settle, send_out, new_gift, open_gift, mark, draws, unless_settled, changed_to, changed, with_change, begun, alter, come, mail, new_promise, new_message, draw, new_lone_message}
+use Rattle.def_machine.specs.State.{Thing, Bound, Message, Standing, Settled, Known, Note, Open, Ask, Shorten, Put, Happened, Called, Back, Thrown, Left, Got, SlotMade, SlotRead, SlotWrote, ListMade, ListCame, EjectorMade, AuditionMade, PromiseMade, ObjectMade, Sends, Reacts, Finished, Threw, Settles, Waits, Views, Lost, Posted, Vat, tell, spend, spent, new_activation, new_thing, kill, new_slot, write_slot, new_list, enqueue, Change, Hold, Wait, WaitOn, See, React, ToTell, Settle, send_out, new_gift, open_gift, mark, draws, unless_settled, changed_to, changed, with_change, begun, alter, come, mail, new_promise, new_message, draw, new_lone_message}
 use Rattle.law_connected.specs.Known.{IsAmong, AllOf}
 use Rattle.law_connected.proofs.Knowing.{among_more}
 use Rattle.law_name.proofs.SameNames.{reference_is}
 use Rattle.law_connected.proofs.Passing.{all_end}
-use Rattle.law_connected.proofs.Moments.{Past, Line, Later, later_same, TookFine, Fine, ReactionFine, QueuedFine, NoteFine, KnownFine, Good, FineIn, good_later, known_later, Ends, Any, Brings, Does, brings_bind, brings_then, brings_ending, brings_some, brings_if, brings_give, brings_throw, brings_eject, brings_stop, brings_look, brings_each}
+use Rattle.law_connected.proofs.Moments.{Past, Line, Later, later_same, TookFine, Fine, ReactionFine, QueuedFine, NoteFine, KnownFine, Good, good_later, Ends, Any, Brings, Does, brings_bind, brings_then, brings_ending, brings_some, brings_if, brings_give, brings_throw, brings_eject, brings_stop, brings_look, brings_each}
 
 pub among_last : {A : Type 0} (xs : List A) (x : A) → IsAmong x (xs ++ x ∷ [])
 among_last [] x = inl refl

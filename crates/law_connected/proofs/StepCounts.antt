@@ -1,7 +1,7 @@
 -- The activations of every step are new.
 use Rattle.std.proofs.Common.{◌≡◌, ℕ, List, [], ◌≤◌, map, sym, subst, arith}
 use Rattle.def_machine.specs.Values.{Naming}
-use Rattle.def_machine.specs.State.{Vat, Happened, Done, Gives, Throws, Ejects, Stops}
+use Rattle.def_machine.specs.State.{Vat, Happened, Done, Gives}
 use Rattle.law_machine.specs.Steps.{Step, Opens, Takes, Receives, Notices, does, After}
 use Rattle.law_connected.specs.Activations.{begun_by, Rises, StepsCount}
 use Rattle.law_connected.proofs.Counts.{CountsBy, counts_whole, Counts, Ends}

@@ -1,7 +1,7 @@
 -- The calls of every step nest.
 use Rattle.std.proofs.Common.{◌≡◌, [], Some, ap, ◌∙◌}
 use Rattle.def_machine.specs.Values.{Naming}
-use Rattle.def_machine.specs.State.{Vat, Done, Gives, Throws, Ejects, Stops}
+use Rattle.def_machine.specs.State.{Vat, Done, Stops}
 use Rattle.law_machine.specs.Steps.{Step, Opens, Takes, Receives, Notices, does}
 use Rattle.law_connected.specs.Nesting.{Nested, StepsNest, nested_from, left_open}
 use Rattle.law_machine.proofs.Walks.{where_some}

@@ -1,8 +1,8 @@
 -- In every step, what a value is followed to is told.
 use Rattle.std.proofs.Common.{◌≡◌, ℕ, zero, suc, Bool, true, false, List, refl, inl, inr, ◌⊎◌, length}
 use Rattle.std.specs.Prelude.{codes}
-use Rattle.def_machine.specs.Values.{Value, Null, Flag, Number, Letter, Text, Prim, Broken, Items, Ref, Naming, Spot, Own, Foreign, NoObject}
-use Rattle.def_machine.specs.State.{Standing, Unsettled, WaitsOn, Viewed, Settled, Known, Happened, Vat, Done, Gives, Throws, Ejects, Stops, is_in}
+use Rattle.def_machine.specs.Values.{Value, Broken, Ref, Naming, Spot, Own, Foreign, NoObject}
+use Rattle.def_machine.specs.State.{Standing, Viewed, Settled, Known, Happened, Vat, Done, Gives, Throws, Ejects, Stops, is_in}
 use Rattle.def_machine.specs.Refs.{standing_of, led, follow_at, severed_by, severed_at, severed, follow, host_at}
 use Rattle.law_machine.specs.Steps.{Step, Opens, Takes, Receives, Notices, does, After}
 use Rattle.law_natives.specs.Natives.{IsPlain}

@@ -2,7 +2,7 @@
 use Rattle.std.proofs.Common.{◌≡◌, ℕ, Bool, true, false, List, [], ◌∷◌, ◌++◌, Option, Some, None, refl, sym, ap, ◌∙◌, inl, inr}
 use Rattle.std.specs.Prelude.{nat_le}
 use Rattle.def_machine.specs.Values.{Words, Value, Ref, Naming, Coming, Mailing}
-use Rattle.def_machine.specs.State.{Audition, Ejector, Took, Called, Back, Thrown, Left, EjectorMade, AuditionMade, Thing, Message, Standing, Unsettled, WaitsOn, Viewed, Settled, Known, Happened, Settles, Views, Vat, Stop, Done, Gives, Throws, Ejects, Stops, Act, ◌>>=◌, ◌>>◌, and_then, end_by, ending, give, throw, stop, eject, look, tell, spend, spent, new_activation, new_thing, kill, new_slot, write_slot, new_list, enqueue, Change, Hold, Wait, WaitOn, See, React, ToTell, Settle, Note, send_out, new_gift, open_gift, mark, draws, unless_settled, changed_to, changed, with_change, alter, come, mail, new_promise, new_message, draw, begun, new_lone_message}
+use Rattle.def_machine.specs.State.{Audition, Ejector, Took, Called, Back, Thrown, Left, EjectorMade, AuditionMade, Thing, Message, Standing, Viewed, Settled, Known, Happened, Settles, Views, Vat, Stop, Done, Gives, Throws, Ejects, Stops, Act, ◌>>=◌, ◌>>◌, and_then, end_by, ending, give, throw, stop, eject, look, tell, spend, spent, new_activation, new_thing, kill, new_slot, write_slot, new_list, enqueue, Change, Hold, Wait, WaitOn, See, React, ToTell, Settle, Note, send_out, new_gift, open_gift, mark, draws, unless_settled, changed_to, changed, with_change, alter, come, mail, new_promise, new_message, draw, begun, new_lone_message}
 use Rattle.def_machine.specs.Refs.{standing_in, entry_of, standing_of}
 use Rattle.law_machine.proofs.Walks.{Property, Holds, IsClosed, IsEnding, IsMild, walk_then}
 use Rattle.law_machine.proofs.Blocks.{ends_by_lines, audits_by_kills, escapes_by_kills}

@@ -1,9 +1,9 @@
 -- What arrives costs twice what it brings, and a word; and what is noticed costs nothing.
 use Rattle.std.proofs.Common.{ℕ, suc, ◌+◌, ◌≤◌, Bool, true, false, List, ◌∷◌, Option, Some, None, ◌==◌, length, arith}
-use Rattle.def_machine.specs.Values.{Words, Value, Null, Flag, Number, Letter, Text, Prim, Broken, Items, Ref, Naming}
-use Rattle.def_machine.specs.State.{Message, Standing, Unsettled, WaitsOn, Viewed, Settled, Known, Passed, Passeds, Plain, AGift, Many, NoMore, More, Note, Deliver, Open, Ask, SettledTo, Elsewhere, Shorten, Delivery, GiftEntry, Vat, Done, Gives, Throws, Ejects, Stops, Act, ◌>>=◌, and_then, give}
+use Rattle.def_machine.specs.Values.{Words, Value, Ref, Naming}
+use Rattle.def_machine.specs.State.{Message, Standing, Viewed, Settled, Known, Passed, Passeds, Plain, AGift, Many, NoMore, More, Note, Deliver, Open, Ask, SettledTo, Elsewhere, Shorten, Delivery, GiftEntry, Vat, Done, Gives, Throws, Ejects, Stops, Act, ◌>>=◌, and_then, give}
 use Rattle.def_machine.specs.Refs as refs
-use Rattle.def_machine.specs.Refs.{Place, Near, Mine, Away, Gone}
+use Rattle.def_machine.specs.Refs.{Place, Away}
 use Rattle.def_machine.specs.Arrive as arrive
 use Rattle.def_machine.specs.Arrive.{Incoming, Old, New}
 use Rattle.law_costs.specs.Sizes.{load, loads, note_load}

@@ -1,20 +1,20 @@
 -- A call costs no more than a call may, and a light one less.
 use Rattle.std.proofs.Common.{ℕ, zero, suc, ◌+◌, ◌≤◌, Bool, true, false, List, [], ◌∷◌, Option, Some, None, ◌==◌, arith}
-use Rattle.def_machine.specs.Values.{Words, Value, Null, Flag, Number, Letter, Text, Prim, Broken, Items, Ref, Naming, Spot, Own, Foreign, NoObject}
-use Rattle.def_machine.specs.State.{Binding, Scope, View, FreeName, Thing, Made, Ejector, Audition, Resolver, Standing, Unsettled, WaitsOn, Viewed, Settled, Act, throw}
+use Rattle.def_machine.specs.Values.{Words, Value, Null, Flag, Number, Letter, Text, Prim, Broken, Items, Ref, Naming, Spot, Own}
+use Rattle.def_machine.specs.State.{Binding, Scope, View, FreeName, Thing, Made, Ejector, Audition, Resolver, Standing, Unsettled, Act, throw}
 use Rattle.def_machine.specs.Free.{entry, same_words}
-use Rattle.def_machine.specs.Refs.{Place, Near, Mine, Away, Gone}
+use Rattle.def_machine.specs.Refs.{Place, Near}
 use Rattle.def_machine.specs.Form.{Item, Begin, End, Word, Fact, items_of, literal_value}
 use Rattle.def_machine.specs.Native as native
 use Rattle.def_machine.specs.Native.{primitive}
 use Rattle.def_machine.specs.Scopes as scopes
-use Rattle.def_machine.specs.Scopes.{Answer, Evaluator, Caller, Body, Case, AuditionAsk, GetsForm, GetsGuard, Asks, NoAuditionAsk, ResolverAsk, Resolves, Smashes, NoResolverAsk}
+use Rattle.def_machine.specs.Scopes.{Evaluator, Caller, Body, Case, AuditionAsk, GetsForm, GetsGuard, Asks, NoAuditionAsk, ResolverAsk, Resolves, Smashes, NoResolverAsk}
 use Rattle.def_machine.specs.Perform as perform
 use Rattle.def_machine.specs.Calls as calls
 use Rattle.def_kernel.specs.declared.node.Node.{Node}
 use Rattle.law_costs.proofs.Costs.{Prices, Costs, cost_up, cost_bind, cost_then, free_bind, free_then, look_bind, cost_give, cost_throw, cost_eject, cost_stop, cost_look, cost_if, cost_ending, cost_closing, cost_tell, cost_activation, cost_thing, cost_kill}
 use Rattle.law_costs.proofs.Refs.{free_settle, free_resolve}
-use Rattle.law_costs.proofs.Natives.{Light, Audits, Starts, Places, Pairs, verb_of, args_of, level, IsShortReply}
+use Rattle.law_costs.proofs.Natives.{Light, Audits, verb_of, args_of, level, IsShortReply}
 use Rattle.law_costs.proofs.Perform.{GoodCaller, at_most, cost_make_list, cost_full_list, cost_reply, cost_data_answer, light_data_answer, cost_perform, light_primitive}
 
 -- What evaluates the nodes below earns: ten are left of what it spent.

@@ -1,17 +1,17 @@
 -- What evaluates a node earns, as the unit that it spends pays for the node; and a turn costs a call.
 use Rattle.std.proofs.Common.{ℕ, zero, suc, ◌+◌, ◌≤◌, Bool, true, false, List, [], ◌∷◌, Option, Some, None, ◌==◌, length, arith}
 use Rattle.std.specs.Prelude.{slice_get}
-use Rattle.def_machine.specs.Values.{Words, Value, Null, Flag, Text, Prim, Items, Ref, Naming}
-use Rattle.def_machine.specs.State.{Bound, Fixed, Slot, Binding, Scope, Cell, Message, Act, ◌>>=◌, ◌>>◌, throw, eject, ending}
+use Rattle.def_machine.specs.Values.{Words, Value, Null, Flag, Text, Items, Naming}
+use Rattle.def_machine.specs.State.{Bound, Fixed, Slot, Binding, Scope, Cell, Message, Happened, Vat, Stop, Act, ◌>>=◌, ◌>>◌, give, throw, stop, eject, look, tell, new_slot, ending}
 use Rattle.def_machine.specs.Form.{items_of}
 use Rattle.def_machine.specs.Free.{BoundNoun, bound_nouns}
 use Rattle.def_machine.specs.Scopes as scopes
-use Rattle.def_machine.specs.Scopes.{Answer, Answers, Evaluator}
+use Rattle.def_machine.specs.Scopes.{Answer, Evaluator}
 use Rattle.def_machine.specs.Perform as perform
 use Rattle.def_machine.specs.Calls as calls
 use Rattle.def_machine.specs.Eval as eval
 use Rattle.def_kernel.specs.declared.node.Node.{Node}
-use Rattle.def_kernel.specs.declared.node.Node.TheVariants.{Lit, Noun, Set, Def, Call, Sequence, If, Escape, Try, Finally, Hide, MatchBind, Object, Method, Matcher, Final, Var, Any, ListPattern, Via}
+use Rattle.def_kernel.specs.declared.node.Node.TheVariants.{Lit, Any}
 use Rattle.law_costs.proofs.Costs.{Prices, paid, paid_one, Costs, cost_up, cost_bind, cost_then, free_bind, free_then, cost_give, cost_throw, cost_eject, cost_stop, cost_look, cost_some, cost_if, cost_ending, spend_then, cost_tell, cost_activation, cost_slot, cost_write}
 use Rattle.law_costs.proofs.Refs.{free_settle, free_resolve}
 use Rattle.law_costs.proofs.Perform.{GoodCaller, at_most, cost_failed, free_handed, cost_coerce}
@@ -37,10 +37,6 @@ module _ (P : Prices) {N W : Type 0} (K : Naming N W) (tree : List Node) (formed
 
   fails : {A : Type 0} (p : Words) → Costs P {N = N} 10 10 (throw {A = A} p)
   fails p = cost_up P (omega arith) (omega arith) (cost_throw P p)
-
-  -- a part of a node that costs a call
-  calling : {A B : Type 0} {m : Act N A} {f : A → Act N B} → Even m → ((a : A) → Costs P P.call P.call (f a)) → Costs P P.call P.call (m >>= f)
-  calling h k = let l = P.calls in cost_bind P h k (omega arith) (omega (arith, l)) (omega arith)
 
   called : {A B : Type 0} {m : Act N A} {f : A → Act N B} → Costs P P.call P.call m → ((a : A) → Even (f a)) → Costs P P.call P.call (m >>= f)
   called h k = cost_bind P h k (omega arith) (omega arith) (omega arith)
@@ -152,38 +148,10 @@ module _ (P : Prices) {N W : Type 0} (K : Naming N W) (tree : List Node) (formed
     write_bound act (Some (Slot k)) v = free_bind P (cost_look P _) (λ c. write_cell act k v c)
     write_bound act other v = cost_stop P _
 
-    -- what a node costs, whatever it is
-    at_node : {A : Type 0} {m : Act N A} {c d : ℕ} → c ≤ node → d ≤ node → Costs P c d m → Costs P node node m
-    at_node l k h = cost_up P l k h
-
-    even_node : {A : Type 0} {m : Act N A} → Even m → Costs P node node m
-    even_node h = at_node (omega arith) (omega arith) h
-
-    call_node : {A : Type 0} {m : Act N A} → Costs P P.call P.call m → Costs P node node m
-    call_node h = at_node (omega arith) (omega arith) h
-
     match_ended : (j p : ℕ) (here : Scope N) (m : Act N (Scope N)) → Even m → Costs P (10 + P.tree) (10 + P.tree) (eval.match_ended K tree j p here m)
     unfolding eval.match_ended
     match_ended j p here m h = cost_ending P {c3 = 10 + P.tree} {d3 = 10 + P.tree} h (λ inner. cost_leave P K tree formed j (answered inner (Flag true))) (λ t. cost_leave P K tree formed j (cost_up P (omega arith) (omega arith) (cost_throw P t)))
         (λ n v. cost_leave P K tree formed j (cost_if P (n == j) (not_matched p here v) (cost_up P (omega arith) (omega arith) (cost_eject P n v)))) (omega arith) (omega arith) (omega arith) (omega arith)
-
-    step : (id : ℕ) (n : Node) (here : Scope N) → Costs P node node (eval.step K tree rec id n here)
-    unfolding eval.step
-    step id (Lit l) here = even_node (even (answered here _))
-    step id (Noun x) here = even_node (even_bind (read_bound here.act _ x) (λ v. even (answered here v)))
-    step id (Set x e) here = call_node (calling (expression e here) (λ v. called (write_bound here.act _ v.value) (λ w. even (answered v.scope w))))
-    step id (Def p exit e) here = even_node (even_bind (exit_of exit here) (λ j. even_bind (expression e j.scope) (λ x. even_bind (pattern p x.value j.value x.scope) (λ after. even (answered after x.value)))))
-    step id (Call r verb args) here = call_node (calling (expression r here) (λ x. calling (all_of args x.scope) (λ xs. called (caller.any here.act x.value verb xs.values) (λ v. even (answered xs.scope v)))))
-    step id (Sequence es) here = even_node (last_of _ es)
-    step id (If t a b) here = even_node (even_bind (expression t here) (λ x. free_bind P (cost_look P _) (λ y. choose a b here x.scope y)))
-    step id (Escape p body c) here = at_node (omega arith) (omega arith) (cost_bind P {c = 11} {d = 11} (cost_new_ejector P K tree formed here.act) (λ j. escaped j here c _ (even_bind (pattern p (Ref (K.object j)) Null here) (λ inner. expression body inner))) (omega arith) (omega arith) (omega arith))
-    step id (Try body p h) here = even_node (tried p h here _ (expression body here))
-    step id (Finally a b) here = even_node (at_last b here _ (expression a here))
-    step id (Hide e) here = even_node (even_bind (expression e here) (λ x. even (answered here x.value)))
-    step id (MatchBind e p) here = at_node (omega arith) (omega arith) (cost_bind P {c = 11 + P.tree} {d = 11 + P.tree} (expression e here) (λ x. cost_bind P {c = 11 + P.tree} {d = 11 + P.tree} (cost_new_ejector P K tree formed here.act)
-        (λ j. match_ended j p x.scope _ (pattern p x.value (Ref (K.object j)) x.scope)) (omega arith) (omega arith) (omega arith)) (omega arith) (omega arith) (omega arith))
-    step id (Object p auditors members) here = at_node (omega arith) (omega arith) (cost_bind P {c = 11} {d = 13} (all_of auditors here) (λ xs. cost_make_object P K tree formed _ caller id _ _ xs.values xs.scope) (omega arith) (omega arith) (omega arith))
-    step id other here = cost_stop P _
 
     -- ---- patterns
 
@@ -204,15 +172,91 @@ module _ (P : Prices) {N W : Type 0} (K : Naming N W) (tree : List Node) (formed
     bind_items ps j here (Items k) = free_bind P (cost_look P _) (λ vs. bind_list ps j here vs)
     bind_items ps j here _ = failing here.act j _
 
+    -- ---- nodes
+
+    -- what a node may cost, and what is left of it behind a call or behind what comes to be
+    abbrev Whole : {A : Type 0} → Act N A → Type 0
+    Whole m = Costs P node node m
+
+    abbrev Calls : {A : Type 0} → Act N A → Type 0
+    Calls m = Costs P P.call P.call m
+
+    abbrev Rest : {A : Type 0} → Act N A → Type 0
+    Rest m = Costs P (29 + P.tree) (29 + P.tree) m
+
+    whole_even : {A : Type 0} {m : Act N A} → Even m → Whole m
+    whole_even h = cost_up P (omega arith) (omega arith) h
+
+    whole_call : {A : Type 0} {m : Act N A} → Calls m → Whole m
+    whole_call h = cost_up P (omega arith) (omega arith) h
+
+    whole_bind : {A B : Type 0} {m : Act N A} {f : A → Act N B} → Even m → ((a : A) → Whole (f a)) → Whole (m >>= f)
+    whole_bind h k = cost_bind P h k (omega arith) (omega arith) (omega arith)
+
+    whole_call_bind : {A B : Type 0} {m : Act N A} {f : A → Act N B} → Calls m → ((a : A) → Rest (f a)) → Whole (m >>= f)
+    whole_call_bind h k = cost_bind P h k (omega arith) (omega arith) (omega arith)
+
+    whole_new_bind : {A B : Type 0} {m : Act N A} {f : A → Act N B} → Costs P 11 1 m → ((a : A) → Rest (f a)) → Whole (m >>= f)
+    whole_new_bind h k = let l = P.calls in cost_bind P h k (omega (arith, l)) (omega arith) (omega (arith, l))
+
+    rest_even : {A : Type 0} {m : Act N A} → Even m → Rest m
+    rest_even h = cost_up P (omega arith) (omega arith) h
+
+    rest_bind : {A B : Type 0} {m : Act N A} {f : A → Act N B} → Even m → ((a : A) → Rest (f a)) → Rest (m >>= f)
+    rest_bind h k = cost_bind P h k (omega arith) (omega arith) (omega arith)
+
+    rest_new_bind : {A B : Type 0} {m : Act N A} {f : A → Act N B} → Costs P 11 1 m → ((a : A) → Even (f a)) → Rest (m >>= f)
+    rest_new_bind h k = cost_bind P h k (omega arith) (omega arith) (omega arith)
+
+    -- what the nodes are put together from, each with its cost
+    even_answered : (here : Scope N) (v : Value N) → Even (scopes.answered here v)
+    even_answered here v = even (answered here v)
+
+    even_give : {A : Type 0} (a : A) → Even (give a)
+    even_give a = even (cost_give P a)
+
+    even_look : {A : Type 0} (f : Vat N → A) → Even (look f)
+    even_look f = even (cost_look P f)
+
+    even_tell : (e : Happened N) → Even (tell e)
+    even_tell e = even (cost_tell P e)
+
+    even_handed : (j : Value N) → Even (perform.handed K tree j)
+    even_handed j = even (free_handed P K tree j)
+
+    stops : {A : Type 0} (c : Stop) → Whole (stop {A = A} c)
+    stops c = cost_stop P c
+
+    new_ejector : (act : ℕ) → Costs P 11 1 (calls.new_ejector K tree act)
+    new_ejector act = cost_new_ejector P K tree formed act
+
+    slot_made : (g v : Value N) → Costs P 11 1 (new_slot g v)
+    slot_made g v = cost_up P (omega arith) (omega arith) (cost_slot P g v)
+
+    calls_any : (act : ℕ) (x : Value N) (verb : Words) (args : List (Value N)) → Calls (calls.call K tree rec act x verb args)
+    calls_any act x verb args = caller.any act x verb args
+
+    coerced : (act : ℕ) (g j v : Value N) → Calls (perform.coerce K tree (calls.call K tree rec) act g j v)
+    coerced act g j v = cost_coerce P K tree _ caller act g j v
+
+    rest_matched : (j p : ℕ) (here : Scope N) (m : Act N (Scope N)) → Even m → Rest (eval.match_ended K tree j p here m)
+    rest_matched j p here m h = cost_up P (omega arith) (omega arith) (match_ended j p here m h)
+
+    whole_object : (id : ℕ) (o : Option Node) (free : List Words) (auditors : List (Value N)) (here : Scope N) → Whole (calls.make_object K tree (calls.call K tree rec) id o free auditors here)
+    whole_object id o free auditors here = let l = P.calls in cost_up P (omega (arith, l)) (omega (arith, l)) (cost_make_object P K tree formed _ caller id o free auditors here)
+
+    -- a node that is put together from these is no more text here
+    ruleset nodes = (whole_bind, whole_call_bind, whole_new_bind, whole_object, whole_call, whole_even, stops, rest_bind, rest_new_bind, rest_matched, rest_even, even_bind, then_even, even_answered, even_give, even_look, even_tell, even_handed, fails, new_ejector, slot_made, calls_any, coerced, expression, pattern, read_bound, write_bound, all_of, last_of, exit_of, caught_by, escaped, tried, at_last, choose, guard_of, bind_items)
+
+    step : (id : ℕ) (n : Node) (here : Scope N) → Costs P node node (eval.step K tree rec id n here)
+    unfolding eval.step
+    step id (Lit l) here = search nodes depth 30
+    step id other here = search nodes depth 30
+
     bind_step : (n : Node) (v j : Value N) (here : Scope N) → Costs P node node (eval.bind_step K tree rec n v j here)
     unfolding eval.bind_step
-    bind_step (Final x g) v j here = call_node (calling (guard_of g here) (λ k. called (cost_coerce P K tree _ caller here.act k.value j v) (λ y. even (cost_give P _))))
-    bind_step (Var x g) v j here = at_node (omega arith) (omega arith) (cost_bind P {c = suc P.call} {d = suc P.call} (guard_of g here) (λ k. cost_bind P {c = suc P.call} {d = suc P.call} (cost_coerce P K tree _ caller here.act k.value j v)
-        (λ y. cost_bind P {c = 11} {d = 10} (cost_slot P k.value y) (λ i. free_then P (cost_tell P _) (cost_give P _)) (omega arith) (omega arith) (omega arith)) (omega arith) (omega arith) (omega arith)) (omega arith) (let l = P.calls in omega (arith, l)) (omega arith))
-    bind_step (Any g) v j here = call_node (calling (guard_of g here) (λ k. called (cost_coerce P K tree _ caller here.act k.value j v) (λ y. even (cost_give P _))))
-    bind_step (ListPattern ps) v j here = call_node (free_bind P (cost_look P _) (λ y. bind_items ps j here y))
-    bind_step (Via e p) v j here = call_node (calling (expression e here) (λ f. free_bind P (free_handed P K tree j) (λ k. called (caller.any here.act f.value _ _) (λ y. pattern p y j f.scope))))
-    bind_step other v j here = cost_stop P _
+    bind_step (Any g) v j here = search nodes depth 30
+    bind_step other v j here = search nodes depth 30
 
     -- ---- depth
 

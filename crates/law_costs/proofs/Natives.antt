@@ -8,7 +8,7 @@ use Rattle.def_machine.specs.State.{Vat}
 use Rattle.def_machine.specs.Free.{entry, same_words}
 use Rattle.def_machine.specs.Refs.{follow, follow_at, severed}
 use Rattle.def_machine.specs.Native as native
-use Rattle.def_machine.specs.Native.{Reply, Says, Writes, Lists, Iterates, Fails, IntVerb, Applies, Negates, AsChar, NoIntVerb, FlagVerb, Both, Either, Unlike, NoFlagVerb, SeqVerb, Gets, Adds, AddsOne, Steps, NoSeqVerb, Order, Guard, AnyGuard, VoidGuard, IntGuard, BooleanGuard, CharGuard, TextGuard, ListGuard, NullGuard, NearGuard, FrozenGuard, OrNull, Primitive, MakeList, Equalizer, Comparer, Looper, Sender, References, Thrower, StampReader, Guarding, Judging, NoPrimitive, Asked, MakesList, Ranges, Same, Compares, Loops, SendsTo, CallsTo, MakesPromise, Breaks, Tells, Whens, ThrowsIt, IsStamped, Coerces, AddsNull, NoMethod, list_at}
+use Rattle.def_machine.specs.Native.{Reply, Says, Writes, Lists, Iterates, Fails, IntVerb, Applies, Negates, AsChar, FlagVerb, Both, Either, Unlike, NoFlagVerb, SeqVerb, Gets, Adds, Steps, Order, Guard, NullGuard, OrNull, Primitive, MakeList, StampReader, Guarding, Judging, NoPrimitive, Asked, MakesList, IsStamped, NoMethod, list_at}
 
 -- ---- light calls
 

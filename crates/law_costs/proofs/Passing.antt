@@ -4,7 +4,7 @@ use Rattle.std.specs.Prelude.{nat_le}
 use Rattle.def_machine.specs.Values.{Value, Null, Flag, Number, Letter, Text, Prim, Broken, Items, Ref, Naming}
 use Rattle.def_machine.specs.State.{Passed, Plain, Many, Vat}
 use Rattle.def_machine.specs.Refs as refs
-use Rattle.def_machine.specs.Refs.{Place, Near, Mine, Away, Gone, Parcel, take_room, room_behind, room_by, room_after, own_weight, most, highest, follow, shape, shape_by, shapes}
+use Rattle.def_machine.specs.Refs.{take_room, room_behind, room_by, room_after, own_weight, most, highest, follow, shape, shape_by, shapes}
 use Rattle.def_machine.specs.Native.{list_at}
 use Rattle.law_costs.specs.Sizes.{load, loads}
 

@@ -1,11 +1,11 @@
 -- What guards, data and primitives do costs a call at most.
 use Rattle.std.proofs.Common.{◌≡◌, ℕ, zero, suc, ◌+◌, ◌≤◌, Bool, true, false, List, [], ◌∷◌, Option, Some, None, pos, inl, inr, ◌⊎◌, sym, subst, length, map, codes, arith}
-use Rattle.def_machine.specs.Values.{Words, Value, Null, Flag, Number, Letter, Text, Prim, Broken, Items, Ref, Naming}
+use Rattle.def_machine.specs.Values.{Words, Value, Flag, Number, Letter, Text, Prim, Items, Ref, Naming}
 use Rattle.def_machine.specs.State.{Resolver, Vat, Act, throw}
 use Rattle.def_machine.specs.Refs as refs
-use Rattle.def_machine.specs.Refs.{Place, Near, Mine, Away, Gone}
+use Rattle.def_machine.specs.Refs.{Place, Near, Away}
 use Rattle.def_machine.specs.Native as native
-use Rattle.def_machine.specs.Native.{Reply, Says, Writes, Lists, Iterates, Fails, Guard, RefTest, IsNear, IsFar, IsResolved, IsBroken, OptProblem, Fulfillment, NoTest, Asked, MakesList, Ranges, Same, Compares, Loops, SendsTo, CallsTo, MakesPromise, Breaks, Tells, Whens, ThrowsIt, IsStamped, Coerces, AddsNull, NoMethod, list_at}
+use Rattle.def_machine.specs.Native.{Reply, Says, Writes, Lists, Iterates, Fails, Guard, RefTest, Fulfillment, Asked, MakesList, Ranges, Same, Compares, Loops, SendsTo, CallsTo, MakesPromise, Breaks, Tells, Whens, ThrowsIt, IsStamped, Coerces, AddsNull, NoMethod}
 use Rattle.def_machine.specs.Scopes.{Caller}
 use Rattle.def_machine.specs.Perform as perform
 use Rattle.def_kernel.specs.declared.node.Node.{Node}

@@ -2,7 +2,7 @@
 use Rattle.std.proofs.Common.{◌≡◌, ℕ, zero, suc, ◌+◌, ◌-◌, ◌≤◌, Bool, true, false, List, [], ◌∷◌, Option, Some, None, if◌then◌else◌, ◌==◌, refl, length, arith, leb-true}
 use Rattle.std.specs.Prelude.{nat_le}
 use Rattle.def_machine.specs.Values.{Words, Value, Naming, Coming, Mailing}
-use Rattle.def_machine.specs.State.{Change, Wait, WaitOn, Message, Put, Standing, Settled, Known, Open, SettledTo, Elsewhere, Passed, Passeds, Plain, AGift, Many, NoMore, More, Vat, Done, Gives, Throws, Ejects, Stops, Act, ◌>>=◌, ◌>>◌, and_then, give, look, spend, spent, draw, draws, drawn_at, send_out, alter, come, mail, new_promise, new_message, new_lone_message}
+use Rattle.def_machine.specs.State.{Change, Wait, WaitOn, Message, Put, Standing, Settled, Known, Open, SettledTo, Elsewhere, Passed, Passeds, Plain, AGift, Many, NoMore, More, Vat, Done, Gives, Stops, Act, ◌>>=◌, ◌>>◌, and_then, give, look, spend, spent, draw, draws, drawn_at, send_out, alter, come, mail, new_promise, new_message, new_lone_message}
 use Rattle.def_machine.specs.Refs as refs
 use Rattle.def_machine.specs.Refs.{Place, Near, Mine, Away, Gone}
 use Rattle.law_costs.specs.Sizes.{made, load, loads, note_load}

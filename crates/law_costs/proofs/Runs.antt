@@ -3,14 +3,14 @@ use Rattle.std.proofs.Common.{◌≡◌, ℕ, zero, suc, ◌+◌, ◌≤◌, Boo
 use Rattle.std.specs.Prelude.{slice_get}
 use Rattle.std.specs.List.{AllByRecursion}
 use Rattle.def_kernel.specs.declared.node.Node.{Node}
-use Rattle.def_machine.specs.Values.{Value, Prim, Name, Root}
-use Rattle.def_machine.specs.State.{Message, Passed, Passeds, Plain, AGift, Many, NoMore, More, Note, Deliver, Open, Ask, SettledTo, Elsewhere, Shorten, Put, Vat, Done, Gives, Throws, Ejects, Stops, Act}
+use Rattle.def_machine.specs.Values.{Value, Name, Root}
+use Rattle.def_machine.specs.State.{Message, Passed, Passeds, Many, NoMore, More, Note, Deliver, SettledTo, Put, Vat, Done, Gives, Throws, Act}
 use Rattle.def_machine.specs.Arrive.{notice}
 use Rattle.def_machine.specs.Eval.{opening}
 use Rattle.def_machine.specs.Form.{items_of, form_at}
 use Rattle.def_machine.specs.Free.{bound_nouns, bound_at}
 use Rattle.def_run.specs.World as world
-use Rattle.def_run.specs.World.{Script, Program, Entry, Turn, Carry, CutLink, NoticeLink, Link, Event, Opens, Turned, Idle, Carried, NoticedAt, World, Run, Goes, Stopped, begins, put_at, with_link, with_notes, is_link, link_at}
+use Rattle.def_run.specs.World.{Script, Program, Entry, Turn, Carry, CutLink, NoticeLink, Link, Event, Opens, NoticedAt, World, Run, Goes, Stopped, begins, put_at, with_link, with_notes, is_link, link_at}
 use Rattle.law_costs.specs.Sizes.{made, load, loads, note_load}
 use Rattle.law_costs.proofs.Costs.{Prices, paid, paid_more, all_end, Ends, Costs, cost_up}
 use Rattle.law_costs.proofs.Arrive.{cost_arrive, free_notice}

@@ -10,9 +10,9 @@ use Rattle.def_syntax.specs.declared.token.TokenKind.{TokenKind}
 use Rattle.def_syntax.specs.declared.token.TokenKind.TheVariants as kinds
 use Rattle.ev_integer.specs.Numerals.{number_of}
 use Rattle.ev_lexer.specs.declared.pieces.Piece.{Piece}
-use Rattle.ev_lexer.specs.declared.pieces.Piece.TheVariants.{Blank, Whole, Fault}
+use Rattle.ev_lexer.specs.declared.pieces.Piece.TheVariants.{Whole, Fault}
 use Rattle.ev_lexer.specs.declared.pieces.Start.{Start}
-use Rattle.ev_lexer.specs.declared.pieces.Start.TheVariants.{Space, LineFeed, CarriageReturn, Backslash, Hash, Slash, Quote, Apostrophe, Digit, Other}
+use Rattle.ev_lexer.specs.declared.pieces.Start.TheVariants.{LineFeed, CarriageReturn, Backslash, Slash, Quote, Apostrophe, Digit, Other}
 use Rattle.ev_lexer.specs.Words.{kind_among, operators, operator_of, or_else, longest_operator, word_kind}
 use Rattle.ev_lexer.specs.Pieces.{line_end, blank_before, blank_with, commented, comment_end, literal, text_of, character_of, bad_escape, is_one, closing, number, operator, slashed, front_word, word, word_or_operator, start, piece_of, piece}
 use Rattle.ev_lexer.proofs.Operators.{both}

@@ -1,7 +1,7 @@
 -- What arrives and what is noticed doubles no message.
 use Rattle.std.proofs.Common.{if◌then◌else◌, ◌≡◌, ℕ, ◌+◌, Bool, true, false, List, Option, Some, None, arith, length}
-use Rattle.def_machine.specs.Values.{Words, Value, Null, Flag, Number, Letter, Text, Prim, Broken, Items, Ref, Name, Naming, IsAnswer, IsCarried}
-use Rattle.def_machine.specs.State.{Standing, Unsettled, WaitsOn, Viewed, Settled, Known, Passed, Passeds, Plain, AGift, Many, NoMore, More, Note, Deliver, Open, Ask, SettledTo, Elsewhere, Shorten, GiftEntry, ◌>>=◌, ◌>>◌, ToTell, and_then, mail, give, look, come, alter}
+use Rattle.def_machine.specs.Values.{Words, Value, Ref, Name, Naming, IsAnswer, IsCarried}
+use Rattle.def_machine.specs.State.{Standing, Viewed, Settled, Known, Passed, Passeds, Plain, AGift, Many, NoMore, More, Note, Deliver, Open, Ask, SettledTo, Elsewhere, Shorten, GiftEntry, ◌>>=◌, ◌>>◌, and_then, mail, give}
 use Rattle.def_machine.specs.Refs.{Place, Away, settle, send_on}
 use Rattle.def_machine.specs.Arrive as arrive
 use Rattle.def_machine.specs.Arrive.{Incoming, Old, New}

@@ -2,8 +2,8 @@
 use Rattle.std.proofs.Common.{◌≡◌, ℕ, suc, ◌+◌, ◌≤◌, Bool, true, false, List, [], ◌∷◌, ◌++◌, Option, Some, refl, sym, arith, eqb-true, leb-true, ◌∙◌}
 use Rattle.std.specs.Prelude.{nat_le, ◌==◌, ◌&&◌}
 use Rattle.std.proofs.lemmas.Bool.{le-leb}
-use Rattle.def_machine.specs.Values.{Value, Name, Root, Object, Promise, Answer, Gift, Sent, Msg, Naming, same_name}
-use Rattle.def_machine.specs.State.{Message, Standing, Unsettled, WaitsOn, Viewed, Settled, Known, Change, Hold, Wait, WaitOn, See, React, ToTell, Settle, Put, Happened, begun, changed, changed_to, unless_settled, with_change}
+use Rattle.def_machine.specs.Values.{Value, Name, Sent, Msg, Naming, same_name}
+use Rattle.def_machine.specs.State.{Message, Standing, Settled, Known, Change, Hold, React, Settle, Put, Happened, begun, changed, changed_to, unless_settled, with_change}
 use Rattle.def_machine.specs.Refs.{entry_of}
 use Rattle.law_fate.specs.Fate.{once, one, among, at_names, sent_here, sent_in, gone_here, gone, where_cut, of_note, put_out}
 use Rattle.law_fate.specs.FateLaws.{numbered}

@@ -2,7 +2,7 @@
 use Rattle.std.proofs.Common.{◌≡◌, ℕ, zero, suc, ◌+◌, Bool, true, false, List, [], ◌∷◌, ◌++◌, Option, Some, None, ◌⊎◌, inl, inr, refl, sym, ap, arith, length, subst}
 use Rattle.std.specs.Prelude.{◌==◌}
 use Rattle.def_machine.specs.Values.{Words, Value, Null, Flag, Number, Letter, Text, Prim, Broken, Items, Ref, Name, Root, Object, Promise, Answer, Gift, Sent, Naming, IsAnswer, IsSent, Spot, Own, Foreign, NoObject, naming, mail_of}
-use Rattle.def_machine.specs.State.{Message, Standing, Unsettled, WaitsOn, Viewed, Settled, Known, Change, Hold, React, Sends, Reacts, Vat, Done, Gives, Throws, Ejects, Stops, ◌>>=◌, ◌>>◌, and_then, give, look, tell, with_change, changed, changed_to, unless_settled, alter, new_message, begun, is_in, new_lone_message}
+use Rattle.def_machine.specs.State.{Message, Standing, Unsettled, Viewed, Settled, Known, Change, Hold, React, Sends, Reacts, Vat, Done, Gives, Stops, ◌>>=◌, ◌>>◌, and_then, give, look, tell, with_change, changed, changed_to, unless_settled, alter, new_message, begun, is_in, new_lone_message}
 use Rattle.def_machine.specs.Refs as refs
 use Rattle.def_machine.specs.Refs.{Place, Near, Mine, Away, Gone, entry_of}
 use Rattle.law_fate.specs.Fate.{one, among, at_names, at_vat, account}

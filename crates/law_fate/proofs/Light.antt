@@ -2,7 +2,7 @@
 use Rattle.std.proofs.Common.{◌≡◌, ℕ, ◌+◌, ◌≤◌, Bool, true, false, List, [], ◌∷◌, ◌++◌, Option, Some, None, if◌then◌else◌, refl, sym, ap, ◌∙◌, arith, length, subst, ◌⊎◌, inl, inr}
 use Rattle.std.specs.Prelude.{nat_le}
 use Rattle.def_machine.specs.Values.{Value, Name, Naming, Coming, IsAnswer, IsGift, Mailing, name_of, answer_of, host_of}
-use Rattle.def_machine.specs.State.{Message, Standing, Unsettled, WaitsOn, Viewed, Settled, Known, Change, Hold, Wait, WaitOn, See, React, ToTell, Settle, Passed, Note, Open, Ask, SettledTo, Elsewhere, Shorten, GiftEntry, Happened, Vat, Stop, Done, Gives, Throws, Ejects, Stops, Act, ◌>>=◌, ◌>>◌, and_then, each, give, stop, look, tell, spend, spent, enqueue, send_out, new_list, new_gift, is_gift, with_opened, open_gift, mark, draws, draw, with_change, with_vat, is_in, changed, changed_to, unless_settled, alter, come, mail, begun, Put, for_some}
+use Rattle.def_machine.specs.State.{Message, Standing, Settled, Known, Change, Hold, Wait, WaitOn, See, React, ToTell, Settle, Passed, Note, Open, Ask, SettledTo, Elsewhere, Shorten, GiftEntry, Happened, Vat, Stop, Done, Gives, Stops, Act, ◌>>=◌, ◌>>◌, and_then, each, give, stop, look, tell, spend, spent, enqueue, send_out, new_list, new_gift, is_gift, with_opened, open_gift, mark, draws, draw, with_change, with_vat, is_in, changed, changed_to, unless_settled, alter, come, mail, begun, Put, for_some}
 use Rattle.def_machine.specs.Refs.{entry_of, host_in}
 use Rattle.law_fate.specs.Fate.{one, among}
 use Rattle.law_fate.specs.Lasting.{Each, NamesMessage, NamesNoObject, HeldWell}

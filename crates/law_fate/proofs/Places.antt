@@ -1,10 +1,10 @@
 -- Evaluation cares for names and for places at once: each message that it sends finds a place.
 use Rattle.std.proofs.Common.{◌≡◌, ℕ, suc, ◌+◌, ◌≤◌, ◌-◌, Bool, true, false, List, [], ◌∷◌, ◌++◌, Some, refl, ap, arith, None}
 use Rattle.std.specs.Prelude.{slice_get}
-use Rattle.def_machine.specs.Values.{Words, Value, Null, Flag, Number, Letter, Text, Prim, Broken, Items, Ref, Name, Root, Object, Promise, Answer, Gift, Sent, naming, name_of, mail_of, answer_of}
-use Rattle.def_machine.specs.State.{Message, Thing, Cell, Happened, Sends, Reacts, Vat, Done, Gives, Throws, Ejects, Stops, Act, ◌>>=◌, ◌>>◌, and_then, look, tell, give, alter, enqueue, new_message, new_promise, change, dead, holding, begun, new_lone_message}
+use Rattle.def_machine.specs.Values.{Words, Value, Null, Broken, Ref, Name, Root, Promise, Answer, Gift, Sent, naming, name_of, mail_of, answer_of}
+use Rattle.def_machine.specs.State.{Message, Thing, Cell, Happened, Sends, Reacts, Vat, Done, Gives, Stops, Act, ◌>>=◌, ◌>>◌, and_then, look, tell, give, alter, enqueue, new_message, new_promise, change, dead, holding, begun, new_lone_message}
 use Rattle.def_machine.specs.Refs as refs
-use Rattle.def_machine.specs.Refs.{Place, Near, Mine, Away, Gone}
+use Rattle.def_machine.specs.Refs.{Place, Mine, Away}
 use Rattle.law_machine.specs.Steps.{After}
 use Rattle.law_machine.proofs.Keeps.{Keeps}
 use Rattle.law_name.specs.Names.{Named, Mail, At, ValueOk, ValuesOk, MessageOk}

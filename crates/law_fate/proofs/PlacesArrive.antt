@@ -1,7 +1,7 @@
 -- What arrives and what is noticed lets what has a place last.
 use Rattle.std.proofs.Common.{if◌then◌else◌, ℕ, ◌+◌, ◌≤◌, Bool, true, false, List, [], ◌∷◌, ◌++◌, Option, Some, None, sym, arith, length, subst, refl, ◌≡◌}
-use Rattle.def_machine.specs.Values.{Words, Value, Null, Flag, Number, Letter, Text, Prim, Broken, Items, Ref, Name, Naming, IsAnswer, IsLearnt, IsCarried, name_of, mail_of}
-use Rattle.def_machine.specs.State.{Standing, Unsettled, WaitsOn, Viewed, Settled, Known, ToTell, Passed, Passeds, Plain, AGift, Many, NoMore, More, Note, Deliver, Open, Ask, SettledTo, Elsewhere, Shorten, GiftEntry, ListCame, Vat, Done, Gives, Throws, Ejects, Stops, ◌>>=◌, ◌>>◌, and_then, mail, give, look, tell, new_list, come, alter}
+use Rattle.def_machine.specs.Values.{Words, Value, Null, Flag, Number, Letter, Text, Prim, Broken, Items, Ref, Name, Naming, IsLearnt, IsCarried, name_of, mail_of}
+use Rattle.def_machine.specs.State.{Standing, Unsettled, Settled, Known, Passed, Passeds, Plain, AGift, Many, NoMore, More, Note, Deliver, Open, Ask, SettledTo, Elsewhere, Shorten, GiftEntry, ListCame, Vat, Done, Gives, Stops, ◌>>=◌, ◌>>◌, and_then, mail, give, look, tell, new_list}
 use Rattle.def_machine.specs.Refs.{Place, Away, settle, send_on, entry_of, standing_in, standing_of}
 use Rattle.def_machine.specs.Arrive as arrive
 use Rattle.def_machine.specs.Arrive.{Incoming, Old, New}

@@ -1,8 +1,8 @@
 -- What has a place and what became of it lasts through each single change.
 use Rattle.std.proofs.Common.{◌≡◌, ℕ, ◌+◌, ◌≤◌, Bool, true, false, List, [], ◌∷◌, ◌++◌, Option, Some, None, if◌then◌else◌, refl, sym, arith, length, subst}
 use Rattle.std.specs.Prelude.{nat_le}
-use Rattle.def_machine.specs.Values.{Value, Prim, Name, Naming, Coming, IsAnswer, IsGift, Mailing, spot_of, name_of, answer_of, mail_of}
-use Rattle.def_machine.specs.State.{Message, Standing, Unsettled, WaitsOn, Viewed, Settled, Known, Change, Hold, Wait, WaitOn, See, React, ToTell, Settle, Note, Open, Ask, Elsewhere, Shorten, Happened, Vat, Stop, Done, Gives, Throws, Ejects, Stops, Act, ◌>>=◌, ◌>>◌, and_then, each, give, stop, look, tell, spend, spent, enqueue, send_out, new_list, new_gift, open_gift, mark, draws, draw, with_change, changed, changed_to, unless_settled, alter, come, mail, begun, Put, for_some}
+use Rattle.def_machine.specs.Values.{Value, Name, Naming, Coming, IsAnswer, IsGift, Mailing, spot_of, name_of, answer_of, mail_of}
+use Rattle.def_machine.specs.State.{Message, Standing, Settled, Known, Change, Hold, Wait, WaitOn, See, React, ToTell, Settle, Note, Open, Ask, Elsewhere, Shorten, Happened, Vat, Stop, Done, Gives, Stops, Act, ◌>>=◌, ◌>>◌, and_then, each, give, stop, look, tell, spend, spent, enqueue, send_out, new_list, new_gift, open_gift, mark, draws, draw, with_change, changed, changed_to, unless_settled, alter, come, mail, begun, Put, for_some}
 use Rattle.law_fate.specs.Fate.{one, among, at_names, at_vat, gone_here, where_cut, of_note, account}
 use Rattle.law_fate.specs.Lasting.{NoteWell, Each, NamesMessage, NamesNoObject, HeldWell, KnownWell, AllWell}
 use Rattle.law_fate.proofs.Leads.{Ends, Leads}

@@ -1,7 +1,7 @@
 -- Every step of a vat lets what has a place last.
 use Rattle.std.proofs.Common.{◌≡◌, ℕ, Bool, true, false, List, refl, sym, ap, ◌∙◌, arith, length, subst, eqb-true, ◌&&◌, ◌==◌}
 use Rattle.def_machine.specs.Values.{Name, Naming, IsOwn, naming, name_of, same_name, same_reference, same_msg, Root, Object, Promise, Answer, Gift, Sent, Msg}
-use Rattle.def_machine.specs.State.{Message, Vat, Done, Gives, Throws, Ejects, Stops, Took, tell}
+use Rattle.def_machine.specs.State.{Message, Vat, Done, Stops, Took, tell}
 use Rattle.def_machine.specs.Eval as eval
 use Rattle.def_kernel.specs.declared.node.Node.{Node}
 use Rattle.law_machine.specs.Steps.{Step, Opens, Takes, Receives, Notices, does}

@@ -1,7 +1,7 @@
 -- Passing, sending, settling, resolving and reacting double no message.
 use Rattle.std.proofs.Common.{◌≡◌, ℕ, zero, suc, ◌+◌, ◌≤◌, Bool, true, false, List, [], ◌∷◌, ◌++◌, Option, Some, None, refl, arith, length}
 use Rattle.def_machine.specs.Values.{Words, Value, Broken, Name, Sent, Naming, IsAnswer, IsSent}
-use Rattle.def_machine.specs.State.{Message, Standing, Unsettled, WaitsOn, Viewed, Settled, Known, Settle, Passed, Passeds, Plain, AGift, Many, NoMore, More, Sends, Reacts, Settles, Happened, Vat, Act, ◌>>=◌, ◌>>◌, and_then, each, give, look, tell, enqueue, with_change, alter, new_message, begun, new_lone_message}
+use Rattle.def_machine.specs.State.{Message, Standing, Settled, Known, Settle, Passed, Passeds, Plain, AGift, Many, NoMore, More, Sends, Reacts, Settles, Happened, Vat, Act, ◌>>=◌, ◌>>◌, and_then, each, give, look, tell, enqueue, with_change, alter, new_message, begun, new_lone_message}
 use Rattle.def_machine.specs.Refs as refs
 use Rattle.def_machine.specs.Refs.{Place, Near, Mine, Away, Gone, entry_of}
 use Rattle.law_machine.specs.Steps.{After}
@@ -10,7 +10,7 @@ use Rattle.law_fate.specs.Fate.{one, among, at_vat, sent_here, gone_here, accoun
 use Rattle.law_fate.specs.FateLaws.{numbered, Accounted}
 use Rattle.law_fate.proofs.Spares.{IsSparedUnder, keeps_give, keeps_each, keeps_look}
 use Rattle.law_fate.proofs.Counts.{sent_end, gone_end, names_end, Waits, settling_frees, numbered_next}
-use Rattle.law_fate.proofs.RefsCounts.{costs_some, Owes, free, spared, after_pays, costs_more, costs_then, free_bind, free_then, then_free, costs_enqueue, costs_put, costs_lost, costs_hold, costs_react, free_come, free_promise}
+use Rattle.law_fate.proofs.RefsCounts.{costs_some, Owes, free, spared, after_pays, costs_then, free_bind, free_then, then_free, costs_enqueue, costs_put, costs_lost, costs_hold, costs_react, free_come, free_promise}
 
 module _ (cut : ℕ → Bool) (v : ℕ) (x : Name) where
   -- a settler doubles none

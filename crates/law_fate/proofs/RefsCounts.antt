@@ -6,7 +6,7 @@ use Rattle.law_machine.specs.Steps.{After}
 use Rattle.law_machine.proofs.Keeps.{Keeps}
 use Rattle.law_fate.specs.Fate.{one, at_vat, sent_here, sent_in, gone_here, where_cut, in_note, of_note, account}
 use Rattle.law_fate.specs.FateLaws.{numbered, Accounted}
-use Rattle.law_fate.proofs.Spares.{IsSpared, IsSparedUnder, TellsOfNone, spares, keeps_bind, keeps_then, keeps_each, keeps_give, keeps_look}
+use Rattle.law_fate.proofs.Spares.{IsSpared, TellsOfNone, spares}
 use Rattle.law_fate.proofs.Counts.{among_end, sent_end, gone_end, put_end, names_end, added, with_change_adds}
 
 -- so many are owed from s to t: sent, and not placed yet, or freed

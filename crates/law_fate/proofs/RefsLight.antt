@@ -2,8 +2,8 @@
 use Rattle.std.proofs.Common.{◌≡◌, ℕ, zero, suc, ◌+◌, ◌≤◌, Bool, true, false, List, [], ◌∷◌, ◌++◌, Option, Some, None, refl, sym, ◌∙◌, arith, length, subst, eqb-true, ◌⊎◌, inl, inr}
 use Rattle.std.specs.Prelude.{◌==◌}
 use Rattle.std.proofs.lemmas.Bool.{eq-eqb}
-use Rattle.def_machine.specs.Values.{Words, Value, Null, Flag, Number, Letter, Text, Prim, Broken, Items, Ref, Name, Root, Object, Promise, Answer, Gift, Sent, Naming, IsAnswer, IsSent, Own, Foreign, NoObject, spot_of, name_of, answer_of, host_of}
-use Rattle.def_machine.specs.State.{Message, Standing, Unsettled, WaitsOn, Viewed, Settled, Known, Settle, ToTell, Passed, Passeds, Plain, AGift, Many, NoMore, More, Deliver, SettledTo, Happened, Sends, Reacts, Settles, Lost, Posted, Vat, Done, Gives, Throws, Ejects, Stops, Act, ◌>>=◌, ◌>>◌, and_then, each, give, look, tell, enqueue, send_out, with_change, changed, changed_to, unless_settled, alter, new_message, begun, Delivery, new_lone_message}
+use Rattle.def_machine.specs.Values.{Words, Value, Broken, Ref, Name, Root, Object, Promise, Answer, Gift, Sent, Naming, IsAnswer, IsSent, Own, Foreign, NoObject, spot_of, name_of, answer_of, host_of}
+use Rattle.def_machine.specs.State.{Message, Standing, Settled, Known, Settle, ToTell, Passed, Passeds, Plain, AGift, Many, NoMore, More, Deliver, SettledTo, Happened, Sends, Reacts, Settles, Lost, Posted, Vat, Done, Gives, Stops, Act, ◌>>=◌, ◌>>◌, and_then, each, give, look, tell, enqueue, send_out, with_change, changed, changed_to, unless_settled, alter, new_message, begun, Delivery, new_lone_message}
 use Rattle.def_machine.specs.Refs as refs
 use Rattle.def_machine.specs.Refs.{Place, Near, Mine, Away, Gone, entry_of, host_in}
 use Rattle.law_machine.specs.Steps.{After}

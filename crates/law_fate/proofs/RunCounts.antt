@@ -4,7 +4,7 @@ use Rattle.std.specs.Prelude.{slice_get, nat_le, ◌==◌}
 use Rattle.def_machine.specs.Values.{Name, Root, Object, Promise, Answer, Gift, Sent, Msg}
 use Rattle.def_machine.specs.State.{Note, Put, Happened, Took, Sends, Reacts, Lost, Posted, Vat}
 use Rattle.def_run.specs.World as world
-use Rattle.def_run.specs.World.{Link, Event, Here, LostCut, LeftQueue, LeftHeld, LeftWait, LeftLink, World}
+use Rattle.def_run.specs.World.{Link, Event, LostCut}
 use Rattle.law_fate.specs.Fate.{once, one, total, of_note, on_link, sent_here, sent_by, took_here, took_by, lost_here, lost_by, left_by, gone_here, gone, where_cut, sent_in, put_out}
 use Rattle.law_fate.specs.FateLaws.{numbered}
 

@@ -5,7 +5,7 @@ use Rattle.std.proofs.lemmas.Bool.{eq-eqb}
 use Rattle.def_machine.specs.Values.{Name}
 use Rattle.def_machine.specs.State.{Message, Known, Note, Vat, begun}
 use Rattle.def_run.specs.World as world
-use Rattle.def_run.specs.World.{Script, Program, Entry, Event, LeftQueue, LeftHeld, LeftWait, LeftLink, Ends, Link, World, Run, Goes, Stopped, begins}
+use Rattle.def_run.specs.World.{Script, Program, Event, LeftQueue, LeftHeld, LeftWait, LeftLink, Ends, Link, World, Run, Goes, Stopped, begins}
 use Rattle.law_fate.specs.Fate.{one, total, among, at_names, at_vat, of_note, on_link, places, sent_by, sent, took_by, takes, lost_by, losses, left_by, leavings, fates}
 use Rattle.law_fate.specs.FateRuns.{Reached, EachSentOnce, EachTakenOnce, PlacesAndFates, OneFateAtMost}
 use Rattle.law_fate.proofs.RunCounts.{pick, total_append, numbered_once, AllApart}

@@ -1,14 +1,14 @@
 -- In every world of a run all is well in each vat, and with each note under way.
 use Rattle.std.proofs.Common.{◌≡◌, ℕ, zero, suc, Bool, true, false, List, [], ◌∷◌, ◌++◌, Option, Some, None, refl, inl, inr, ◌⊎◌, map, subst}
 use Rattle.std.specs.Prelude.{slice_get, ◌==◌}
-use Rattle.def_machine.specs.Values.{Value, Null, Flag, Number, Letter, Text, Prim, Broken, Items, Ref, Name, Root, Object, Promise, Answer, Gift, Sent}
-use Rattle.def_machine.specs.State.{Message, Passed, Passeds, Plain, AGift, Many, NoMore, More, Note, Deliver, Open, Ask, SettledTo, Elsewhere, Shorten, Put, Vat, Done, Gives, Throws, Ejects, Stops, begun}
+use Rattle.def_machine.specs.Values.{Value, Ref, Name, Root, Object, Promise, Answer, Gift, Sent}
+use Rattle.def_machine.specs.State.{Message, Passed, Passeds, Plain, AGift, Many, NoMore, More, Note, Deliver, Open, Ask, SettledTo, Elsewhere, Shorten, Put, Vat, Done, Gives, Throws, begun}
 use Rattle.def_machine.specs.Arrive.{Old, New, notice}
 use Rattle.def_machine.specs.Eval.{opening}
 use Rattle.law_machine.specs.Steps.{Step, Opens as Starts, Takes, Receives, Notices, does}
 use Rattle.def_run.specs.Draws.{draw_word}
 use Rattle.def_run.specs.World as world
-use Rattle.def_run.specs.World.{Script, Program, Opens, Entry, Turn, Carry, CutLink, NoticeLink, Event, Turned, Idle, Carried, CutAt, NoticedAt, Link, World, Run, Goes, Stopped, names, names_of, read_note, begins}
+use Rattle.def_run.specs.World.{Script, Program, Opens, Entry, Turn, Carry, CutLink, NoticeLink, Event, Turned, Carried, NoticedAt, Link, World, Run, Goes, Stopped, names, names_of, read_note, begins}
 use Rattle.law_fate.specs.Lasting.{Each, NoPromise, KnownWell, PassedLast, NoteWell, ComesAsNoObject, ValueComes, PassedComes, AllCome, ValueSettles, PassedSettles, NoteComes, StepComes, PlacesLast}
 use Rattle.law_fate.specs.FateRuns.{Reached}
 use Rattle.law_fate.specs.Wellness.{WorldWell, RunsStayWell}

@@ -1,7 +1,7 @@
 -- What a message weighs through every step of a vat.
 use Rattle.std.proofs.Common.{◌≡◌, ℕ, List, sym, arith, length, subst}
 use Rattle.def_machine.specs.Values.{Name, Naming, IsOwn, naming, name_of, host_of}
-use Rattle.def_machine.specs.State.{Message, Vat, Done, Gives, Throws, Ejects, Stops, Took}
+use Rattle.def_machine.specs.State.{Message, Vat, Done, Gives, Stops, Took}
 use Rattle.def_machine.specs.Eval as eval
 use Rattle.def_kernel.specs.declared.node.Node.{Node}
 use Rattle.law_machine.specs.Steps.{Step, Opens, Takes, Receives, Notices, does}

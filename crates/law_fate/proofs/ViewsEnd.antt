@@ -1,7 +1,7 @@
 -- Where the view of each name comes later among the names known, views end.
 use Rattle.std.proofs.Common.{◌≡◌, ℕ, ◌≤◌, zero, suc, Bool, true, false, List, [], ◌∷◌, ◌++◌, Option, Some, refl, sym, ap, ◌∙◌, inl, inr, ◌⊎◌, length, append_assoc, subst, arith}
-use Rattle.def_machine.specs.Values.{Prim, Name, Naming, naming}
-use Rattle.def_machine.specs.State.{Known, Standing, Unsettled, WaitsOn, Viewed, Settled, Vat}
+use Rattle.def_machine.specs.Values.{Name, Naming, naming}
+use Rattle.def_machine.specs.State.{Known, Standing, Unsettled, Viewed, Vat}
 use Rattle.def_machine.specs.Refs.{entry_of, standing_of, standing_in}
 use Rattle.law_name.specs.Names.{AllOf, IsAmong, IsEventual, names_in}
 use Rattle.law_name.proofs.Views.{LooksOn, AllLookOn}

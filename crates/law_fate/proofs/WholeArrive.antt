@@ -3,10 +3,9 @@ use mathlib.Core.Bool.{true}
 use Rattle.std.proofs.Common.{if◌then◌else◌, ◌≡◌, ℕ, ◌+◌, Bool, false, List, [], ◌∷◌, ◌++◌, Option, Some, arith, None}
 use Rattle.std.specs.Prelude.{slice_get}
 use Rattle.def_machine.specs.Values.{Words, Value, Ref, Name, naming, mail_of, host_of, IsAnswer, IsCarried}
-use Rattle.def_machine.specs.State.{ToTell, Passeds, Deliver, Vat, Done, Gives, Throws, Ejects, Stops, Act, ◌>>=◌, ◌>>◌, and_then, look, mail, come, alter}
+use Rattle.def_machine.specs.State.{ToTell, Passeds, Deliver, Vat, Done, Gives, Stops, Act, ◌>>=◌, ◌>>◌, and_then, look, mail, come, alter}
 use Rattle.def_machine.specs.Refs.{settle, send_on}
 use Rattle.def_machine.specs.Arrive as arrive
-use Rattle.def_machine.specs.Arrive.{New}
 use Rattle.def_run.specs.World as world
 use Rattle.def_run.specs.World.{read_note, read_name}
 use Rattle.law_name.specs.Names.{Named, Mail, At, PassedsOk}

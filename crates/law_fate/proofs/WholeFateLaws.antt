@@ -3,7 +3,7 @@ use Rattle.std.proofs.Common.{◌≡◌, ℕ, zero, suc, ◌+◌, ◌≤◌, Lis
 use Rattle.std.specs.Prelude.{slice_get}
 use Rattle.def_machine.specs.Values.{Name, Root}
 use Rattle.def_run.specs.World as world
-use Rattle.def_run.specs.World.{Script, Program, Entry, Event, Ends, Link, World, Run, Goes, Stopped, begins}
+use Rattle.def_run.specs.World.{Script, Program, Entry, Ends, Link, World, Run, Goes, Stopped, begins}
 use Rattle.law_name.specs.Names.{IsAmong, NoteOk}
 use Rattle.law_name.specs.Runs.{KnowsOnce}
 use Rattle.law_name.proofs.Among.{all_among, length_end}

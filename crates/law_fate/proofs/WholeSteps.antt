@@ -2,7 +2,7 @@
 use Rattle.std.proofs.Common.{◌≡◌, ℕ, suc, ◌+◌, ◌≤◌, Bool, true, false, List, [], ◌∷◌, ◌++◌, Some, refl, length, arith}
 use Rattle.std.specs.Prelude.{slice_get}
 use Rattle.def_machine.specs.Values.{Name, Root, naming}
-use Rattle.def_machine.specs.State.{Put, Message, Took, Note, Deliver, Open, Ask, SettledTo, Elsewhere, Shorten, Vat, Done, Gives, Throws, Ejects, Stops, ◌>>=◌, ◌>>◌, and_then, tell, new_activation}
+use Rattle.def_machine.specs.State.{Put, Message, Took, Note, Deliver, Open, Ask, SettledTo, Elsewhere, Shorten, Vat, Done, Gives, ◌>>=◌, ◌>>◌, and_then, tell, new_activation}
 use Rattle.def_machine.specs.Arrive.{arrive, notice}
 use Rattle.def_machine.specs.Eval as eval
 use Rattle.def_machine.specs.Calls as calls

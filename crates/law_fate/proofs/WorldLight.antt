@@ -2,11 +2,11 @@
 use Rattle.std.proofs.Common.{◌≡◌, ℕ, zero, suc, ◌+◌, ◌≤◌, Bool, true, false, List, [], ◌∷◌, ◌++◌, Option, Some, refl, sym, ap, ◌∙◌, ◌⊎◌, inl, inr, arith, subst, map}
 use Rattle.std.specs.Prelude.{slice_get, ◌==◌}
 use Rattle.std.proofs.lemmas.Bool.{eq-eqb}
-use Rattle.def_machine.specs.Values.{Value, Null, Flag, Number, Letter, Text, Prim, Broken, Items, Ref, Name, Root, Object, Promise, Answer, Gift, Sent, host_of}
+use Rattle.def_machine.specs.Values.{Value, Ref, Name, Object, host_of}
 use Rattle.def_machine.specs.State.{Passed, Passeds, Plain, AGift, Many, NoMore, More, Note, Deliver, Open, Ask, SettledTo, Elsewhere, Shorten, Put, Happened, Posted, Vat, begun}
 use Rattle.def_machine.specs.Arrive.{Old, New}
 use Rattle.def_run.specs.World as world
-use Rattle.def_run.specs.World.{Script, Program, Link, Event, LostCut, World, read_note}
+use Rattle.def_run.specs.World.{Script, Program, Link, LostCut, read_note}
 use Rattle.law_fate.specs.Fate.{one, total, among, of_note, in_note}
 use Rattle.law_fate.specs.FateLaws.{coming}
 use Rattle.law_fate.specs.Lasting.{Each}

@@ -1,9 +1,9 @@
 -- A turn, a notice, and what follows once a note is learnt put no note that asks for a gift.
 use Rattle.std.proofs.Common.{◌≡◌, ℕ, zero, suc, ◌-◌, Bool, true, false, List, [], ◌∷◌, ◌++◌, Option, Some, None, refl, sym, ap, ◌∙◌, append_assoc, append-nil, length, if◌then◌else◌}
-use Rattle.def_machine.specs.Values.{Words, Value, Broken, Ref, Name, Naming, Coming, Mailing, IsAnswer, IsSent}
-use Rattle.def_machine.specs.State.{Settles, Settle, Sends, Reacts, Binding, Message, Standing, Unsettled, WaitsOn, Viewed, Settled, Known, Change, ToTell, Passed, Passeds, Plain, AGift, Many, NoMore, More, Note, Delivery, Deliver, Open, Ask, SettledTo, Elsewhere, Shorten, Put, GiftEntry, Happened, Took, Vat, Act, ◌>>=◌, ◌>>◌, look, tell, change, dead, holding, enqueue, send_out, new_lone_message, new_gift, with_opened, open_gift, mark, drawn_at, draws, draw, with_change, alter, come, mail, new_message, begun}
+use Rattle.def_machine.specs.Values.{Words, Value, Broken, Ref, Name, Naming, Coming, Mailing, IsSent}
+use Rattle.def_machine.specs.State.{Settles, Settle, Sends, Reacts, Binding, Message, Standing, Viewed, Settled, Known, Change, Passed, Passeds, Note, Delivery, Deliver, Open, Ask, SettledTo, Elsewhere, Put, GiftEntry, Happened, Took, Vat, Act, ◌>>=◌, ◌>>◌, tell, change, dead, holding, enqueue, send_out, new_lone_message, new_gift, with_opened, open_gift, mark, drawn_at, draws, draw, with_change, alter, come, mail, new_message, begun}
 use Rattle.def_machine.specs.Refs as refs
-use Rattle.def_machine.specs.Refs.{Place, Near, Mine, Away, Gone}
+use Rattle.def_machine.specs.Refs.{Place, Away}
 use Rattle.def_machine.specs.Arrive as arrive
 use Rattle.def_machine.specs.Arrive.{Incoming, Old, New}
 use Rattle.def_machine.specs.Eval as eval

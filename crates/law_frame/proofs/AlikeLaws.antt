@@ -1,5 +1,5 @@
 -- The next note to arrive is read alike, kind by kind.
-use Rattle.std.proofs.Common.{◌≡◌, ℕ, zero, ◌<◌, false, List, ◌∷◌, Some, refl, sym, ap, subst, ◌∙◌, inl, length}
+use Rattle.std.proofs.Common.{◌≡◌, ℕ, zero, false, List, ◌∷◌, Some, refl, sym, ap, subst, ◌∙◌, inl}
 use Rattle.std.specs.Prelude.{slice_get, option_map}
 use Rattle.def_machine.specs.Values.{Words, Name, host_of, Local}
 use Rattle.def_machine.specs.State.{Passed, Passeds, Note, Delivery, Deliver, Open, Ask, SettledTo, Elsewhere, Shorten, Vat}

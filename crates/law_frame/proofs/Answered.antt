@@ -1,9 +1,9 @@
 -- A vat asks for no answer that its host told it.
 use Rattle.std.proofs.Common.{◌≡◌, ℕ, zero, ◌+◌, ◌≤◌, List, [], ◌∷◌, ◌++◌, Some, refl, sym, ap, subst, ◌∙◌, ◌⊎◌, inl, inr, length, append_assoc, arith}
 use Rattle.std.specs.Prelude.{slice_get}
-use Rattle.def_machine.specs.Values.{Name, Root, Object, Promise, Answer, Gift, Sent, Msg, answer_of}
-use Rattle.def_machine.specs.State.{Note, Deliver, Open, Ask, SettledTo, Elsewhere, Shorten, Put, Vat}
-use Rattle.law_machine.specs.Steps.{Step, Opens as Starts, Takes, Receives, Notices}
+use Rattle.def_machine.specs.Values.{Name, Answer, Sent, Msg, answer_of}
+use Rattle.def_machine.specs.State.{Note, Deliver, Ask, Put, Vat}
+use Rattle.law_machine.specs.Steps.{Step, Receives}
 use Rattle.def_run.specs.World as world
 use Rattle.def_run.specs.World.{Script, Program, Entry, Link, World, Goes as Going, names_of, read_note, link_at}
 use Rattle.law_reference.specs.Logs as wire
@@ -23,7 +23,7 @@ use Rattle.law_reference.proofs.Legs.{ApartIn}
 use Rattle.law_reference.proofs.LegFacts.{new_nowhere}
 use Rattle.law_reference.proofs.LegRuns.{Before, self_none, stands_of}
 use Rattle.law_reference.proofs.LegMoves.{first_weight, sound_note_of, opened_before, stepped_before}
-use Rattle.law_reference.proofs.Moves.{Moved, Still, Severs, Drops, Steps, Arrives, IsAlone, Does, get_mid, entry_moves, opening_moves, steps_end, opens_end}
+use Rattle.law_reference.proofs.Moves.{Moved, Steps, Arrives, IsAlone, Does, get_mid, entry_moves, opening_moves, steps_end, opens_end}
 use Rattle.law_reference.proofs.Places.{note_most, note_least}
 use Rattle.law_reference.proofs.SingleRuns.{opened_both, stepped_both}
 use Rattle.law_name.proofs.SameNames.{same_self}

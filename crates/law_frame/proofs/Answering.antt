@@ -1,10 +1,10 @@
 -- The answer that a message asks for comes to be known right behind what was read of the note.
 use Rattle.std.proofs.Common.{◌≡◌, ℕ, Bool, true, false, List, [], ◌∷◌, ◌++◌, Some, None, refl, ap, ◌∙◌}
 use Rattle.def_machine.specs.Values.{Words, Value, Ref, Name, Naming, naming, name_of, mail_of, answer_of, host_of}
-use Rattle.def_machine.specs.State.{ToTell, Passeds, Delivery, Deliver, Vat, Done, Gives, Throws, Ejects, Stops, Act, ◌>>=◌, ◌>>◌, and_then, look, come, mail, alter, begun}
+use Rattle.def_machine.specs.State.{ToTell, Passeds, Delivery, Deliver, Vat, Done, Gives, Stops, Act, ◌>>=◌, ◌>>◌, and_then, look, come, mail, alter, begun}
 use Rattle.def_machine.specs.Refs as refs
 use Rattle.def_machine.specs.Arrive as arrive
-use Rattle.def_machine.specs.Arrive.{Incoming, New}
+use Rattle.def_machine.specs.Arrive.{New}
 use Rattle.def_run.specs.World as world
 use Rattle.law_machine.specs.Steps.{After}
 use Rattle.law_machine.proofs.Keeps.{Keeps, IsKept, IsKeptUnder, keeps_bind, keeps_then, keeps_alter}

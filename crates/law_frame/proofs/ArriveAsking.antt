@@ -1,8 +1,8 @@
 -- What a vat learns from a note comes to be known, and what else comes to be known as it arrives is the vat's own or asked for; so it is of a notice.
 use Rattle.std.proofs.Common.{◌≡◌, ℕ, Bool, true, false, List, [], ◌∷◌, ◌++◌, Option, Some, None, refl, sym, ap, subst, ◌∙◌, ◌⊎◌, inl, inr, if◌then◌else◌, ◌==◌, append-nil, codes}
 use Rattle.std.proofs.lemmas.Bool.{eqb-true}
-use Rattle.def_machine.specs.Values.{Words, Value, Null, Flag, Number, Letter, Text, Prim, Broken, Items, Ref, Name, Root, Object, Promise, Answer, Gift, Sent, same_reference, Naming, IsAnswer, naming, name_of, mail_of, answer_of, host_of, under}
-use Rattle.def_machine.specs.State.{Standing, Unsettled, WaitsOn, Viewed, Settled, Known, ToTell, Passed, Passeds, Plain, AGift, Many, NoMore, More, Note, Delivery, Deliver, Open, Ask, SettledTo, Elsewhere, Shorten, Put, GiftEntry, Vat, Done, Gives, Throws, Ejects, Stops, Act, ◌>>=◌, ◌>>◌, and_then, give, look, come, mail, alter, send_out, new_gift, open_gift, is_gift, is_in, begun}
+use Rattle.def_machine.specs.Values.{Words, Value, Broken, Ref, Name, Object, Gift, Sent, same_reference, Naming, IsAnswer, naming, name_of, mail_of, answer_of, host_of, under}
+use Rattle.def_machine.specs.State.{Standing, Viewed, Settled, Known, ToTell, Passed, Passeds, Plain, AGift, Many, NoMore, More, Note, Delivery, Deliver, Open, Ask, SettledTo, Elsewhere, Shorten, Put, GiftEntry, Vat, Done, Gives, Throws, Ejects, Stops, Act, ◌>>=◌, ◌>>◌, and_then, give, look, come, mail, alter, send_out, new_gift, open_gift, is_gift, is_in, begun}
 use Rattle.def_machine.specs.Refs as refs
 use Rattle.def_machine.specs.Refs.{Place, Away, host_at}
 use Rattle.def_machine.specs.Arrive as arrive

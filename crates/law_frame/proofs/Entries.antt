@@ -11,7 +11,7 @@ use Rattle.law_machine.specs.Laws.{SameNames, SameMails}
 use Rattle.law_machine.proofs.StepLaws.{names_stays, mails_stays}
 use Rattle.def_run.specs.Draws.{draw_word}
 use Rattle.def_run.specs.World as world
-use Rattle.def_run.specs.World.{Script, Entry, Turn, Carry, CutLink, NoticeLink, Event, Turned, Idle, Carried, NoticedAt, Link, World, Run, Goes as Going, Stopped, readied, names_of, read_note, link_at, put_at}
+use Rattle.def_run.specs.World.{Script, Entry, Turn, Carry, CutLink, NoticeLink, Turned, Idle, Carried, NoticedAt, Link, World, Goes as Going, readied, names_of, read_note, link_at, put_at}
 use Rattle.law_name.specs.Runs.{KnowsOnce}
 use Rattle.law_reference.specs.Cuts.{NoticesFollowCuts}
 use Rattle.def_machine.specs.Maps as maps

@@ -1,7 +1,7 @@
 -- What was exported keeps its position where nothing of it is asked for later.
 use Rattle.std.proofs.Common.{◌≡◌, ℕ, zero, suc, ◌+◌, Bool, true, false, List, [], ◌∷◌, ◌++◌, Option, Some, None, refl, sym, ap, subst, ◌∙◌, ◌⊎◌, inl, inr, length, ◌==◌, append_assoc, append-nil}
 use Rattle.std.specs.Prelude.{slice_get}
-use Rattle.def_machine.specs.Values.{answer_of, Value, Null, Flag, Number, Letter, Text, Prim, Broken, Items, Ref, Name, host_of, Local}
+use Rattle.def_machine.specs.Values.{answer_of, Value, Ref, Name, host_of, Local}
 use Rattle.def_machine.specs.State.{Passed, Passeds, Plain, AGift, Many, NoMore, More, Note, Deliver, Open, Ask, SettledTo, Elsewhere, Shorten, Vat}
 use Rattle.def_run.specs.World as world
 use Rattle.def_run.specs.World.{Script, Program, Entry, Link, World, Goes as Going, link_at, has_name, pushed, with_notes, severed_link, with_link, push_all}

@@ -1,19 +1,18 @@
 -- Connections grow by each step of a run.
-use Rattle.std.proofs.Common.{◌≡◌, ℕ, suc, ◌≤◌, Bool, true, false, List, [], ◌∷◌, ◌++◌, Option, Some, None, refl, sym, ap, subst, ◌∙◌, ◌==◌, length, arith}
-use Rattle.std.specs.Prelude.{slice_get}
+use Rattle.std.proofs.Common.{◌≡◌, ℕ, Bool, true, false, List, [], ◌∷◌, ◌++◌, Option, Some, None, refl, sym, ap, subst, ◌∙◌, ◌==◌, arith}
 use Rattle.std.proofs.lemmas.Bool.{eqb-true}
 use Rattle.def_op.specs.Frames.{Operation}
-use Rattle.def_machine.specs.Values.{Value, Null, Flag, Number, Letter, Text, Prim, Broken, Items, Ref, Name, Root}
-use Rattle.def_machine.specs.State.{Passed, Passeds, Plain, AGift, Many, NoMore, More, Note, Deliver, Open, Ask, SettledTo, Elsewhere, Shorten, Put, Vat, Done, Gives, Throws, Ejects, Stops}
+use Rattle.def_machine.specs.Values.{Value, Ref, Name, Root}
+use Rattle.def_machine.specs.State.{Passed, Passeds, Plain, AGift, Many, NoMore, More, Note, Deliver, Open, Ask, SettledTo, Elsewhere, Shorten, Put, Vat, Done, Gives}
 use Rattle.def_machine.specs.Arrive.{Incoming}
 use Rattle.def_run.specs.Connections as tables
 use Rattle.def_run.specs.Connections.{Connection, Sight, Stage, Heard}
 use Rattle.def_run.specs.Wire as wire
 use Rattle.def_run.specs.Wire.{Connected, connected_at}
 use Rattle.def_run.specs.World as world
-use Rattle.def_run.specs.World.{Script, Program, Entry, Event, Opens, Turned, Idle, Carried, CutAt, NoticedAt, Here, LostCut, LeftQueue, LeftHeld, LeftWait, LeftLink, Ends, Link, World, Goes}
+use Rattle.def_run.specs.World.{Script, Event, Opens, Turned, Idle, Carried, CutAt, NoticedAt, Here, LostCut, LeftQueue, LeftHeld, LeftWait, LeftLink, Ends, World, Goes}
 use Rattle.law_machine.specs.Steps.{Step, does}
-use Rattle.law_run.proofs.RunKeeps.{IsKeptByRuns, run_keeps, opens_keep, Begins}
+use Rattle.law_run.proofs.RunKeeps.{IsKeptByRuns, run_keeps, opens_keep}
 use Rattle.law_frame.specs.Growing.{IsFront, TablesGrow, ConnectedGrows, AllGrow, NumbersStay}
 use Rattle.law_frame.proofs.Lists.{front_same, front_more, front_trans}
 use Rattle.law_frame.proofs.Hears.{Later, note_later}

@@ -1,11 +1,11 @@
 -- What is read moves no position.
-use Rattle.std.proofs.Common.{◌≡◌, ℕ, Bool, true, false, List, [], ◌∷◌, ◌++◌, Option, Some, None, refl, length, ◌==◌}
+use Rattle.std.proofs.Common.{ℕ, Bool, true, false, List, [], ◌∷◌, Option, Some, None, length, ◌==◌}
 use Rattle.std.specs.Prelude.{slice_get}
 use Rattle.def_op.specs.Frames as op
 use Rattle.def_op.specs.Frames.{Described, Members, Outcome, Operation}
 use Rattle.def_machine.specs.Values.{key}
-use Rattle.def_machine.specs.State.{Passed, Passeds, Note, Many, More, SettledTo, Deliver, Open, Shorten, NoMore, Ask, Elsewhere}
-use Rattle.def_machine.specs.Arrive.{Incoming, Old, New}
+use Rattle.def_machine.specs.State.{Many, More, Deliver, Shorten, Elsewhere}
+use Rattle.def_machine.specs.Arrive.{Incoming, Old}
 use Rattle.def_run.specs.Connections as read
 use Rattle.def_run.specs.Connections.{Connection, Stage, Newcomers, Heard, Hearing}
 use Rattle.law_frame.specs.Growing.{IsFront}

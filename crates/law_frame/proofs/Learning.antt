@@ -1,11 +1,11 @@
 -- Where names are known once, a note that arrives asks for gifts that are new, in front of all that names them.
 use Rattle.std.proofs.Common.{◌≡◌, ℕ, suc, Bool, true, false, List, [], ◌∷◌, ◌++◌, Option, Some, None, refl, sym, ap, subst, ◌∙◌, ◌⊎◌, inl, inr, append_assoc, append-nil, if◌then◌else◌, length, ◌==◌, codes}
 use Rattle.def_machine.specs.Values.{Words, Value, Null, Flag, Number, Letter, Text, Prim, Broken, Items, Ref, Name, Gift, same_reference, Naming, IsGift, IsAnswer, naming, name_of, mail_of, host_of, key, under}
-use Rattle.def_machine.specs.State.{Stop, Known, ToTell, open_gift, Settle, Passed, Passeds, Plain, AGift, Many, NoMore, More, Note, Delivery, Deliver, Open, Ask, SettledTo, Elsewhere, Shorten, Put, Settles, ListCame, Vat, Done, Gives, Throws, Ejects, Stops, Act, ◌>>=◌, ◌>>◌, and_then, give, look, tell, each, come, mail, draw, draws, new_list, send_out, alter, with_change, is_in, begun}
+use Rattle.def_machine.specs.State.{Stop, Known, ToTell, open_gift, Settle, Passed, Passeds, Plain, AGift, Many, NoMore, More, Note, Delivery, Deliver, Open, Ask, SettledTo, Elsewhere, Shorten, Put, Settles, ListCame, Vat, Done, Gives, Stops, Act, ◌>>=◌, ◌>>◌, and_then, give, look, tell, each, come, mail, draw, draws, new_list, send_out, alter, with_change, is_in, begun}
 use Rattle.def_machine.specs.Refs as refs
 use Rattle.def_machine.specs.Refs.{entry_of, host_at}
 use Rattle.def_machine.specs.Arrive as arrive
-use Rattle.def_machine.specs.Arrive.{Incoming, Old, New}
+use Rattle.def_machine.specs.Arrive.{Old, New}
 use Rattle.def_run.specs.World as world
 use Rattle.law_machine.specs.Steps.{After}
 use Rattle.law_machine.proofs.Keeps.{Keeps, IsKept, IsKeptUnder, keeps_bind, keeps_then, keeps_if, keeps_give, keeps_look, keeps_come, keeps_alter, keeps_open}

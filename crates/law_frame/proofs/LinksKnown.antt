@@ -3,7 +3,7 @@ use Rattle.std.proofs.Common.{◌≡◌, ℕ, Bool, true, false, List, [], ◌�
 use Rattle.std.specs.Prelude.{slice_get}
 use Rattle.std.proofs.lemmas.Bool.{eqb-true}
 use Rattle.def_machine.specs.Values.{Name, Gift}
-use Rattle.def_machine.specs.State.{Note, Deliver, Open, Ask, SettledTo, Elsewhere, Shorten, Put, Vat}
+use Rattle.def_machine.specs.State.{Note, Deliver, Ask, Put, Vat}
 use Rattle.def_run.specs.World as world
 use Rattle.def_run.specs.World.{Link}
 use Rattle.law_name.specs.Names.{AllOf, IsAmong, IsMessageName, IsKnownIn, names_in}

@@ -6,15 +6,13 @@ use Rattle.def_op.specs.Frames as op
 use Rattle.def_op.specs.declared.op.Plain.TheVariants as plain
 use Rattle.def_op.specs.declared.op.Plain.{Plain as Fact}
 use Rattle.def_op.specs.Frames.{Described, Members, Outcome, Operation}
-use Rattle.def_machine.specs.Values.{Value, Broken, Ref, Name, Local, key}
-use Rattle.def_machine.specs.State.{Passed, Passeds, Plain, AGift, Many, NoMore, More, Note, Delivery, Deliver, Open, Ask, SettledTo, Elsewhere, Shorten}
+use Rattle.def_machine.specs.Values.{Broken, key}
+use Rattle.def_machine.specs.State.{Passed, Passeds, Plain, Many, NoMore, More, Note, Delivery, Deliver, Open, Ask, SettledTo, Elsewhere, Shorten}
 use Rattle.def_machine.specs.Arrive.{Incoming, Old, New}
 use Rattle.def_run.specs.Connections as read
 use Rattle.def_run.specs.Connections.{Connection, Learnt, Stage, Newcomers, Heard, Hearing}
 use Rattle.def_machine.specs.Maps as maps
 use Rattle.def_machine.specs.Maps.{incoming}
-use Rattle.law_renaming.specs.Renaming.{Wire}
-use Rattle.law_renaming.specs.Stands.{Found}
 use Rattle.law_frame.specs.Together.{changed_tables, changed_gift, changed_stage, changed_heard, changed_newcomers, GoTogether, ReadingsGoTogether}
 
 module _ {N M W V : Type 0} (f : N → M) (g : W → V) (object : N → Bool) (other : M → Bool) (me peer : ℕ) (F : Newcomers N W) (alike : (n : N) → other (f n) ≡ object n) (c : Connection N) where

@@ -1,18 +1,18 @@
 -- A vat asks for no gift of a draw that was made and that does not pass in the note that arrives: a care for names.
-use Rattle.std.proofs.Common.{◌≡◌, ℕ, zero, suc, Bool, true, false, List, [], ◌∷◌, ◌++◌, Option, Some, None, length, ◌==◌, refl, sym, ap, subst, ◌∙◌, arith}
+use Rattle.std.proofs.Common.{◌≡◌, ℕ, zero, Bool, true, false, List, [], ◌∷◌, ◌++◌, Option, Some, None, ◌==◌, refl, sym, ap, subst, ◌∙◌, arith}
 use Rattle.std.proofs.lemmas.Bool.{eq-eqb}
-use Rattle.def_machine.specs.Values.{Value, Null, Flag, Number, Letter, Text, Prim, Broken, Items, Ref, Name, Spot, Own, Foreign, NoObject, Naming, naming, name_of, mail_of, answer_of, spot_of, host_of, IsLearnt, key, word_of, under}
-use Rattle.def_machine.specs.State.{Bound, Fixed, Slot, Binding, Cell, Freedom, IsSafe, IsItself, IsFinal, IsVar, FreeName, View, Thing, Made, Ejector, Audition, Resolver, Message, Standing, Unsettled, WaitsOn, Viewed, Settled, Known, See, Views, Passed, Passeds, Plain, AGift, Many, NoMore, More, Note, Deliver, Open, Ask, SettledTo, Elsewhere, Shorten, Put, GiftEntry, Vat, Done, Gives, Act, come, mail, draw, draws, drawn_at, alter, begun, WhereSome}
+use Rattle.def_machine.specs.Values.{Value, Null, Ref, Name, Spot, Own, Foreign, NoObject, Naming, naming, name_of, mail_of, answer_of, spot_of, host_of, IsLearnt, key, word_of, under}
+use Rattle.def_machine.specs.State.{Bound, Fixed, Slot, Binding, Cell, Freedom, IsFinal, FreeName, View, Thing, Made, Audition, Message, Standing, Settled, Known, See, Views, Passed, Passeds, Plain, AGift, Many, NoMore, More, Note, Deliver, Open, Ask, SettledTo, Elsewhere, Shorten, Put, GiftEntry, Vat, Done, Gives, Act, come, mail, draw, draws, drawn_at, alter, begun, WhereSome}
 use Rattle.def_machine.specs.Refs as refs
-use Rattle.def_machine.specs.Refs.{Place, Mine, Away, host_at}
+use Rattle.def_machine.specs.Refs.{Mine, Away, host_at}
 use Rattle.def_machine.specs.Arrive as arrive
-use Rattle.def_machine.specs.Arrive.{Old, New}
+use Rattle.def_machine.specs.Arrive.{New}
 use Rattle.def_machine.proofs.Keys.{word_under_key}
 use Rattle.law_machine.specs.Steps.{Step, Opens as Starts, Takes, Receives, Notices, does}
 use Rattle.def_run.specs.Draws.{draw_word}
 use Rattle.def_run.specs.World as world
-use Rattle.def_run.specs.World.{Script, Program, World, names, read_note, names_of, readied}
-use Rattle.law_name.specs.Names.{Bit, Named, Mail, Drew, At, Off, Entered, Owns, Gave, WasDrawn, AllOf, NameOk, ValueOk, ValuesOk, MessageOk, StandingOk, EntryOk, KnownOk, CellOk, FreedomOk, ViewOk, BoundOk, NounOk, ThingOk, GiftOk, NoteOk, PutOk, Parts}
+use Rattle.def_run.specs.World.{Script, World, names, read_note, names_of, readied}
+use Rattle.law_name.specs.Names.{Bit, Gave, WasDrawn, AllOf, NameOk, ValueOk, ValuesOk, MessageOk, StandingOk, EntryOk, KnownOk, CellOk, FreedomOk, ViewOk, BoundOk, NounOk, ThingOk, GiftOk, NoteOk, PutOk, Parts}
 use Rattle.law_name.proofs.Facts.{PlaceOk, Fact, Nothing, Also, IsName, IsMail, IsGiven, IsVat, IsValue, nothing}
 use Rattle.law_name.proofs.Care.{Care, Under, Giving, Makes, Sound, Ends, Gets, Fine, fine_bind, fine_less, fine_then, fine_more, fine_give, fine_look, fine_tell, fine_out, fine_wait, come_gift, changes_ok, with_known}
 use Rattle.law_name.proofs.CareArrive.{Gifts, gifts_by, fine_ask_for, fine_gift_there}

@@ -1,18 +1,18 @@
 -- Each object of another vat that a vat has in hand was told to it.
 use Rattle.std.proofs.Common.{◌≡◌, ℕ, Bool, true, false, List, [], ◌∷◌, refl, ◌⊎◌, inl, inr, ◌==◌}
 use Rattle.def_machine.specs.Values as values
-use Rattle.def_machine.specs.Values.{Value, Null, Flag, Number, Letter, Text, Prim, Broken, Items, Ref, Name, Root, Object, Promise, Answer, Gift, Sent, Spot, Own, Foreign, NoObject, Naming, naming, name_of, mail_of, answer_of, spot_of, host_of}
-use Rattle.def_machine.specs.State.{Binding, Message, See, Passed, Passeds, Plain, AGift, Many, NoMore, More, Note, Deliver, Open, Ask, SettledTo, Elsewhere, Shorten, Views, Vat, Done, Gives, Throws, Ejects, Stops, give, come, mail, alter, begun}
+use Rattle.def_machine.specs.Values.{Value, Null, Flag, Number, Letter, Text, Prim, Broken, Items, Ref, Name, Object, Sent, Spot, Own, Foreign, NoObject, Naming, naming, name_of, mail_of, answer_of, spot_of, host_of}
+use Rattle.def_machine.specs.State.{Binding, Message, See, Passed, Passeds, Plain, AGift, Many, NoMore, More, Note, Deliver, Open, Ask, SettledTo, Elsewhere, Shorten, Views, Vat, Done, Gives, give, come, mail, alter, begun}
 use Rattle.def_machine.specs.Scopes.{any_guard}
 use Rattle.def_machine.specs.Refs as refs
-use Rattle.def_machine.specs.Refs.{Place, Mine, Away, host_at}
+use Rattle.def_machine.specs.Refs.{Mine, Away, host_at}
 use Rattle.def_machine.specs.Arrive as arrive
-use Rattle.def_machine.specs.Arrive.{Incoming, Old, New}
+use Rattle.def_machine.specs.Arrive.{Old, New}
 use Rattle.def_machine.specs.Eval as eval
 use Rattle.def_kernel.specs.declared.node.Node.{Node}
 use Rattle.def_run.specs.World as world
 use Rattle.def_run.specs.World.{Program}
-use Rattle.law_name.specs.Names.{Bit, Named, Mail, Drew, At, Off, Entered, Owns, Gave, AllOf, IsAmong, IsMessageName, NounOk, KnownOk, Parts}
+use Rattle.law_name.specs.Names.{Bit, Named, Mail, Entered, Owns, AllOf, IsAmong, IsMessageName, NounOk, KnownOk, Parts}
 use Rattle.law_name.proofs.Facts.{all_end, PlaceOk, Fact, Nothing, Also, IsName, IsMail, IsDraw, IsVat, IsValue, AreValues, AreNouns, IsMessage, nothing}
 use Rattle.law_name.proofs.Care.{Care, Under, Giving, Makes, Gets, Fine, Ends, fine_bind, fine_less, fine_then, fine_give, fine_look, fine_tell, fine_out, fine_draw, fine_wait, come_gift, changes_ok, begun_ok}
 use Rattle.law_name.proofs.SameNames.{reference_is}

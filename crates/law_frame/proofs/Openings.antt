@@ -1,7 +1,7 @@
 -- What the opening turn of a vat makes of it in its own numbers.
 use Rattle.std.proofs.Common.{◌≡◌, ℕ, zero, suc, ◌+◌, ◌≤◌, List, [], ◌∷◌, ◌++◌, Option, Some, None, refl, sym, ap, subst, ◌∙◌, length, map, append_assoc, arith}
 use Rattle.std.specs.Prelude.{slice_get}
-use Rattle.def_machine.specs.Values.{Name, Root, Prim, Local, Prom, naming, numbering}
+use Rattle.def_machine.specs.Values.{Name, Root, Local, Prom, naming, numbering}
 use Rattle.def_machine.specs.State.{Vat, Gives, begun}
 use Rattle.def_machine.specs.Scopes.{any_guard}
 use Rattle.def_machine.specs.Eval.{opening}

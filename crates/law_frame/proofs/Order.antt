@@ -1,7 +1,7 @@
 -- A note asks for a gift before any note names it.
 use Rattle.std.proofs.Common.{◌≡◌, ℕ, List, [], ◌∷◌, ◌++◌, refl, sym, subst, ◌⊎◌, inl, inr, append-nil}
 use Rattle.def_machine.specs.Values.{Name, Root, Object, Promise, Answer, Gift, Sent}
-use Rattle.def_machine.specs.State.{Note, Deliver, Open, Ask, SettledTo, Elsewhere, Shorten, Put}
+use Rattle.def_machine.specs.State.{Note, Ask, Put}
 use Rattle.law_name.specs.Names.{AllOf, IsAmong, IsKnownIn, IsEventual}
 use Rattle.law_frame.specs.Asked.{told_in}
 use Rattle.law_frame.proofs.Grow.{among_left, among_right}

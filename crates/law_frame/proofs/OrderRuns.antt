@@ -7,7 +7,7 @@ use Rattle.def_machine.specs.State.{Note, Put, Vat}
 use Rattle.law_machine.specs.Steps.{Step, Opens as Starting, Takes, Receives, Notices, does}
 use Rattle.def_run.specs.Draws.{draw_word}
 use Rattle.def_run.specs.World as world
-use Rattle.def_run.specs.World.{Script, Program, Entry, Link, World, Run, Goes as Going, Stopped, names, names_of, read_note, readied, put_at, push_all, with_link, with_notes, severed_link}
+use Rattle.def_run.specs.World.{Script, Program, Entry, Link, World, Run, Goes as Going, Stopped, names, names_of, readied, push_all, with_link, with_notes, severed_link}
 use Rattle.law_fate.proofs.Leads.{Leads, Ends}
 use Rattle.law_name.specs.Names.{AllOf, IsAmong, Once, names_in}
 use Rattle.law_name.specs.Runs.{KnowsOnce}

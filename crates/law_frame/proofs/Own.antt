@@ -3,7 +3,7 @@ use Rattle.std.proofs.Common.{◌≡◌, ℕ, zero, suc, Bool, true, false, List
 use Rattle.std.specs.Prelude.{slice_get, option_map}
 use Rattle.std.proofs.lemmas.Bool.{eqb-true, eq-eqb}
 use Rattle.def_machine.specs.Values.{Name, Local}
-use Rattle.def_machine.specs.State.{Known, Vat, Done, Gives, Throws, Ejects, Stops}
+use Rattle.def_machine.specs.State.{Known, Vat, Done, Gives}
 use Rattle.law_machine.specs.Steps.{After}
 use Rattle.law_machine.specs.Laws.{SameNames, SameMails}
 use Rattle.def_run.specs.World.{World, put_at}

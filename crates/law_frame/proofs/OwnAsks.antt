@@ -2,11 +2,11 @@
 use Rattle.std.proofs.Common.{◌≡◌, ℕ, Bool, true, false, List, [], ◌∷◌, ◌++◌, Option, Some, None, refl, sym, subst, ◌∙◌}
 use Rattle.std.specs.Prelude.{slice_get}
 use Rattle.def_machine.specs.Values.{Name, Root}
-use Rattle.def_machine.specs.State.{Message, Note, Put, Vat, Done, Gives, Throws, Ejects, Stops}
+use Rattle.def_machine.specs.State.{Message, Note, Put, Vat, Done, Gives}
 use Rattle.def_machine.specs.Arrive as arrive
 use Rattle.def_machine.specs.Eval.{opening, taking}
 use Rattle.def_run.specs.World as world
-use Rattle.def_run.specs.World.{Script, Program, Opens, Entry, Turn, Carry, CutLink, NoticeLink, Event, Turned, Idle, Carried, NoticedAt, Link, World, Run, Goes as Going, Stopped, readied, names_of, read_note, link_at, put_at, push_all, with_link, with_notes, severed_link}
+use Rattle.def_run.specs.World.{Script, Opens, Entry, Turn, Carry, CutLink, NoticeLink, Event, Turned, Idle, Carried, NoticedAt, Link, World, Goes as Going, readied, names_of, read_note, link_at, put_at, push_all, with_link, with_notes, severed_link}
 use Rattle.law_reference.specs.Logs as wire
 use Rattle.law_name.specs.Names.{IsAmong}
 use Rattle.law_reference.proofs.LinksCut.{fits_notes, fits_severed}

@@ -1,13 +1,13 @@
 -- A note is written by the numbers of a vat as in names.
-use Rattle.std.proofs.Common.{◌≡◌, ℕ, Bool, true, false, Option, Some, None, refl, sym, ap, ◌∙◌, ◌==◌}
-use Rattle.def_machine.specs.Values.{Name, Root, Object, Promise, Answer, Gift, Sent, host_of, same_name, same_reference, answer_of, Local, Obj, Prom, Far, Mess}
-use Rattle.def_machine.specs.State.{Note, Deliver, Open, Ask, SettledTo, Elsewhere, Shorten}
-use Rattle.def_run.specs.Connections.{Connection, Sight, frame_now, put_on}
+use Rattle.std.proofs.Common.{◌≡◌, ℕ, Bool, true, Option, Some, None, refl, sym, ap, ◌∙◌, ◌==◌}
+use Rattle.def_machine.specs.Values.{Name, Sent, host_of, same_name, same_reference, answer_of, Local, Obj, Prom, Far, Mess}
+use Rattle.def_machine.specs.State.{Note, Deliver}
+use Rattle.def_run.specs.Connections.{Sight, frame_now, put_on}
 use Rattle.def_run.specs.Wire.{sight, is_object}
 use Rattle.def_machine.specs.Maps as maps
 use Rattle.law_renaming.specs.Stands.{Table, Found, Is, Nothing, found, found_same, found_answer, prom_found, mess_found, far_found, IsTable}
 use Rattle.law_renaming.proofs.Stands.{sames}
-use Rattle.law_frame.specs.Together.{SeesAlike, TablesMay, NoteMay, AsksAlike, changed_tables}
+use Rattle.law_frame.specs.Together.{SeesAlike, AsksAlike, changed_tables}
 use Rattle.law_frame.specs.OwnFrames.{refers, refers_here, SeesBy, AsksFor, FramesAreWrittenByNumbers}
 use Rattle.law_frame.proofs.Writes.{write_together}
 

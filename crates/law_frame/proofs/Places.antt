@@ -1,10 +1,8 @@
 -- Links and connections among others, where one of them changes.
-use Rattle.std.proofs.Common.{◌≡◌, ℕ, Bool, true, false, List, [], ◌∷◌, Option, Some, None, refl, sym, ap, ◌∙◌, ◌⊎◌, inl, inr, ◌==◌}
+use Rattle.std.proofs.Common.{◌≡◌, ℕ, Bool, true, false, List, [], ◌∷◌, Option, Some, refl, sym, ap, ◌∙◌, ◌⊎◌, inl, inr, ◌==◌}
 use Rattle.std.specs.Prelude.{option_map}
 use Rattle.std.proofs.lemmas.Bool.{eqb-true, eq-eqb}
-use Rattle.def_run.specs.World as world
 use Rattle.def_run.specs.World.{Link, link_at, with_link, is_link}
-use Rattle.def_run.specs.Wire as wire
 use Rattle.def_run.specs.Wire.{Connected, connected_at, with_connected, connects, unconnected}
 
 -- of two pairs of numbers

@@ -5,11 +5,11 @@ use Rattle.std.proofs.lemmas.Bool.{eqb-true, eq-eqb}
 use Rattle.std.proofs.lemmas.Option.{slice_get-map, slice_get_past}
 use Rattle.def_op.specs.Frames as op
 use Rattle.def_op.specs.Frames.{Described, Members}
-use Rattle.def_machine.specs.Values.{Value, Null, Flag, Number, Letter, Text, Prim, Broken, Items, Ref, Name, Root, Object, Promise, Answer, Gift, Sent, host_of, Local, Obj, Prom, Far, key, word_of, provider_of}
+use Rattle.def_machine.specs.Values.{Value, Null, Flag, Number, Letter, Text, Prim, Broken, Items, Ref, Name, Root, Object, Promise, Answer, Gift, Sent, host_of, Local, Obj, Prom, Far, key, word_of}
 use Rattle.def_machine.specs.State.{Known, Passed, Passeds, Plain, AGift, Many, NoMore, More, Note, Delivery, Deliver, Open, Ask, SettledTo, Elsewhere, Shorten, GiftEntry, is_gift, Vat}
 use Rattle.def_machine.specs.Arrive.{Incoming, Old, New, gift_at}
 use Rattle.def_run.specs.World as world
-use Rattle.def_run.specs.World.{Script, Link, World, link_at, has_name, is_old, read_name, known_after}
+use Rattle.def_run.specs.World.{Script, World, link_at, has_name, is_old, read_name, known_after}
 use Rattle.law_reference.specs.Logs as wire
 use Rattle.law_name.specs.Names.{IsAmong, IsKnownIn, names_in}
 use Rattle.def_machine.proofs.Keys.{key_of}

@@ -2,7 +2,7 @@
 use Rattle.std.proofs.Common.{◌≡◌, ℕ, zero, suc, Bool, true, false, List, [], ◌∷◌, ◌++◌, Option, Some, None, refl, sym, ap, subst, inl, inr, length}
 use Rattle.std.specs.Prelude.{is_some}
 use Rattle.def_machine.specs.Values.{Words, Value, Null, Broken, Ref, Name, Promise, Answer, Sent, Msg, Naming, IsOwn, IsAnswer, naming, name_of, mail_of, answer_of, host_of}
-use Rattle.def_machine.specs.State.{Binding, Message, Standing, Settled, Known, Passed, Passeds, Plain, AGift, Many, NoMore, More, Deliver, SettledTo, Put, Happened, Posted, Sends, Reacts, Took, Vat, Done, Gives, Throws, Ejects, Stops, Act, ◌>>=◌, ◌>>◌, and_then, give, look, tell, send_out, come, new_message, new_lone_message, for_some, begun}
+use Rattle.def_machine.specs.State.{Binding, Message, Standing, Settled, Known, Passed, Passeds, Plain, AGift, Many, NoMore, More, Deliver, SettledTo, Put, Happened, Posted, Sends, Reacts, Took, Vat, Done, Gives, Stops, Act, ◌>>=◌, ◌>>◌, and_then, give, look, tell, send_out, come, new_message, new_lone_message, for_some, begun}
 use Rattle.def_machine.specs.Refs as refs
 use Rattle.def_machine.specs.Refs.{Place, Near, Mine, Away, Gone, answer_host}
 use Rattle.def_machine.specs.Eval as eval

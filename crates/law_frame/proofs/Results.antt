@@ -1,9 +1,9 @@
 -- What passes holds no list by its number: its members stand in its place.
 use Rattle.std.proofs.Common.{ℕ, zero, suc, Bool, true, false, List, [], ◌∷◌, Option, Some, None, if◌then◌else◌, ◌==◌}
-use Rattle.def_machine.specs.Values.{Value, Null, Flag, Number, Letter, Text, Prim, Broken, Items, Ref, Name, Naming}
-use Rattle.def_machine.specs.State.{Passed, Passeds, Plain, AGift, Many, NoMore, More, Vat, Done, Gives, Throws, Ejects, Stops, Act, ◌>>=◌, ◌>>◌, and_then, give, look}
+use Rattle.def_machine.specs.Values.{Value, Items, Name, Naming}
+use Rattle.def_machine.specs.State.{Passed, Passeds, Plain, AGift, Many, NoMore, More, Vat, Done, Gives, Act, ◌>>=◌, ◌>>◌, and_then, give, look}
 use Rattle.def_machine.specs.Refs as refs
-use Rattle.def_machine.specs.Refs.{Place, Near, Mine, Away, Gone, Parcel}
+use Rattle.def_machine.specs.Refs.{Place, Mine, Away, Parcel}
 use Rattle.law_frame.specs.Asked.{ListlessValue, Listless, AllListless}
 
 -- of what is given

@@ -4,8 +4,8 @@ use Rattle.std.specs.Prelude.{slice_get}
 use Rattle.std.proofs.lemmas.Bool.{eq-eqb}
 use Rattle.def_op.specs.Frames as op
 use Rattle.def_op.specs.Frames.{Described, Members, Operation}
-use Rattle.def_machine.specs.Values.{Value, Null, Flag, Number, Letter, Text, Prim, Broken, Items, Ref, Name, Gift, host_of, same_name, key, word_of}
-use Rattle.def_machine.specs.State.{Passed, Passeds, Plain, AGift, Many, NoMore, More, Note, Delivery, Deliver, Open, Ask, SettledTo, Elsewhere, Shorten}
+use Rattle.def_machine.specs.Values.{Value, Items, Ref, Name, host_of, same_name, key, word_of}
+use Rattle.def_machine.specs.State.{Passed, Passeds, Plain, AGift, Many, NoMore, More, Note, Deliver, Open, Ask, SettledTo, Elsewhere, Shorten}
 use Rattle.def_machine.specs.Arrive.{Incoming, Old, New}
 use Rattle.def_run.specs.Connections as read
 use Rattle.def_run.specs.Connections.{Connection, Stage, Newcomers, Heard, Hearing, stands_in, place_in}

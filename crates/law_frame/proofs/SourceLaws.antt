@@ -7,7 +7,7 @@ use Rattle.law_reference.specs.Logs as wire
 use Rattle.law_name.specs.Names.{IsAmong}
 use Rattle.law_name.proofs.SameNames.{has_among}
 use Rattle.law_reference.proofs.NoticedRuns.{noticed_links_cut}
-use Rattle.law_frame.proofs.Questions.{asked_first, asked_rest, all_asked}
+use Rattle.law_frame.proofs.Questions.{asked_first, asked_rest}
 use Rattle.law_frame.specs.Asked.{AsksOf}
 use Rattle.law_frame.specs.Tables.{arrived}
 use Rattle.law_frame.specs.Sources.{NamesComeFromTheirHosts}

@@ -1,6 +1,6 @@
 -- Where the names come from that a vat knows of other vats: it asked for them, or they were told, or their host was noticed.
 use Rattle.std.proofs.Common.{◌≡◌, ℕ, Bool, true, false, List, [], ◌∷◌, ◌++◌, Some, refl, sym, ap, subst, ◌∙◌, ◌⊎◌, inl, inr, append_assoc}
-use Rattle.def_machine.specs.Values.{Value, Null, Flag, Number, Letter, Text, Prim, Broken, Items, Ref, Name, Root, Object, Promise, Answer, Gift, Sent as Message_name, host_of, answer_of}
+use Rattle.def_machine.specs.Values.{Value, Ref, Name, Gift, Sent as Message_name, host_of, answer_of}
 use Rattle.def_machine.specs.State.{Passed, Passeds, Plain, AGift, Many, NoMore, More, Note, Deliver, Open, Ask, SettledTo, Elsewhere, Shorten, Put, Vat, is_in}
 use Rattle.def_run.specs.World as world
 use Rattle.def_run.specs.World.{Link}

@@ -1,10 +1,10 @@
 -- As long as a gift is under way no note that was ever put tells one under its key.
-use Rattle.std.proofs.Common.{◌≡◌, ℕ, zero, suc, ◌+◌, ◌≤◌, ◌<◌, Bool, true, false, List, [], ◌∷◌, ◌++◌, Some, refl, sym, ap, subst, ◌∙◌, ◌⊎◌, inl, inr, length, arith}
+use Rattle.std.proofs.Common.{◌≡◌, ℕ, zero, suc, ◌+◌, ◌≤◌, Bool, true, false, List, [], ◌∷◌, ◌++◌, Some, refl, sym, ap, subst, ◌∙◌, ◌⊎◌, inl, inr, arith}
 use Rattle.std.specs.Prelude.{slice_get}
-use Rattle.def_machine.specs.Values.{Name, Root, Object, Promise, Answer, Gift, Sent}
+use Rattle.def_machine.specs.Values.{Name, Gift}
 use Rattle.def_machine.specs.State.{Note, Vat}
 use Rattle.def_run.specs.World as world
-use Rattle.def_run.specs.World.{Script, Program, Link, World, Entry, Goes as Going, names_of, read_note, put_at, push_all, pushed, with_link, with_notes, severed_link, link_at}
+use Rattle.def_run.specs.World.{Script, Program, Link, World, Entry, Goes as Going, put_at, push_all, pushed, with_link, with_notes, severed_link, link_at}
 use Rattle.law_fate.specs.Lasting.{Each}
 use Rattle.law_name.specs.Names.{AllOf, IsAmong, IsKnownIn, PutOk, WasDrawn, names_in}
 use Rattle.law_name.specs.Runs.{KnowsOnce}

@@ -1,7 +1,7 @@
 -- A vat asks for nothing that it was told, so that its exports keep their positions.
-use Rattle.std.proofs.Common.{◌≡◌, ℕ, zero, suc, ◌+◌, ◌≤◌, ◌<◌, List, [], ◌∷◌, ◌++◌, Some, refl, sym, subst, ◌∙◌, ◌⊎◌, inl, inr, length, append_assoc, arith}
-use Rattle.def_machine.specs.Values.{Name, Root, Object, Promise, Answer, Gift, Sent, Msg, answer_of}
-use Rattle.def_machine.specs.State.{Note, Deliver, Open, Ask, SettledTo, Elsewhere, Shorten, Put, Vat}
+use Rattle.std.proofs.Common.{◌≡◌, ℕ, zero, suc, ◌+◌, ◌≤◌, List, [], ◌∷◌, ◌++◌, Some, refl, sym, subst, ◌∙◌, ◌⊎◌, inl, inr, length, append_assoc, arith}
+use Rattle.def_machine.specs.Values.{Name, Answer, Gift, Sent, Msg, answer_of}
+use Rattle.def_machine.specs.State.{Note, Deliver, Ask, Put, Vat}
 use Rattle.law_machine.specs.Steps.{Receives}
 use Rattle.def_run.specs.World as world
 use Rattle.def_run.specs.World.{Script, Program, Entry, Link, World, Goes as Going, names_of, read_note, link_at}
@@ -12,7 +12,7 @@ use Rattle.law_name.proofs.Run.{Had, name_had}
 use Rattle.law_reference.proofs.Legs.{ApartIn}
 use Rattle.law_reference.proofs.LegRuns.{Before, stands_of, first_mails}
 use Rattle.law_reference.proofs.LegMoves.{opened_before, stepped_before}
-use Rattle.law_reference.proofs.Moves.{Moved, Still, Severs, Drops, Steps, Arrives, Does, steps_end}
+use Rattle.law_reference.proofs.Moves.{Moved, Steps, Arrives, Does, steps_end}
 use Rattle.law_reference.proofs.SingleRuns.{opened_both, stepped_both}
 use Rattle.law_reference.specs.GiftPassing.{gifts_in_note, gifts_under_way}
 use Rattle.law_reference.specs.Hiding.{IsNotOf}

@@ -2,13 +2,13 @@
 use Rattle.std.proofs.Common.{◌≡◌, ℕ, zero, suc, Bool, true, false, List, [], ◌∷◌, ◌++◌, Option, Some, None, refl, sym, ap, subst, ◌∙◌, ◌⊎◌, inl, inr, length, append_assoc, append-nil, ◌==◌, ◌+◌, map, arith}
 use Rattle.std.specs.Prelude.{slice_get}
 use Rattle.std.proofs.lemmas.Bool.{eqb-true, eq-eqb}
-use Rattle.def_machine.specs.Values.{Name, Root, Object, Promise, Answer, Gift, Sent as Message_name, Naming, naming, host_of}
-use Rattle.def_machine.specs.State.{Message, Note, Deliver, Open, Ask, SettledTo, Elsewhere, Shorten, Put, Vat, Done, Gives, Throws, Ejects, Stops, Act, is_in, begun}
+use Rattle.def_machine.specs.Values.{Name, Root, Sent as Message_name, Naming, naming, host_of}
+use Rattle.def_machine.specs.State.{Message, Note, Deliver, Put, Vat, Done, Gives, Act, is_in, begun}
 use Rattle.def_machine.specs.Eval.{opening, taking}
 use Rattle.def_machine.specs.Arrive.{arrive, notice}
 use Rattle.def_run.specs.Draws.{draw_word}
 use Rattle.def_run.specs.World as world
-use Rattle.def_run.specs.World.{Script, Program, Opens, Entry, Turn, Carry, CutLink, NoticeLink, Event, Turned, Idle, Carried, CutAt, NoticedAt, Link, World, Run, Goes as Going, Stopped, names, names_of, read_note, put_at, readied}
+use Rattle.def_run.specs.World.{Script, Program, Opens, Entry, Turn, Carry, CutLink, NoticeLink, Event, Turned, Idle, Carried, NoticedAt, Link, World, Run, Goes as Going, Stopped, names, names_of, read_note, put_at, readied}
 use Rattle.law_fate.proofs.Leads.{Leads}
 use Rattle.law_name.specs.Names.{AllOf, IsAmong, IsKnownIn, IsMessageName, IsMessageMade, IsEventual, WasMade, MessageOk, KnownOk, Bit, Named, Mail, NoteOk, PutOk, names_in, Once}
 use Rattle.law_name.specs.Runs.{InRuns}

@@ -1,8 +1,8 @@
 -- What stands in a world of a run before its next note arrives.
-use Rattle.std.proofs.Common.{◌≡◌, ℕ, zero, ◌≤◌, ◌<◌, ◌+◌, Bool, true, false, List, [], ◌∷◌, ◌++◌, Option, Some, None, refl, sym, ap, subst, ◌∙◌, ◌⊎◌, inl, inr, length, ◌==◌, arith}
+use Rattle.std.proofs.Common.{◌≡◌, ℕ, zero, ◌≤◌, ◌+◌, Bool, true, false, List, [], ◌∷◌, ◌++◌, Option, Some, None, refl, sym, ap, subst, ◌∙◌, ◌⊎◌, inl, inr, ◌==◌, arith}
 use Rattle.std.specs.Prelude.{slice_get}
 use Rattle.std.proofs.lemmas.Bool.{eqb-true, eq-eqb}
-use Rattle.def_machine.specs.Values.{Name, Root, Object, Promise, Answer, Gift, Sent as Message_name, Msg, host_of, answer_of, word_of}
+use Rattle.def_machine.specs.Values.{Name, Answer, Gift, Sent as Message_name, Msg, host_of, answer_of, word_of}
 use Rattle.def_machine.specs.State.{Passeds, Note, Deliver, Open, Ask, SettledTo, Elsewhere, Shorten, GiftEntry, is_gift, Vat}
 use Rattle.def_machine.specs.Arrive.{gift_at}
 use Rattle.def_run.specs.World as world

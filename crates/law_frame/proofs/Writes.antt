@@ -1,14 +1,13 @@
 -- A note is written alike by two kinds of names, of which a function leads from one to the other.
 use Rattle.std.proofs.Common.{◌≡◌, ℕ, zero, suc, Bool, true, false, List, [], ◌∷◌, ◌++◌, refl, sym, ap, ◌∙◌, map, length}
 use Rattle.def_op.specs.Frames as op
-use Rattle.def_op.specs.Frames.{Described, Members, Operation}
-use Rattle.def_machine.specs.Values.{Value, Null, Flag, Number, Letter, Text, Prim, Broken, Items, Ref, Name, Local, word_of}
-use Rattle.def_machine.specs.State.{Passed, Passeds, Plain, AGift, Many, NoMore, More, Note, Delivery, Deliver, Open, Ask, SettledTo, Elsewhere, Shorten}
+use Rattle.def_op.specs.Frames.{Described, Members}
+use Rattle.def_machine.specs.Values.{Value, Ref, word_of}
+use Rattle.def_machine.specs.State.{Passed, Passeds, Plain, AGift, Many, NoMore, More, Note, Deliver, Open, Ask, SettledTo, Elsewhere, Shorten}
 use Rattle.law_name.specs.Names.{AllOf}
 use Rattle.def_run.specs.Connections as write
 use Rattle.def_run.specs.Connections.{Connection, Sight}
 use Rattle.def_machine.specs.Maps as maps
-use Rattle.law_renaming.specs.Stands.{Found}
 use Rattle.law_frame.specs.Together.{SeesAlike, ValueMay, PassedMay, AllMay, NoteMay, TablesMay, AsksAlike, WriteTogether, WritingsGoTogether, changed_tables}
 
 module _ {N M : Type 0} (f : N → M) (P : N → Bool) (S : Sight N) (T : Sight M) (alike : SeesAlike f P S T) where

@@ -1,28 +1,21 @@
 -- Each move keeps that the notes under way have their frames, as their senders wrote them.
-use Rattle.std.proofs.Common.{◌≡◌, ℕ, zero, suc, ◌+◌, Bool, true, false, List, [], ◌∷◌, ◌++◌, Option, Some, None, refl, sym, ap, subst, ◌∙◌, ◌⊎◌, inl, inr, length, append_assoc, append-nil, ◌==◌, arith}
+use Rattle.std.proofs.Common.{◌≡◌, ℕ, zero, suc, ◌+◌, Bool, true, false, List, [], ◌∷◌, ◌++◌, Option, Some, None, refl, sym, ap, subst, ◌∙◌, ◌⊎◌, inl, inr, length, append_assoc, ◌==◌}
 use Rattle.std.specs.Prelude.{slice_get, option_map}
 use Rattle.def_op.specs.Frames.{Operation, spelling}
-use Rattle.def_machine.specs.Values.{Name, IsAnswer, host_of}
-use Rattle.def_machine.specs.State as state
-use Rattle.def_machine.specs.State.{Note, Deliver, Open, Ask, SettledTo, Elsewhere, Shorten, Put, Vat, Done, Gives, Throws, Ejects, Stops, ◌>>=◌, ◌>>◌, and_then, give}
-use Rattle.def_machine.specs.Arrive as arrive
-use Rattle.def_machine.specs.Arrive.{Incoming, Old, New}
-use Rattle.law_machine.specs.Laws.{Stays, SameDraws}
-use Rattle.law_machine.specs.Steps.{Step, Receives, does, After}
-use Rattle.law_machine.proofs.StepLaws.{draws_stays, get_append}
+use Rattle.def_machine.specs.Values.{Name}
+use Rattle.def_machine.specs.State.{Note, Put, Vat}
 use Rattle.def_run.specs.Connections as tables
 use Rattle.def_run.specs.Connections.{Connection, asked_in, exported_note, frame_now}
 use Rattle.def_run.specs.Wire as wire
 use Rattle.def_run.specs.Wire.{Connected, connected_at, with_connected, sight}
 use Rattle.def_run.specs.World as world
 use Rattle.def_run.specs.World.{Script, Program, Entry, Event, CutLink, Carried, Link, World, Goes, link_at, with_link, with_notes, pushed, severed_link, put_at, readied}
-use Rattle.law_run.specs.Moves.{Deed, NewObject, NewPromise, NewMessage, NewLone, NewDraw, Learns, Move, Moved, Still, Severs, Drops, Steps, Arrives, Hears, Tells, Reached, Performs, AnyNotice, perform, hear, hear_message, went, without}
+use Rattle.law_run.specs.Moves.{Deed, Moved, Still, Severs, Drops, Steps, Arrives, Hears, Tells, went, without}
 use Rattle.law_run.proofs.Told.{moves_told}
 use Rattle.law_run.proofs.Honest.{lifted, honest_reached}
-use Rattle.law_frame.specs.Growing.{IsFront, TablesGrow, ConnectedGrows}
-use Rattle.law_frame.specs.Written.{AreWritten, HaveTheirFrames, LinkHasFrames, NotesHaveTheirFrames, NextFramesAreWritten}
-use Rattle.law_frame.proofs.Lists.{front_same, front_more, front_trans}
-use Rattle.law_frame.proofs.Grows.{tables_trans, tables_same, wrote_grows, received_grows}
+use Rattle.law_frame.specs.Growing.{TablesGrow}
+use Rattle.law_frame.specs.Written.{AreWritten, HaveTheirFrames, NotesHaveTheirFrames, NextFramesAreWritten}
+use Rattle.law_frame.proofs.Grows.{tables_trans, wrote_grows, received_grows}
 use Rattle.law_frame.proofs.Places.{same_or, link_same, link_other, connected_same, connected_other, connected_ends}
 
 -- ---- one link

@@ -1,8 +1,8 @@
 -- Facts on values in a vat's state, which no growth of the state undoes.
 use Rattle.std.proofs.Common.{◌≡◌, ℕ, zero, suc, List, [], ◌∷◌, ◌++◌, Some}
 use Rattle.std.specs.Prelude.{slice_get}
-use Rattle.def_machine.specs.Values.{Value, Null, Flag, Number, Letter, Text, Prim, Broken, Items, Ref, Naming}
-use Rattle.def_machine.specs.State.{Bound, Fixed, Slot, Binding, Cell, Freedom, IsSafe, IsItself, IsFinal, IsVar, View, Thing, Made, Ejector, Audition, Resolver, Message, Standing, Unsettled, WaitsOn, Viewed, Settled, Known}
+use Rattle.def_machine.specs.Values.{Value, Items, Ref, Naming}
+use Rattle.def_machine.specs.State.{Bound, Fixed, Slot, Binding, Cell, Freedom, IsFinal, View, Thing, Made, Ejector, Audition, Resolver, Message, Standing, Settled, Known}
 use Rattle.law_frozen.specs.Frozen.{AllOf, Lists, IsThere, MessageThere, StandingThere, KnownThere, CellThere, FreedomThere, ViewThere, HasNoName, BearsFrozen, IsFrozen, BoundWell, NounWell, FrozenCapture, ThingWell}
 
 -- objects and lists keep their numbers

@@ -1,11 +1,11 @@
 -- What a vat does from a sound state, under facts on what it has in hand, ends in a sound state with facts on what it gives.
 use Rattle.std.proofs.Common.{◌≡◌, ℕ, zero, suc, ◌+◌, ◌-◌, ◌<◌, ◌⊎◌, inl, inr, Bool, true, false, List, [], ◌∷◌, ◌++◌, Option, Some, None, if◌then◌else◌, refl, length, arith}
 use Rattle.std.specs.Prelude.{slice_get, nat_le}
-use Rattle.def_machine.specs.Values.{Words, Value, Null, Flag, Number, Letter, Text, Prim, Broken, Items, Ref, Naming, Coming, Mailing, IsOwn, IsAnswer, IsSent}
-use Rattle.def_machine.specs.State.{Bound, Binding, Scope, Cell, FreeName, View, Thing, Made, Ejector, Audition, Resolver, Message, Standing, Unsettled, WaitsOn, Viewed, Settled, Known, Change, Hold, Wait, WaitOn, See, React, ToTell, Settle, Passed, Passeds, Note, Put, GiftEntry, Happened, Vat, Stop, Done, Gives, Throws, Ejects, Stops, Act, ◌>>=◌, ◌>>◌, and_then, for_some, end_by, ending, each, give, throw, stop, eject, look, tell, spend, spent, new_activation, new_thing, kill, change, dead, new_slot, holding, write_slot, new_list, enqueue, send_out, new_gift, with_opened, open_gift, mark, draws, with_change, changed, changed_to, unless_settled, alter, come, mail, new_promise, new_message, draw, begun, new_lone_message}
+use Rattle.def_machine.specs.Values.{Words, Value, Null, Flag, Number, Text, Prim, Broken, Items, Ref, Naming, Coming, Mailing, IsOwn, IsAnswer, IsSent}
+use Rattle.def_machine.specs.State.{Bound, Binding, Scope, Cell, FreeName, View, Thing, Made, Ejector, Audition, Resolver, Message, Standing, Settled, Known, Change, Hold, Wait, WaitOn, See, React, ToTell, Settle, Passed, Passeds, Note, Put, GiftEntry, Happened, Vat, Stop, Done, Gives, Throws, Ejects, Stops, Act, ◌>>=◌, ◌>>◌, and_then, for_some, end_by, ending, each, give, throw, stop, eject, look, tell, spend, spent, new_activation, new_thing, kill, change, dead, new_slot, holding, write_slot, new_list, enqueue, send_out, new_gift, with_opened, open_gift, mark, draws, with_change, changed, changed_to, unless_settled, alter, come, mail, new_promise, new_message, draw, begun, new_lone_message}
 use Rattle.def_machine.specs.Refs.{Place, Parcel}
-use Rattle.def_machine.specs.Native.{Reply, Says, Writes, Lists as Listed, Iterates, Fails, DeepFrozen, Asked, MakesList, Ranges, Same, Compares, Loops, SendsTo, CallsTo, MakesPromise, Breaks, Tells, Whens, ThrowsIt, IsStamped, Coerces, AddsNull, NoMethod}
-use Rattle.def_machine.specs.Scopes.{meets, Answer, Answers, AuditionAsk, GetsForm, GetsGuard, Asks, NoAuditionAsk, ResolverAsk, Resolves, Smashes, NoResolverAsk}
+use Rattle.def_machine.specs.Native.{Reply, Says, Lists as Listed, Iterates, DeepFrozen, Asked, MakesList, Loops, SendsTo, CallsTo, Breaks, Tells, Whens, Coerces, AddsNull}
+use Rattle.def_machine.specs.Scopes.{meets, Answer, Answers, AuditionAsk, GetsGuard, Asks, ResolverAsk, Resolves, Smashes, NoResolverAsk}
 use Rattle.law_machine.proofs.StepLaws.{get_append}
 use Rattle.law_natives.specs.Natives.{ReplyHas, AskedHas}
 use Rattle.law_frozen.specs.Frozen.{AllOf, IsAmong, Lists, IsThere, AreThere, IsBelow, AreStacked, MessageThere, KnownThere, CellThere, ViewThere, Passes, AllPass, NotePasses, BoundWell, NounWell, ThingWell, SoundParts, Sound, deep_frozen}

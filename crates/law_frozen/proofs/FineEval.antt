@@ -1,23 +1,23 @@
 -- All of evaluation, from a sound state, ends in a sound state.
 use Rattle.std.proofs.Common.{◌≡◌, ℕ, zero, suc, Bool, true, false, List, [], ◌∷◌, ◌++◌, Option, Some, None, refl, sym, subst, length, map, codes, ◌⊎◌, inl, inr}
 use Rattle.std.specs.Prelude.{slice_get}
-use Rattle.def_machine.specs.Values.{Words, Value, Null, Flag, Number, Letter, Text, Prim, Broken, Items, Ref, Naming, Spot, Own}
-use Rattle.def_machine.specs.State.{Bound, Fixed, Slot, Scope, Binding, Cell, View, FreeName, IsItself, Thing, Made, Ejector, Audition, Resolver, Message, Standing, Unsettled, WaitsOn, Viewed, Settled, Vat, Done, Gives, Throws, Ejects, Stops, Act, ◌>>=◌, ◌>>◌, and_then, give, throw, eject, look, tell, new_thing, ObjectMade, for_some, WhereSome}
+use Rattle.def_machine.specs.Values.{Words, Value, Null, Flag, Text, Prim, Broken, Items, Ref, Naming, Spot, Own}
+use Rattle.def_machine.specs.State.{Bound, Fixed, Slot, Scope, Binding, Cell, View, FreeName, IsItself, Thing, Made, Ejector, Audition, Resolver, Message, Standing, Unsettled, Vat, Done, Gives, Act, ◌>>=◌, ◌>>◌, and_then, give, throw, eject, look, tell, new_thing, ObjectMade, for_some, WhereSome}
 use Rattle.def_machine.specs.Refs.{Place, Near, standing_of, settle, resolve}
 use Rattle.def_machine.specs.Form.{Item, Begin, End, Word, Fact as Fixing, literal_value}
 use Rattle.def_machine.specs.Free.{BoundNoun, same_words}
 use Rattle.def_machine.specs.Native as native
-use Rattle.def_machine.specs.Native.{Reply, Says, Writes, Lists as Listed, Iterates, Fails, Guard, guard_name, native_guard, primitive, Primitive, MakeList, Equalizer, Comparer, Looper, Sender, References, Thrower, StampReader, Guarding, Judging, NoPrimitive, DeepFrozen, Asked, MakesList, Ranges, Same, Compares, Loops, SendsTo, CallsTo, MakesPromise, Breaks, Tells, Whens, ThrowsIt, IsStamped, Coerces, AddsNull, NoMethod}
+use Rattle.def_machine.specs.Native.{Reply, Says, Writes, Lists as Listed, Iterates, Fails, Guard, guard_name, native_guard, primitive, Primitive, Guarding, DeepFrozen, Asked, MakesList, Loops, SendsTo, CallsTo, MakesPromise, Breaks, Tells, Whens, IsStamped, Coerces, AddsNull, NoMethod}
 use Rattle.def_machine.specs.Scopes as scopes
 use Rattle.def_machine.specs.Perform as perform
 use Rattle.def_machine.specs.Calls as calls
 use Rattle.def_machine.specs.Eval as eval
-use Rattle.def_machine.specs.Scopes.{meets, any_guard, frozen_guard, freezes, Answer, Answers, Evaluator, Caller, Body, Case, AuditionAsk, GetsForm, GetsGuard, Asks, NoAuditionAsk, ResolverAsk, Resolves, Smashes, NoResolverAsk}
+use Rattle.def_machine.specs.Scopes.{meets, any_guard, frozen_guard, freezes, Answer, Evaluator, Caller, Body, Case, AuditionAsk, GetsForm, GetsGuard, Asks, NoAuditionAsk, ResolverAsk, Resolves, Smashes, NoResolverAsk}
 use Rattle.def_kernel.specs.declared.node.Node.{Node}
-use Rattle.def_kernel.specs.declared.node.Node.TheVariants.{Lit, Noun, Set, Def, Call, Sequence, If, Escape, Try, Finally, Hide, MatchBind, Object, Final, Var, Any, ListPattern, Via}
+use Rattle.def_kernel.specs.declared.node.Node.TheVariants.{Lit, Final, Any}
 use Rattle.law_frozen.specs.Frozen.{AllOf, IsAmong, Lists, IsThere, AreThere, IsFrozen, BoundWell, NounWell, FrozenCapture, ThingWell, deep_frozen}
 use Rattle.law_frozen.proofs.Facts.{all_map, all_end, noun_up, thing_up}
-use Rattle.law_frozen.proofs.Fine.{Keeper, grows_same, resolvable, fine_bind, MayBe, Fact, Also, IsValue, AreValues, AreLists, IsBound, AreNouns, IsMessage, IsThing, IsView, MayValue, MayBound, MayCell, MayThing, IsReply, IsAsked, IsAuditionAsk, IsResolverAsk, StampsMeet, Approves, scope, answer, answers, nothing, Holds, Ends, Gets, Fine, fine, get_end, grows_things, widen, got, got_left, got_itself, got_ref, got_text, got_nothing, fine_bind, fine_ending, fine_more, fine_left, fine_if, fine_give, fine_throw, fine_eject, fine_stop, fine_tell, fine_spend, fine_slot, then_unit, bind_answer, bind_value, bind_number}
+use Rattle.law_frozen.proofs.Fine.{Keeper, grows_same, resolvable, fine_bind, MayBe, Fact, Also, IsValue, AreValues, AreLists, IsBound, AreNouns, IsMessage, IsThing, IsView, MayValue, MayBound, MayCell, MayThing, IsReply, IsAsked, IsAuditionAsk, IsResolverAsk, StampsMeet, Approves, scope, answer, answers, nothing, Holds, Ends, Gets, Fine, fine, get_end, grows_things, widen, got, got_left, got_both, got_itself, got_ref, got_text, got_nothing, fine_bind, fine_ending, fine_more, fine_left, fine_if, fine_give, fine_throw, fine_eject, fine_stop, fine_tell, fine_spend, then_unit}
 use Rattle.law_frozen.proofs.Looks.{looks, look_follow}
 use Rattle.law_frozen.proofs.Serves.{Serves, Closing, serve_promise, serve_break, serve_send, serve_send_only, serve_react, serve_close}
 use Rattle.law_frozen.proofs.EvalFacts.{knows, false_true, under, look_bound, some_bound, bound_well, got_noun, got_unguarded, got_of_bound, got_item, got_lists, got_literal, got_view}
@@ -167,8 +167,7 @@ module _ {N W : Type 0} (K : Naming N W) (M : Keeper K) (serves : Serves K M) (s
   pub fine_after_turn : {C : Fact N} → (x1 : Act N (Value N)) → Fine K M C x1 IsValue → (x2 : Value N) → Gets K C (IsValue x2) → Fine K M C (perform.after_turn K tree x1 x2) IsValue
   unfolding perform.after_turn
   fine_after_turn {C = C} more h1 (Flag true) g1 = search (fine, looks, knows) depth 30
-  fine_after_turn {C = C} more h1 (Flag false) g1 = search (fine, looks, knows) depth 30
-  fine_after_turn {C = C} more h1 _ g1 = search (fine, looks, knows) depth 30
+  fine_after_turn {C = C} more h1 other g1 = search (fine, looks, knows) depth 30
 
   pub fine_turns : {C : Fact N} → (x1 : ℕ) → (x2 : Act N (Value N)) → Fine K M C x2 IsValue → Fine K M C (perform.turns K tree x1 x2) IsValue
   unfolding perform.turns
@@ -360,10 +359,8 @@ module _ {N W : Type 0} (K : Naming N W) (M : Keeper K) (serves : Serves K M) (s
 
   pub fine_call_value : {C : Fact N} → (x1 : Evaluator N) → GoodEvaluator K M x1 → (x2 : Caller N) → GoodCaller K M x2 → (x3 : ℕ) → (x4 : Value N) → Gets K C (IsValue x4) → (x5 : Value N) → Gets K C (IsValue x5) → (x6 : Words) → (x7 : List (Value N)) → Gets K C (AreValues x7) → Fine K M C (calls.call_value K tree x1 x2 x3 x4 x5 x6 x7) IsValue
   unfolding calls.call_value
-  fine_call_value {C = C} rec good again h2 act x g1 (Ref n) g2 verb args g3 = search (fine, looks, knows, fine_call_spot) depth 30
-  fine_call_value {C = C} rec good again h2 act x g1 (Broken p) g2 verb args g3 = search (fine, looks, knows) depth 30
-  fine_call_value {C = C} rec good again h2 act x g1 (Prim n) g2 verb args g3 = search (fine, looks, knows, fine_perform) depth 30
-  fine_call_value {C = C} rec good again h2 act x g1 y g2 verb args g3 = search (fine, looks, knows, fine_with_lines, fine_data_answer) depth 30
+  fine_call_value {C = C} rec good again h2 act x g1 (Ref n) g2 verb args g3 = search (fine, looks, knows, fine_call_spot, fine_perform, fine_with_lines, fine_data_answer) depth 30
+  fine_call_value {C = C} rec good again h2 act x g1 other g2 verb args g3 = search (fine, looks, knows, fine_call_spot, fine_perform, fine_with_lines, fine_data_answer) depth 30
 
   pub fine_call_one : {C : Fact N} → (x1 : Evaluator N) → GoodEvaluator K M x1 → (x2 : Caller N) → GoodCaller K M x2 → (x3 : ℕ) → (x4 : Value N) → Gets K C (IsValue x4) → (x5 : Words) → (x6 : List (Value N)) → Gets K C (AreValues x6) → Fine K M C (calls.call_one K tree x1 x2 x3 x4 x5 x6) IsValue
   unfolding calls.call_one
@@ -391,10 +388,8 @@ module _ {N W : Type 0} (K : Naming N W) (M : Keeper K) (serves : Serves K M) (s
 
   pub fine_turn_value : {C : Fact N} → (x1 : Evaluator N) → GoodEvaluator K M x1 → (x2 : ℕ) → (x3 : Value N) → Gets K C (IsValue x3) → (x4 : Words) → (x5 : List (Value N)) → Gets K C (AreValues x5) → Fine K M C (calls.turn_value K tree x1 x2 x3 x4 x5) IsValue
   unfolding calls.turn_value
-  fine_turn_value {C = C} rec good act (Ref n) g1 verb args g2 = search (fine, looks, knows, fine_turn_spot) depth 30
-  fine_turn_value {C = C} rec good act (Broken p) g1 verb args g2 = search (fine, looks, knows) depth 30
-  fine_turn_value {C = C} rec good act (Prim n) g1 verb args g2 = search (fine, looks, knows, fine_perform, fine_call) depth 30
-  fine_turn_value {C = C} rec good act y g1 verb args g2 = search (fine, looks, knows, fine_data_answer, fine_call) depth 30
+  fine_turn_value {C = C} rec good act (Ref n) g1 verb args g2 = search (fine, looks, knows, fine_turn_spot, fine_perform, fine_call, fine_data_answer) depth 30
+  fine_turn_value {C = C} rec good act other g1 verb args g2 = search (fine, looks, knows, fine_turn_spot, fine_perform, fine_call, fine_data_answer) depth 30
 
   -- ---- making objects
 
@@ -510,8 +505,7 @@ module _ {N W : Type 0} (K : Naming N W) (M : Keeper K) (serves : Serves K M) (s
   pub fine_choose : {C : Fact N} → (x1 : Evaluator N) → GoodEvaluator K M x1 → (x2 : ℕ) → (x3 : ℕ) → (x4 : Scope N) → Gets K C (AreNouns x4.nouns) → (x5 : Scope N) → Gets K C (AreNouns x5.nouns) → (x6 : Value N) → Gets K C (IsValue x6) → Fine K M C (eval.choose K tree x1 x2 x3 x4 x5 x6) answer
   unfolding eval.choose
   fine_choose {C = C} rec good a b here g1 inner g2 (Flag true) g3 = search (fine, looks, knows, fine_answered, good.expression) depth 30
-  fine_choose {C = C} rec good a b here g1 inner g2 (Flag false) g3 = search (fine, looks, knows, fine_answered, good.expression) depth 30
-  fine_choose {C = C} rec good a b here g1 inner g2 _ g3 = search (fine, looks, knows) depth 30
+  fine_choose {C = C} rec good a b here g1 inner g2 other g3 = search (fine, looks, knows, fine_answered, good.expression) depth 30
 
   pub fine_unmatched_noun : {C : Fact N} → (x1 : ℕ) → (x2 : Bool) → Fine K M C (eval.unmatched_noun K tree x1 x2) IsBound
   unfolding eval.unmatched_noun
@@ -541,23 +535,6 @@ module _ {N W : Type 0} (K : Naming N W) (M : Keeper K) (serves : Serves K M) (s
   fine_write_bound {C = C} rec good act (Some (Slot k)) g1 v g2 = search (fine, looks, knows, fine_write_cell) depth 30
   fine_write_bound {C = C} rec good act _ g1 v g2 = search (fine, looks, knows) depth 30
 
-  pub fine_step : {C : Fact N} → (x1 : Evaluator N) → GoodEvaluator K M x1 → (x2 : ℕ) → (x3 : Node) → (x4 : Scope N) → Gets K C (AreNouns x4.nouns) → Fine K M C (eval.step K tree x1 x2 x3 x4) answer
-  unfolding eval.step
-  fine_step {C = C} rec good id (Lit l) here g1 = search (fine, looks, knows, fine_answered) depth 30
-  fine_step {C = C} rec good id (Noun x) here g1 = search (fine, looks, knows, fine_read_bound, fine_answered) depth 30
-  fine_step {C = C} rec good id (Set x e) here g1 = search (fine, looks, knows, fine_write_bound, fine_answered, good.expression) depth 30
-  fine_step {C = C} rec good id (Def p exit e) here g1 = search (fine, looks, knows, fine_exit_of, fine_answered, good.expression, good.pattern) depth 30
-  fine_step {C = C} rec good id (Call r verb args) here g1 = search (fine, looks, knows, fine_all_of, fine_call, fine_answered, good.expression) depth 30
-  fine_step {C = C} rec good id (Sequence es) here g1 = search (fine, looks, knows, fine_last_of) depth 30
-  fine_step {C = C} rec good id (If t a b) here g1 = search (fine, looks, knows, fine_choose, good.expression) depth 30
-  fine_step {C = C} rec good id (Escape p body c) here g1 = search (fine, looks, knows, fine_new_ejector, fine_escaped, good.expression, good.pattern) depth 30
-  fine_step {C = C} rec good id (Try body p h) here g1 = search (fine, looks, knows, fine_tried, good.expression) depth 30
-  fine_step {C = C} rec good id (Finally a b) here g1 = search (fine, looks, knows, fine_at_last, good.expression) depth 30
-  fine_step {C = C} rec good id (Hide e) here g1 = search (fine, looks, knows, fine_answered, good.expression) depth 30
-  fine_step {C = C} rec good id (MatchBind e p) here g1 = search (fine, looks, knows, fine_new_ejector, fine_match_ended, good.expression, good.pattern) depth 30
-  fine_step {C = C} rec good id (Object p auditors members) here g1 = search (fine, looks, knows, fine_all_of, fine_make_object, fine_call) depth 30
-  fine_step {C = C} rec good id _ here g1 = search (fine, looks, knows) depth 30
-
   pub fine_guard_of : {C : Fact N} → (x1 : Evaluator N) → GoodEvaluator K M x1 → (x2 : Option ℕ) → (x3 : Scope N) → Gets K C (AreNouns x3.nouns) → Fine K M C (eval.guard_of K tree x1 x2 x3) answer
   unfolding eval.guard_of
   fine_guard_of {C = C} rec good None here g1 = search (fine, looks, knows, fine_answered) depth 30
@@ -572,18 +549,24 @@ module _ {N W : Type 0} (K : Naming N W) (M : Keeper K) (serves : Serves K M) (s
   fine_bind_items {C = C} rec good ps j g1 here g2 (Items k) g3 = search (fine, looks, knows, fine_bind_list) depth 30
   fine_bind_items {C = C} rec good ps j g1 here g2 _ g3 = search (fine, looks, knows, fine_failed, fine_call) depth 30
 
+  -- what a guard coerced is good under that guard
+  bind_coerced : {B : Type 0} {C : Fact N} {f : Value N → Act N B} {H : B → Fact N} (again : Caller N) → GoodCaller K M again → (act : ℕ) (g : Value N) → Gets K C (IsValue g) → (j : Value N) → Gets K C (IsValue j) → (x : Value N) → Gets K C (IsValue x)
+      → ((y : Value N) → Fine K M (Also C (Also (IsValue y) (IsBound (Fixed y g)))) (f y) H) → Fine K M C (perform.coerce K tree again act g j x >>= f) H
+  bind_coerced again h act g g0 j g1 x g2 k = fine_bind K M (λ y. Also (IsValue y) (IsBound (Fixed y g)))
+      (fine_more K M (λ y. IsBound (Fixed y g)) (λ y. Also (IsValue y) (IsBound (Fixed y g))) (coerce_bound again h act g g0 j g1 x g2) (λ y. got_both K (IsBound (Fixed y g)) (IsValue y) (IsBound (Fixed y g)) (got_of_bound K y g) (got_itself K (IsBound (Fixed y g))))) k
+
+  -- what the nodes of the language are put together from: a node that is put together so too is no more text here
+  ruleset nodes = (bind_coerced, fine, looks, knows, fine_answered, fine_read_bound, fine_write_bound, fine_failed, fine_handed, fine_coerce, fine_make_list, fine_leave, fine_bind_all, fine_new_ejector, fine_call, fine_make_object, fine_all_of, fine_last_of, fine_exit_of, fine_caught_by, fine_escaped, fine_handles, fine_tried, fine_at_last, fine_choose, fine_unmatched, fine_not_matched, fine_match_ended, fine_guard_of, fine_bind_list, fine_bind_items)
+
+  pub fine_step : {C : Fact N} → (x1 : Evaluator N) → GoodEvaluator K M x1 → (x2 : ℕ) → (x3 : Node) → (x4 : Scope N) → Gets K C (AreNouns x4.nouns) → Fine K M C (eval.step K tree x1 x2 x3 x4) answer
+  unfolding eval.step
+  fine_step {C = C} rec good id (Lit l) here g1 = search (nodes, good.expression, good.pattern) depth 30
+  fine_step {C = C} rec good id other here g1 = search (nodes, good.expression, good.pattern) depth 30
+
   pub fine_bind_step : {C : Fact N} → (rec : Evaluator N) → GoodEvaluator K M rec → (n : Node) → (v : Value N) → Gets K C (IsValue v) → (j : Value N) → Gets K C (IsValue j) → (here : Scope N) → Gets K C (AreNouns here.nouns) → Fine K M C (eval.bind_step K tree rec n v j here) scope
   unfolding eval.bind_step scopes.with_noun
-  fine_bind_step {C = C} rec good (Final x g) v g1 j g2 here g3 = bind_answer K M (fine_guard_of rec good g here g3) (λ a.
-      fine_bind K M (λ y. IsBound (Fixed y a.value)) (coerce_bound {C = Also C (Also (IsValue a.value) (AreNouns a.scope.nouns))} (calls.call K tree rec) (λ D act y h verb args i. fine_call {C = D} rec good act y h verb args i) here.act a.value (record { at = λ ts ls c. c.1.0 }) j (record { at = λ ts ls c. g2.at ts ls c.0 }) v (record { at = λ ts ls c. g1.at ts ls c.0 }))
-      (λ y. fine_give K M (scopes.with_noun x (Fixed y a.value) a.scope) (record { at = λ ts ls c. (c.1, c.0.1.1) })))
-  fine_bind_step {C = C} rec good (Var x g) v g1 j g2 here g3 = bind_answer K M (fine_guard_of rec good g here g3) (λ a.
-      bind_value K M (fine_coerce {C = Also C (Also (IsValue a.value) (AreNouns a.scope.nouns))} (calls.call K tree rec) (λ D act y h verb args i. fine_call {C = D} rec good act y h verb args i) here.act a.value (record { at = λ ts ls c. c.1.0 }) j (record { at = λ ts ls c. g2.at ts ls c.0 }) v (record { at = λ ts ls c. g1.at ts ls c.0 }))
-      (λ y. bind_number K M (fine_slot K M a.value y (record { at = λ ts ls c. c.0.1.0 }) (record { at = λ ts ls c. c.1 })) (λ k. then_unit K M (fine_tell K M _) (fine_give K M (scopes.with_noun x (Slot k) a.scope) (record { at = λ ts ls c. (tt, c.0.1.1) })))))
-  fine_bind_step {C = C} rec good (Any g) v g1 j g2 here g3 = search (fine, looks, knows, fine_guard_of, fine_coerce, fine_call) depth 30
-  fine_bind_step {C = C} rec good (ListPattern ps) v g1 j g2 here g3 = search (fine, looks, knows, fine_bind_items) depth 30
-  fine_bind_step {C = C} rec good (Via e p) v g1 j g2 here g3 = search (fine, looks, knows, fine_handed, fine_call, good.expression, good.pattern) depth 30
-  fine_bind_step {C = C} rec good _ v g1 j g2 here g3 = fine_stop K M _
+  fine_bind_step {C = C} rec good (Any g) v g1 j g2 here g3 = search (nodes, good.expression, good.pattern) depth 30
+  fine_bind_step {C = C} rec good other v g1 j g2 here g3 = search (nodes, good.expression, good.pattern) depth 30
 
   pub fine_bind_found : {C : Fact N} → (rec : Evaluator N) → GoodEvaluator K M rec → (o : Option Node) → (v : Value N) → Gets K C (IsValue v) → (j : Value N) → Gets K C (IsValue j) → (here : Scope N) → Gets K C (AreNouns here.nouns) → Fine K M C (eval.bind_found K tree rec o v j here) scope
   unfolding eval.bind_found

@@ -1,9 +1,9 @@
 -- What a vat does with references, from a sound state, ends in a sound state.
 use Rattle.std.proofs.Common.{ℕ, zero, suc, Bool, true, false, List, [], ◌∷◌, Option, Some, None}
-use Rattle.def_machine.specs.Values.{Words, Value, Prim, Naming}
+use Rattle.def_machine.specs.Values.{Words, Value, Naming}
 use Rattle.def_machine.specs.State.{Message, Standing, Settled, Known, Passed, Passeds, Plain, AGift, Many, NoMore, More, Deliver, ToTell, Act, alter, send_out, Delivery}
 use Rattle.def_machine.specs.Refs as refs
-use Rattle.def_machine.specs.Refs.{Place, Near, Mine, Away, Gone}
+use Rattle.def_machine.specs.Refs.{Place, Mine, Away}
 use Rattle.law_frozen.proofs.Fine.{Keeper, Loose, Fact, IsValue, AreValues, IsMessage, AreMessages, IsKnown, MayKnown, DoesPass, DoAllPass, nothing, Gets, Fine, fine, fine_alter, got_to_tell}
 use Rattle.law_frozen.proofs.Looks.{looks}
 

@@ -1,7 +1,7 @@
 -- Every step of a vat from a sound state ends in a sound state.
 use Rattle.std.proofs.Common.{◌≡◌, ℕ}
 use Rattle.def_machine.specs.Values.{Naming, Own}
-use Rattle.def_machine.specs.State.{Vat, Done, Gives, Throws, Ejects, Stops}
+use Rattle.def_machine.specs.State.{Vat, Done, Gives}
 use Rattle.law_machine.specs.Steps.{Step, Opens, Takes, Receives, Notices, does, After}
 use Rattle.law_machine.proofs.Walks.{where_some}
 use Rattle.law_frozen.specs.Frozen.{Sound}

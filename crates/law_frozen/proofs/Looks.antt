@@ -1,10 +1,9 @@
 -- What is looked at in a sound state.
 use Rattle.std.proofs.Common.{ℕ, zero, suc, Bool, true, false, List, [], ◌∷◌, Option, Some, None, length}
 use Rattle.std.specs.Prelude.{slice_get}
-use Rattle.def_machine.specs.Values.{Words, Value, Null, Flag, Number, Letter, Text, Prim, Broken, Items, Ref, Naming, Spot, Own, Foreign, NoObject}
-use Rattle.def_machine.specs.State.{Message, Standing, Unsettled, WaitsOn, Viewed, Settled, Known, Passed, Passeds, AGift, Many, NoMore, More, Deliver, Open, Ask, SettledTo, Elsewhere, Shorten, Vat, Act, ◌>>=◌, each, look, is_in, Delivery}
+use Rattle.def_machine.specs.Values.{Words, Value, Broken, Items, Ref, Naming, Spot, Own, Foreign, NoObject}
+use Rattle.def_machine.specs.State.{Message, Standing, Viewed, Settled, Known, Passed, Passeds, AGift, Many, NoMore, More, Deliver, Open, Ask, SettledTo, Elsewhere, Shorten, Vat, Act, ◌>>=◌, each, look, is_in, Delivery}
 use Rattle.def_machine.specs.Refs as refs
-use Rattle.def_machine.specs.Refs.{Parcel}
 use Rattle.def_machine.specs.Native.{list_at}
 use Rattle.law_frozen.specs.Frozen.{AllOf, Lists, IsThere, AreThere, StandingThere, KnownThere, CellThere, Passes, AllPass, ThingWell, Sound}
 use Rattle.law_frozen.proofs.Fine.{Keeper, MayBe, Fact, Also, IsValue, AreValues, IsMessage, AreMessages, MayCell, MayThing, MayKnown, DoesPass, DoAllPass, NoteDoes, parcel, nothing, Gets, Fine, fine_sees, fine_bind, fine_then, fine_give, got_nothing}

@@ -2,7 +2,7 @@
 use Rattle.std.proofs.Common.{◌≡◌, ℕ, zero, suc, Bool, true, false, List, [], ◌∷◌, Option, Some, None, refl, inl, inr, ◌==◌}
 use Rattle.std.specs.Prelude.{slice_get}
 use Rattle.std.proofs.lemmas.Bool.{eq-eqb}
-use Rattle.def_machine.specs.Values.{Value, Null, Flag, Number, Letter, Text, Prim, Broken, Items, Ref, Name, Naming, Spot, Own, Foreign, naming, numbering, spot_of, local_spot}
+use Rattle.def_machine.specs.Values.{Value, Items, Ref, Name, Naming, Spot, Own, Foreign, naming, numbering, spot_of, local_spot}
 use Rattle.def_machine.specs.State.{Fixed, Slot, Binding, Thing, Made, Vat}
 use Rattle.law_frozen.specs.Frozen.{AllOf, IsAmong, Lists, HasNoName, IsFrozen, FrozenCapture, ThingWell, Sound, Leads, Reaches, HasNoSlot, FrozenReach, deep_frozen}
 use Rattle.law_frozen.proofs.Facts.{all_map}

@@ -1,8 +1,8 @@
 -- Every world of a run is sound: each vat in it, and each note under way.
 use Rattle.std.proofs.Common.{◌≡◌, ℕ, zero, suc, Bool, true, false, List, [], ◌∷◌, ◌++◌, Option, Some, None, refl, sym, ap, inl, inr, ◌⊎◌, map, ◌==◌}
 use Rattle.std.specs.Prelude.{slice_get}
-use Rattle.def_machine.specs.Values.{Value, Null, Flag, Number, Letter, Text, Prim, Broken, Items, Ref, Name, Root}
-use Rattle.def_machine.specs.State.{Message, Passed, Passeds, Plain, AGift, Many, NoMore, More, Note, Deliver, Open, Ask, SettledTo, Elsewhere, Shorten, Put, Vat, Done, Gives, Throws, Ejects, Stops, begun}
+use Rattle.def_machine.specs.Values.{Value, Items, Name, Root}
+use Rattle.def_machine.specs.State.{Message, Passed, Passeds, Plain, AGift, Many, NoMore, More, Note, Deliver, SettledTo, Put, Vat, Done, Gives, begun}
 use Rattle.def_machine.specs.Native as native
 use Rattle.def_machine.specs.Scopes as scopes
 use Rattle.def_machine.specs.Scopes.{any_guard}
@@ -11,7 +11,7 @@ use Rattle.def_machine.specs.Arrive.{notice}
 use Rattle.law_machine.specs.Steps.{Step, Opens as Starts, Takes, Receives, Notices, does, After}
 use Rattle.def_run.specs.Draws.{draw_word}
 use Rattle.def_run.specs.World as world
-use Rattle.def_run.specs.World.{Script, Program, Opens, Entry, Turn, Carry, CutLink, NoticeLink, Event, Turned, Idle, Carried, CutAt, NoticedAt, Link, World, Run, Goes, Stopped, names, names_of, read_note}
+use Rattle.def_run.specs.World.{Script, Program, Opens, Entry, Turn, Carry, CutLink, NoticeLink, Event, Turned, Idle, Carried, NoticedAt, Link, World, Run, Goes, Stopped, names, names_of, read_note}
 use Rattle.law_frozen.specs.Frozen.{AllOf, PlainPasses, Passes, AllPass, NotePasses, KnownThere, MessageThere, NounWell, Sound}
 use Rattle.law_frozen.specs.Laws.{StepWell}
 use Rattle.law_frozen.specs.Runs.{ReachIsFrozenIn, ReachIsFrozenInRuns, ReachIsFrozenAtTheEnd}

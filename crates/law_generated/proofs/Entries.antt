@@ -15,7 +15,7 @@ use Rattle.ev_generate.specs.Generated.{entry, spelled_entry}
 use Rattle.ev_script.specs.Json.{each, listed}
 use Rattle.ev_script.specs.Schedule.{are_in_order, begins_with_zero, bounded_rounds, is_numeral, is_spelled, may_follow, most_rounds, placed, rounds_of, round, step_in, told, written}
 use Rattle.ev_script.specs.declared.script.Entry.{Entry}
-use Rattle.ev_script.specs.declared.script.Entry.TheVariants.{Turn, Carry, Cut, Notice}
+use Rattle.ev_script.specs.declared.script.Entry.TheVariants.{Turn, Carry, Notice}
 use Rattle.law_generated.specs.Accepted.{chosen}
 use Rattle.law_generated.proofs.Plain.{are_plain, both, decimal_digits, decimal_value}
 use Rattle.law_generated.proofs.Texts.{all_plain, texts, with_comma}

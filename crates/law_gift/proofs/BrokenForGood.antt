@@ -2,7 +2,7 @@
 use Rattle.std.proofs.Common.{◌≡◌, ℕ, zero, suc, Bool, true, false, List, [], ◌∷◌, Option, Some, None, refl, sym, subst, ◌∙◌}
 use Rattle.std.specs.Prelude.{slice_get}
 use Rattle.def_machine.specs.Values.{Broken, Name, Naming}
-use Rattle.def_machine.specs.State.{GiftEntry, Known, Vat, Done, Gives, Throws, Ejects, Stops, is_in}
+use Rattle.def_machine.specs.State.{GiftEntry, Known, Vat, Done, Gives, is_in}
 use Rattle.def_machine.specs.Refs.{entry_of, standing_of}
 use Rattle.def_machine.specs.Arrive.{notice}
 use Rattle.def_run.specs.World.{Script, NoticeLink, Event, NoticedAt, World, Run, Goes, Stopped, then_goes, put_at, put_back, readied, within, step, step_number, steps_from, names}

@@ -1,8 +1,8 @@
 -- What is known of the name of a gift that was not opened.
 use Rattle.std.proofs.Common.{◌≡◌, ℕ, zero, suc, Bool, true, false, List, [], ◌∷◌, Option, Some, None, refl, sym, subst, ap, ◌∙◌, ◌⊎◌, inl, inr}
 use Rattle.std.specs.Prelude.{slice_get}
-use Rattle.def_machine.specs.Values.{Value, Broken, Name, Root, Object, Promise, Answer, Gift, Sent, Naming, naming, word_of}
-use Rattle.def_machine.specs.State.{Message, Standing, Unsettled, WaitsOn, Viewed, Settled, Known, GiftEntry, Vat}
+use Rattle.def_machine.specs.Values.{Value, Broken, Name, Gift, Naming, naming, word_of}
+use Rattle.def_machine.specs.State.{Message, Standing, Unsettled, Settled, Known, GiftEntry, Vat}
 use Rattle.def_machine.specs.Refs.{entry_of, standing_of, standing_in}
 use Rattle.law_machine.specs.Breaks.{IsBroken}
 use Rattle.law_name.specs.Names.{AllOf}

@@ -1,6 +1,5 @@
 -- Each step of a vat of a world keeps of it that what waits or settled may settle, whichever names may.
-use Rattle.std.proofs.Common.{◌≡◌, ℕ, List, [], ◌∷◌, refl, sym, subst}
-use Rattle.std.specs.Prelude.{slice_get}
+use Rattle.std.proofs.Common.{◌≡◌, ℕ, List, ◌∷◌, sym, subst}
 use Rattle.def_machine.specs.Values.{Name, Root, Promise, Answer, Naming, Msg, naming}
 use Rattle.def_machine.specs.State.{Message, Note, Vat, Done, Gives}
 use Rattle.law_machine.specs.Steps.{Step, Opens as Starts, Takes, Receives, Notices, does, After}

@@ -1,7 +1,7 @@
 -- What is kept of a vat: that a name which waits or settled, but to a broken reference, is one that may settle; and so is all that waits, and each answer that a message here has.
 use Rattle.std.proofs.Common.{◌≡◌, ℕ, Bool, true, false, List, [], ◌∷◌, Option, Some, refl, sym, subst, ◌⊎◌, inl, inr}
-use Rattle.def_machine.specs.Values.{Value, Null, Flag, Number, Letter, Text, Prim, Broken, Items, Ref, Name, Gift, Naming, naming}
-use Rattle.def_machine.specs.State.{Message, Standing, Unsettled, WaitsOn, Viewed, Settled, Known, Change, Hold, Wait, WaitOn, See, React, ToTell, Settle, GiftEntry, Vat, Done, Gives, Throws, Ejects, Stops, WhereSome, is_gift, with_opened, with_change, changed, changed_to}
+use Rattle.def_machine.specs.Values.{Value, Broken, Name, Gift, Naming, naming}
+use Rattle.def_machine.specs.State.{Message, Standing, Unsettled, Settled, Known, Change, Hold, Wait, React, ToTell, Settle, GiftEntry, Vat, Done, Gives, Throws, Ejects, Stops, WhereSome, is_gift, with_opened, with_change, changed, changed_to}
 use Rattle.def_machine.specs.Arrive.{gift_at}
 use Rattle.def_machine.specs.Refs.{entry_of, target_of}
 use Rattle.std.proofs.lemmas.Bool.{eqb-true}

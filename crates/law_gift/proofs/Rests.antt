@@ -1,8 +1,8 @@
 -- All that a vat does with references, with notes and with cuts keeps that, where what settles may settle or breaks.
 use Rattle.std.proofs.Common.{◌≡◌, ℕ, zero, suc, Bool, true, false, List, [], ◌∷◌, Option, Some, None, refl, sym, subst, ◌⊎◌, inl, inr}
 use Rattle.std.specs.Prelude.{nat_le}
-use Rattle.def_machine.specs.Values.{Words, Value, Prim, Broken, Ref, Name, Root, Object, Promise, Answer, Gift, Sent, Naming, Coming, Mailing, IsOwn, IsAnswer, IsLearnt, Msg, naming, name_of, answer_of, mail_of}
-use Rattle.def_machine.specs.State.{Message, Standing, Unsettled, WaitsOn, Viewed, Settled, Known, Hold, Wait, WaitOn, See, React, ToTell, Settle, Passed, Passeds, Plain, AGift, Many, NoMore, More, Delivery, Deliver, Open, Ask, SettledTo, Elsewhere, Shorten, Note, GiftEntry, Happened, Vat, Stop, Done, Gives, Throws, Ejects, Stops, Act, ◌>>=◌, ◌>>◌, and_then, for_some, each, give, stop, look, tell, spend, spent, new_list, enqueue, send_out, new_gift, open_gift, mark, draws, alter, come, mail, new_promise, new_message, new_lone_message, draw, begun, WhereSome}
+use Rattle.def_machine.specs.Values.{Words, Value, Broken, Ref, Name, Answer, Gift, Sent, Naming, Coming, Mailing, IsOwn, IsAnswer, IsLearnt, Msg, naming, name_of, answer_of, mail_of}
+use Rattle.def_machine.specs.State.{Message, Standing, Viewed, Settled, Known, Hold, Wait, WaitOn, See, React, ToTell, Settle, Passed, Passeds, Plain, AGift, Many, NoMore, More, Delivery, Deliver, Open, Ask, SettledTo, Elsewhere, Shorten, Note, GiftEntry, Happened, Vat, Stop, Done, Gives, Act, ◌>>=◌, ◌>>◌, and_then, for_some, each, give, stop, look, tell, spend, spent, new_list, enqueue, send_out, new_gift, open_gift, mark, draws, alter, come, mail, new_promise, new_message, new_lone_message, draw, begun, WhereSome}
 use Rattle.def_machine.specs.Refs as refs
 use Rattle.def_machine.specs.Refs.{Place, Near, Mine, Away, Gone, entry_of, target_of}
 use Rattle.def_machine.specs.Arrive as arrive

@@ -1,9 +1,9 @@
 -- In every world of a run a gift that was not opened did not settle, or it is broken.
 use Rattle.std.proofs.Common.{◌≡◌, ℕ, zero, suc, List, [], ◌∷◌, ◌++◌, Some, refl, sym, ap, subst, ◌∙◌, ◌⊎◌, inl, inr, map}
 use Rattle.std.specs.Prelude.{slice_get}
-use Rattle.def_machine.specs.Values.{Name, Root, Object, Promise, Answer, Gift, Sent, Naming, Msg, naming, host_of}
-use Rattle.def_machine.specs.State.{Message, Note, Deliver, Open, Ask, SettledTo, Elsewhere, Shorten, GiftEntry, Vat, Done, Gives, begun}
-use Rattle.law_machine.specs.Steps.{Step, Opens as Starts, Takes, Receives, Notices, does, After}
+use Rattle.def_machine.specs.Values.{Name, Gift, Sent, Naming, naming, host_of}
+use Rattle.def_machine.specs.State.{Note, Deliver, Open, SettledTo, Elsewhere, GiftEntry, Vat, Done, Gives, begun}
+use Rattle.law_machine.specs.Steps.{Step, Receives, does}
 use Rattle.def_run.specs.Draws.{draw_word}
 use Rattle.def_run.specs.World as world
 use Rattle.def_run.specs.World.{Script, Program, Entry, Link, World, Run, Goes, names, names_of, read_note, readied, put_at, link_at}
@@ -11,10 +11,9 @@ use Rattle.law_name.specs.Names.{AllOf, NoteOk}
 use Rattle.law_name.specs.Runs.{KnowsOnce}
 use Rattle.law_name.proofs.Facts.{MayBe}
 use Rattle.law_fate.specs.FateRuns.{Reached}
-use Rattle.law_frozen.specs.Frozen.{AllOf as EachOf, MessageThere, NotePasses, Sound}
-use Rattle.law_frozen.specs.Laws.{StepWell}
+use Rattle.law_frozen.specs.Frozen.{AllOf as EachOf, NotePasses, Sound}
 use Rattle.law_frozen.proofs.Fine.{MayBe as Maybe}
-use Rattle.law_frozen.proofs.RunSound.{WorldSound, LinkPasses, link_passes, note_read, given_well, begins_sound, opens_sound, steps_sound}
+use Rattle.law_frozen.proofs.RunSound.{WorldSound, LinkPasses, link_passes, begins_sound, opens_sound, steps_sound}
 use Rattle.law_gift.specs.Gifts.{SameGifts}
 use Rattle.law_gift.proofs.Stays.{gifts_stay}
 use Rattle.law_reference.specs.Notes.{IsBetween}

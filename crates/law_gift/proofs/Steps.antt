@@ -1,7 +1,7 @@
 -- Every step of a vat keeps that, where what the turn, the note or the opening resolves may settle.
 use Rattle.std.proofs.Common.{ℕ, sym, subst, ◌∙◌}
 use Rattle.def_machine.specs.Values.{Name, Promise, Answer, Broken, Naming, Msg, naming, name_of}
-use Rattle.def_machine.specs.State.{Vat, Done, Gives, Throws, Ejects, Stops, Act}
+use Rattle.def_machine.specs.State.{Vat, Done, Gives, Ejects, Act}
 use Rattle.def_machine.specs.Refs.{settle, resolve}
 use Rattle.law_machine.specs.Steps.{Step, Opens, Takes, Receives, Notices, does, After}
 use Rattle.law_machine.proofs.Walks.{Holds}

@@ -26,7 +26,7 @@ use Rattle.def_grammar.specs.declared.place.Definition.TheVariants as definition
 use Rattle.def_grammar.specs.declared.place.Role.TheVariants as roles
 use Rattle.def_grammar.specs.Grammar.{Tree, Trees, node, more, leaf, item_line, caught_shape, value_line, definition_shape, named_shape, role_shape, moves, ending, form_at, shape_of, more_at, IsStop, MayEnd, Has, here, there, wrapped, Goal, inside, Spells, form, tower, stays, goes, ends, takes, reads, wraps, assigned, changed, becomes}
 use Rattle.def_grammar.specs.Grammar.{line as goal_line, tail as goal_tail}
-use Rattle.law_grammar.specs.Lines.{Rule, token, tree, either, upto, several, catches, exprs, exprs_more, members, Opens, left, right, upto_on, upto_end, several_on, several_end, catches_on, catches_end, exprs_semicolon, exprs_line_end, exprs_on, exprs_end, more_semicolon, more_line_end, more_end, members_semicolon, members_line_end, members_on, members_end, guarded, audited, valued, pattern_valued, pattern_guarded, listed, filled, parenthesis, caught, script, object_rule, function_rule, def_rule, var_rule, verb, arguments, member_rule, block_rule, if_rule, rule_at, assigned_rule, changed_rule, becomes_rule, more_rule, Aim, line, tail, rest, at_end, at_stop, groups, opens, LinesSpell, LinesArePlaces}
+use Rattle.law_grammar.specs.Lines.{Rule, token, tree, either, upto, several, catches, exprs, exprs_more, members, Opens, left, right, upto_on, upto_end, several_on, several_end, catches_on, catches_end, exprs_semicolon, exprs_line_end, exprs_on, exprs_end, more_semicolon, more_line_end, more_end, members_semicolon, members_line_end, members_on, members_end, guarded, audited, valued, pattern_valued, pattern_guarded, listed, filled, parenthesis, caught, script, object_rule, function_rule, def_rule, var_rule, verb, arguments, member_rule, block_rule, rule_at, assigned_rule, changed_rule, becomes_rule, more_rule, Aim, line, tail, rest, at_end, at_stop, groups, opens, LinesArePlaces}
 use Rattle.law_grammar.specs.Lines as lined
 
 -- what a rule may begin with

@@ -11,9 +11,9 @@ use Rattle.def_grammar.specs.declared.syntax.Tail.{Tail}
 use Rattle.def_grammar.specs.declared.syntax.Tail.TheVariants as tails
 use Rattle.def_grammar.specs.Grammar.{Tree, Trees, node, none, more, tower_of, shape_of, word_of, again, begun, IsStop}
 use Rattle.def_grammar.specs.Grammar.{Tree, Trees, node, none, more, tower_of, shape_of, word_of, again, begun, is_stop, IsStop}
-use Rattle.law_grammar.specs.Lines.{Rule, ends, stops, token, tree, wraps, either, upto, several, catches, exprs, exprs_more, members, Opens, left, right, upto_on, upto_end, several_on, several_end, catches_on, catches_end, exprs_semicolon, exprs_line_end, exprs_on, exprs_end, more_semicolon, more_line_end, more_end, members_semicolon, members_line_end, members_on, members_end, rule_at, more_rule, assigned_rule, changed_rule, becomes_rule, def_rule, var_rule, Aim, line, tail, rest, Reads, LinesSpell}
+use Rattle.law_grammar.specs.Lines.{Rule, ends, stops, token, tree, wraps, either, upto, several, catches, exprs, exprs_more, members, Opens, left, right, upto_on, upto_end, several_on, several_end, catches_on, catches_end, exprs_semicolon, exprs_line_end, exprs_on, exprs_end, more_semicolon, more_line_end, more_end, members_semicolon, members_line_end, members_on, members_end, rule_at, more_rule, assigned_rule, changed_rule, becomes_rule, def_rule, var_rule, Aim, line, tail, rest, Reads}
 use Rattle.law_grammar.specs.Lines as lined
-use Rattle.law_grammar.specs.Plain.{plain_line, plain, plain_of, plain_at, plain_tower, plain_more, Plain, PlainSpell, PlainIsPlaces}
+use Rattle.law_grammar.specs.Plain.{plain_line, plain, plain_of, plain_at, plain_tower, plain_more, Plain, PlainIsPlaces}
 use Rattle.law_grammar.specs.Plain as plained
 use Rattle.law_grammar.proofs.Meanings.{lines_are_places}
 

@@ -2,7 +2,7 @@
 use Rattle.std.proofs.Common.{◌≡◌, ◌⊎◌, inl, inr, ◌+◌, ◌++◌, ℕ, zero, suc, Bool, true, false, List, [], ◌∷◌, Option, Some, None, length, refl, ap, subst, ◌∙◌, arith}
 use Rattle.std.specs.Prelude.{slice_get}
 use Rattle.def_machine.specs.Values.{Name}
-use Rattle.def_machine.specs.State.{Message, Note, Vat, Stop, Done, Gives, Throws, Ejects, Stops, Act}
+use Rattle.def_machine.specs.State.{Message, Note, Vat, Stop, Done, Gives, Stops, Act}
 use Rattle.def_run.specs.World as world
 use Rattle.def_run.specs.World.{Script, Program, Entry, Turn, Carry, CutLink, NoticeLink, Event, Link, World, Run, Goes, Stopped, begins, with_link, with_notes}
 use Rattle.law_halt.specs.Halted.{OpeningStops, EntryStops, LeavesOf, StoppedRunsLeave}

@@ -2,7 +2,7 @@
 use Rattle.std.proofs.Common.{◌≡◌, ℕ, Bool, true, false, not, ◌&&◌, if◌then◌else◌, List, [], ◌∷◌, Option, Some, None, refl, ap, subst, ◌∙◌, length, ◌==◌}
 use Rattle.std.specs.Prelude.{slice_get}
 use Rattle.def_machine.specs.Values.{Name, Gift, naming, key, word_of}
-use Rattle.def_machine.specs.State.{Note, Deliver, Open, Ask, SettledTo, Elsewhere, Shorten, GiftEntry, Vat, is_gift, is_in}
+use Rattle.def_machine.specs.State.{Note, Deliver, Ask, Elsewhere, Shorten, GiftEntry, Vat, is_gift, is_in}
 use Rattle.def_machine.specs.Arrive.{gift_at}
 use Rattle.def_machine.specs.Receive as receive
 use Rattle.def_machine.specs.Receive.{Sight}

@@ -1,15 +1,15 @@
 -- A vat that has not one gift in hand, and does not know it but as its host, goes on so, where no note brings it: a care for names.
 use Rattle.std.proofs.Common.{◌≡◌, ℕ, zero, Bool, true, false, List, [], ◌∷◌, ◌++◌, Option, Some, None, refl, sym, ap, subst, ◌∙◌, ◌==◌}
 use Rattle.std.proofs.lemmas.Bool.{eqb-true}
-use Rattle.def_machine.specs.Values.{Ref, Name, Root, Object, Promise, Answer, Gift, Sent, Spot, Own, Foreign, NoObject, Naming, naming, name_of, mail_of, answer_of, spot_of, host_of, IsGift, IsLearnt, key, word_of, under}
+use Rattle.def_machine.specs.Values.{Ref, Name, Object, Promise, Gift, Sent, Spot, Own, Foreign, NoObject, Naming, naming, name_of, mail_of, answer_of, spot_of, host_of, IsGift, IsLearnt, key, word_of, under}
 use Rattle.def_machine.specs.State.{See, Views, Note, Ask, Shorten, GiftEntry, Vat, ◌>>=◌, ◌>>◌, and_then, give, look, come, mail, new_gift, draw, draws, drawn_at, alter, is_gift, begun}
 use Rattle.def_machine.specs.Refs as refs
-use Rattle.def_machine.specs.Refs.{Place, Mine, Away, host_at}
+use Rattle.def_machine.specs.Refs.{Mine, Away, host_at}
 use Rattle.def_machine.specs.Arrive as arrive
 use Rattle.def_machine.specs.Arrive.{New}
 use Rattle.def_machine.proofs.Keys.{word_under_key}
 use Rattle.def_run.specs.World as world
-use Rattle.law_name.specs.Names.{Bit, Named, Mail, Drew, At, Off, Entered, Owns, Gave, WasDrawn, IsMessageName, GiftOk}
+use Rattle.law_name.specs.Names.{Bit, Named, Mail, Entered, Owns, Gave, WasDrawn, IsMessageName, GiftOk}
 use Rattle.law_name.proofs.Facts.{MayBe, all_end, PlaceOk, Fact, Nothing, Also, IsName, IsMail, IsOwned, IsGiven, IsEntry, IsValue, nothing}
 use Rattle.law_name.proofs.Care.{Care, Under, Makes, Sound, Ends, Gets, Fine, fine_bind, fine_less, fine_then, fine_more, fine_with, fine_if, fine_give, fine_look, fine_tell, fine_out, fine_wait, changes_ok, with_known, with_entry}
 use Rattle.law_name.proofs.CareArrive.{Gifts, fine_ask_for}

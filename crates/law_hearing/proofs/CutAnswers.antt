@@ -6,7 +6,7 @@ use Rattle.def_machine.specs.State.{Note, Put, Vat}
 use Rattle.law_machine.specs.Steps.{Step, Receives}
 use Rattle.def_run.specs.Wire.{connected_at}
 use Rattle.def_run.specs.World as world
-use Rattle.def_run.specs.World.{Script, Link, World, link_at, with_link, with_notes, severed_link, pushed, put_at, push_all, names_of, read_note, cut_in}
+use Rattle.def_run.specs.World.{Script, Link, World, link_at, with_link, with_notes, severed_link, put_at, push_all, names_of, read_note, cut_in}
 use Rattle.law_fate.specs.Fate.{total, of_note, on_link, at_vat, sent_in, put_out}
 use Rattle.law_fate.specs.FateLaws.{brought as fate_brought}
 use Rattle.law_fate.specs.CarryLaws.{leaves}

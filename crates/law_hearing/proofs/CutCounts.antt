@@ -1,11 +1,11 @@
 -- The places of a message once it was put on a cut link, by counts.
 use Rattle.std.proofs.Common.{◌≡◌, ℕ, ◌+◌, ◌≤◌, Bool, true, false, List, [], ◌∷◌, Some, refl, sym, ap, subst, ◌∙◌, arith}
-use Rattle.def_machine.specs.Values.{Name, Root, Object, Promise, Answer, Gift, Sent, Msg, answer_of}
-use Rattle.def_machine.specs.State.{Note, Deliver, Open, Ask, SettledTo, Elsewhere, Shorten, Put, Vat}
+use Rattle.def_machine.specs.Values.{Name, Answer, Gift, Sent, Msg, answer_of}
+use Rattle.def_machine.specs.State.{Note, Deliver, Ask, Put, Vat}
 use Rattle.law_machine.specs.Steps.{Step}
 use Rattle.def_run.specs.Draws.{draw_word}
 use Rattle.def_run.specs.World as world
-use Rattle.def_run.specs.World.{Script, Link, World, is_link, link_at, with_link, severed_link, put_at, push_all, names, names_of, read_note, readied}
+use Rattle.def_run.specs.World.{Script, Link, World, is_link, link_at, with_link, severed_link, put_at, push_all, names, readied}
 use Rattle.law_fate.specs.Fate.{total, of_note, in_note, on_link, at_vat, sent_in, put_out, where_cut, account, gone, one as same_one}
 use Rattle.law_fate.specs.FateLaws.{Accounted, brought as fate_brought}
 use Rattle.law_fate.specs.Carry.{load, put_weight}

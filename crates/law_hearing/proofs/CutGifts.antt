@@ -1,8 +1,8 @@
 -- A gift for which a vat asked by a cut link is told to no vat; so what is lost on a cut link is not told back.
 use Rattle.std.proofs.Common.{◌≡◌, ℕ, Bool, true, false, Option, Some, None, refl, sym, ap, subst, ◌∙◌, ◌⊎◌, inl, inr}
 use Rattle.std.specs.Prelude.{slice_get}
-use Rattle.def_machine.specs.Values.{Name, Root, Object, Promise, Answer, Gift, Sent, Msg, answer_of}
-use Rattle.def_machine.specs.State.{Note, Deliver, Open, Ask, SettledTo, Elsewhere, Shorten, Put, Vat}
+use Rattle.def_machine.specs.Values.{Name, Answer, Gift, Sent, Msg, answer_of}
+use Rattle.def_machine.specs.State.{Note, Deliver, Ask, Put, Vat}
 use Rattle.def_run.specs.World.{Script, Link, World, link_at}
 use Rattle.law_name.specs.Names.{Named, IsAmong, IsKnownIn, IsMessageName, PutOk, names_in}
 use Rattle.law_name.proofs.Among.{all_among}

@@ -7,7 +7,7 @@ use Rattle.def_run.specs.Connections.{exported_note}
 use Rattle.def_run.specs.Wire as conn
 use Rattle.def_run.specs.Wire.{Connected, connected_at, with_connected, sight}
 use Rattle.def_run.specs.World as world
-use Rattle.def_run.specs.World.{Link, link_at, with_link, with_notes, pushed, severed_link}
+use Rattle.def_run.specs.World.{Link, with_link, with_notes, pushed, severed_link}
 use Rattle.law_name.specs.Names.{AllOf, IsAmong}
 use Rattle.law_reference.specs.Logs as wire
 use Rattle.law_reference.proofs.LinksCut.{fits_notes, fits_severed}

@@ -1,13 +1,13 @@
 -- What is seen of a note by numbers is what is read of it by names.
 use Rattle.std.proofs.Common.{◌≡◌, ℕ, suc, ◌+◌, ◌≤◌, Bool, true, false, List, [], ◌∷◌, ◌++◌, Option, Some, None, refl, sym, ap, subst, ◌∙◌, ◌⊎◌, inl, inr, length, ◌==◌, arith}
 use Rattle.std.proofs.lemmas.Bool.{eqb-true, eq-eqb}
-use Rattle.def_machine.specs.Values.{Words, Value, Null, Flag, Number, Letter, Text, Prim, Broken, Items, Ref, Name, Root, Object, Promise, Answer, Gift, Sent, host_of}
+use Rattle.def_machine.specs.Values.{Words, Value, Ref, Name, Root, Object, Promise, Answer, Gift, Sent, host_of}
 use Rattle.def_machine.specs.State.{Passed, Passeds, Plain, AGift, Many, NoMore, More, Note, Delivery, Deliver, Open, Ask, SettledTo, Elsewhere, Shorten}
 use Rattle.def_machine.specs.Arrive.{Incoming, Old, New}
 use Rattle.def_run.specs.Connections.{Learnt, Stage, Heard, stands_in, learnt_at}
 use Rattle.def_run.specs.Wire.{sight, is_object}
 use Rattle.def_run.specs.World as world
-use Rattle.def_run.specs.World.{Reading, has_name, is_old, read_name, known_after}
+use Rattle.def_run.specs.World.{is_old, read_name, known_after}
 use Rattle.law_fate.specs.Fate.{once}
 use Rattle.law_name.specs.Names.{IsAmong, IsKnownIn}
 use Rattle.law_name.proofs.SameNames.{has_among, among_has, old_known}
@@ -15,7 +15,6 @@ use Rattle.law_reference.specs.News.{IsPassed, IsPassedIn, Passes}
 use Rattle.law_reference.specs.GiftPassing.{gifts_in, gifts_in_all, gifts_in_note, PassesFrom, AllPassFrom, Provides}
 use Rattle.law_frame.specs.Asked.{told_value, told_passed, told_all, told_in}
 use Rattle.law_frame.specs.Reads as seen
-use Rattle.law_frame.specs.Reads.{found, after_that}
 use Rattle.law_frame.proofs.ArriveAsking.{among_front, among_back}
 use Rattle.law_frame.proofs.Exported.{among_split}
 use Rattle.law_frame.proofs.Grow.{known_old, among_left}

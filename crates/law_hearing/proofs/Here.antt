@@ -1,8 +1,8 @@
 -- Each object of another vat that a vat has was told to it in a note that has arrived.
 use Rattle.std.proofs.Common.{◌≡◌, ℕ, zero, suc, map, List, [], ◌∷◌, ◌++◌, Some, sym, ap, subst, ◌∙◌, ◌⊎◌, inl, inr, false}
 use Rattle.std.specs.Prelude.{slice_get}
-use Rattle.def_machine.specs.Values.{Name, Root, Object, Promise, Answer, Gift, Sent as Message_name, host_of}
-use Rattle.def_machine.specs.State.{Note, Deliver, Open, Ask, SettledTo, Elsewhere, Shorten, Vat, begun}
+use Rattle.def_machine.specs.Values.{Name, Root, Object, host_of}
+use Rattle.def_machine.specs.State.{Note, Deliver, Vat, begun}
 use Rattle.law_machine.specs.Steps.{Step, Receives}
 use Rattle.def_run.specs.Draws.{draw_word}
 use Rattle.def_run.specs.World as world

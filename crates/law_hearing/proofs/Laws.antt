@@ -2,13 +2,13 @@
 use Rattle.std.proofs.Common.{Option, ◌≡◌, ℕ, zero, suc, ◌≤◌, false, List, [], ◌∷◌, ◌++◌, Some, None, refl, sym, ap, subst, ◌∙◌, ◌⊎◌, inl, inr, length, arith, Bool, true, ◌==◌}
 use Rattle.std.specs.Prelude.{slice_get}
 use Rattle.def_machine.specs.Values.{Name, Gift, host_of}
-use Rattle.def_machine.specs.State.{Known, Note, Deliver, Open, Ask, SettledTo, Elsewhere, Shorten, Vat}
+use Rattle.def_machine.specs.State.{Known, Note, Deliver, Vat}
 use Rattle.def_machine.specs.Arrive.{Incoming}
 use Rattle.def_run.specs.Connections.{Connection, Learnt, Stage, Heard, learnt_at}
 use Rattle.def_run.specs.Wire as conn
 use Rattle.def_run.specs.Wire.{Connected, connected_at}
 use Rattle.def_run.specs.World as world
-use Rattle.def_run.specs.World.{Script, Entry, Link, World, Goes as Going, link_at, has_name, names_of, read_note}
+use Rattle.def_run.specs.World.{Script, Entry, Link, World, Goes as Going, link_at, names_of}
 use Rattle.law_name.specs.Names.{AllOf, IsAmong, IsKnownIn, names_in}
 use Rattle.law_name.specs.Runs.{KnowsOnce}
 use Rattle.law_name.proofs.Among.{all_among}

@@ -2,11 +2,11 @@
 use Rattle.std.proofs.Common.{◌≡◌, ℕ, zero, suc, ◌+◌, List, [], ◌∷◌, ◌++◌, Option, Some, None, refl, sym, ◌∙◌, length, append_assoc, append-nil, arith}
 use Rattle.std.specs.Prelude.{slice_get}
 use Rattle.def_machine.specs.Values.{Name, Root}
-use Rattle.def_machine.specs.State.{Vat, Done, Gives, Throws, Ejects, Stops}
+use Rattle.def_machine.specs.State.{Vat, Done, Gives}
 use Rattle.def_machine.specs.Eval.{opening}
 use Rattle.law_machine.specs.Steps.{Opens as Starts, does}
 use Rattle.def_run.specs.World as world
-use Rattle.def_run.specs.World.{Script, Program, Opens, Event, Entry, World, Run, Goes as Going, Stopped, names, readied}
+use Rattle.def_run.specs.World.{Script, Program, Opens, Entry, World, Run, Goes as Going, Stopped, names, readied}
 use Rattle.law_run.specs.Moves.{went}
 use Rattle.law_name.proofs.Among.{length_end}
 use Rattle.law_reference.specs.Cuts.{NoticesFollowCuts}

@@ -2,7 +2,7 @@
 use Rattle.std.proofs.Common.{◌≡◌, ℕ, zero, suc, ◌+◌, ◌≤◌, Bool, true, false, List, [], ◌∷◌, ◌++◌, Option, Some, None, refl, sym, ap, subst, ◌∙◌, ◌⊎◌, inl, inr, ◌==◌, arith}
 use Rattle.std.specs.Prelude.{slice_get}
 use Rattle.std.proofs.lemmas.Bool.{eq-eqb}
-use Rattle.def_machine.specs.Values.{Value, Null, Flag, Number, Letter, Text, Prim, Broken, Items, Ref, Name, Root, Answer, Gift, Msg, host_of}
+use Rattle.def_machine.specs.Values.{Value, Ref, Name, Root, Answer, Gift, Msg, host_of}
 use Rattle.def_machine.specs.State.{Message, Passed, Passeds, Plain, AGift, Many, NoMore, More, Note, Deliver, Open, Ask, SettledTo, Elsewhere, Shorten, Put, Vat}
 use Rattle.def_machine.specs.Scopes.{any_guard}
 use Rattle.law_machine.specs.Steps.{Step, Receives}
@@ -10,7 +10,7 @@ use Rattle.def_run.specs.Draws.{draw_word}
 use Rattle.def_run.specs.World as world
 use Rattle.def_run.specs.World.{Script, Program, Link, World, names_of, read_note, readied, put_at, push_all, pushed, with_link, with_notes, severed_link, link_at}
 use Rattle.law_fate.specs.Fate.{once}
-use Rattle.law_name.specs.Names.{Bit, Named, Mail, Drew, At, Off, Entered, Owns, Gave, AllOf, IsAmong, WasDrawn, NounOk, NoteOk, PutOk, Everywhere, names_in}
+use Rattle.law_name.specs.Names.{Bit, Named, Mail, Entered, Owns, Gave, AllOf, IsAmong, WasDrawn, NounOk, NoteOk, PutOk, Everywhere, names_in}
 use Rattle.law_name.proofs.Facts.{all_map, Nothing}
 use Rattle.law_name.proofs.Among.{all_among}
 use Rattle.law_name.proofs.Care.{parts_up}

@@ -2,7 +2,7 @@
 use Rattle.std.proofs.Common.{◌≡◌, ℕ, ◌≤◌, Bool, true, false, List, ◌++◌, Option, Some, refl, sym, subst, ◌∙◌, ◌⊎◌, inl, inr, arith}
 use Rattle.std.specs.Prelude.{slice_get}
 use Rattle.def_machine.specs.Values.{Name, Root, Object, Promise, Answer, Gift, Sent as Message_name, Msg, host_of, answer_of}
-use Rattle.def_machine.specs.State.{Passeds, Note, Deliver, Open, Ask, SettledTo, Elsewhere, Shorten, Vat}
+use Rattle.def_machine.specs.State.{Passeds, Note, Deliver, Ask, Vat}
 use Rattle.def_run.specs.World.{Script, Link, World, link_at, has_name}
 use Rattle.law_fate.specs.Fate.{on_link}
 use Rattle.law_name.specs.Names.{Named, IsAmong, IsKnownIn, IsMessageName, PutOk, names_in}

@@ -3,12 +3,12 @@ use Rattle.std.proofs.Common.{◌≡◌, ℕ, suc, true, List, [], ◌∷◌, �
 use Rattle.std.specs.Prelude.{slice_get, unwrap_or}
 use Rattle.std.proofs.lemmas.Bool.{eq-eqb}
 use Rattle.def_op.specs.Frames.{Operation}
-use Rattle.def_machine.specs.Values.{Value, Null, Flag, Number, Letter, Text, Prim, Broken, Items, Ref, Name, Root, host_of}
+use Rattle.def_machine.specs.Values.{Value, Items, Ref, Name, Root, host_of}
 use Rattle.def_machine.specs.State.{Passed, Passeds, Plain, AGift, Many, NoMore, More, Note, Delivery, Deliver, Open, Ask, SettledTo, Elsewhere, Shorten}
 use Rattle.def_machine.specs.Arrive.{Incoming}
 use Rattle.def_machine.proofs.Keys.{key_of}
 use Rattle.def_run.specs.Connections as tables
-use Rattle.def_run.specs.Connections.{Connection, Stage, Newcomers, Heard, stands_in, asked_in, exported_note, frame_now, note_heard}
+use Rattle.def_run.specs.Connections.{Connection, Stage, Heard, stands_in, asked_in, exported_note, frame_now, note_heard}
 use Rattle.def_run.specs.Wire as conn
 use Rattle.def_run.specs.Wire.{Connected, sight, is_object, newcomers, numbered, read_frame, frame_due}
 use Rattle.law_machine.proofs.StepLaws.{get_append}

@@ -1,7 +1,7 @@
 -- In every world of a run what vats have in numbers for each other goes with what the notes between them tell.
 use Rattle.std.proofs.Common.{◌≡◌, ℕ, zero, ◌+◌, List, [], ◌∷◌, ◌++◌, refl, sym, subst, length}
 use Rattle.def_run.specs.World as world
-use Rattle.def_run.specs.World.{Script, Program, Entry, Link, World, Goes as Going, link_at}
+use Rattle.def_run.specs.World.{Script, Program, Entry, Link, World, Goes as Going}
 use Rattle.law_name.specs.Names.{AllOf, IsAmong}
 use Rattle.law_name.specs.Runs.{KnowsOnce}
 use Rattle.law_name.proofs.Among.{all_among}

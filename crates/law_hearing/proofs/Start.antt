@@ -4,7 +4,7 @@ use Rattle.std.specs.Prelude.{slice_get}
 use Rattle.def_machine.specs.Values.{Name}
 use Rattle.def_run.specs.Wire.{Connected, connected_at, connects}
 use Rattle.def_run.specs.World as world
-use Rattle.def_run.specs.World.{Script, Program, Link, World, link_at, is_link}
+use Rattle.def_run.specs.World.{Script, Program, Link, link_at, is_link}
 use Rattle.law_name.proofs.Among.{length_end}
 use Rattle.law_reference.specs.Logs as wire
 use Rattle.law_reference.proofs.Moves.{get_mid}

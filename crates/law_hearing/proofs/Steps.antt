@@ -7,9 +7,9 @@ use Rattle.def_run.specs.Connections.{Connection}
 use Rattle.def_run.specs.Wire as conn
 use Rattle.def_run.specs.Wire.{Connected, connected_at, with_connected}
 use Rattle.def_run.specs.World as world
-use Rattle.def_run.specs.World.{Script, Program, Opens, Entry, Turn, Carry, CutLink, NoticeLink, Event, Carried, Link, World, Goes as Going, link_at, with_link, with_notes, pushed, severed_link, put_at, push_all, has_name}
+use Rattle.def_run.specs.World.{Script, Program, Opens, Entry, CutLink, NoticeLink, Event, Carried, Link, World, Goes as Going, link_at, with_link, with_notes, pushed, severed_link, put_at, push_all, has_name}
 use Rattle.law_run.specs.Moves as run
-use Rattle.law_run.specs.Moves.{Move, Stepped, IsHonest, Nobody, AnyNotice, went, without}
+use Rattle.law_run.specs.Moves.{Stepped, IsHonest, Nobody, AnyNotice, went}
 use Rattle.law_run.proofs.Honest.{NoDeed, NoWord}
 use Rattle.law_run.proofs.Told.{moves_told}
 use Rattle.law_name.specs.Names.{IsAmong, PutOk}

@@ -2,8 +2,8 @@
 use mathlib.Core.Bool.{false}
 use Rattle.std.proofs.Common.{◌≡◌, ℕ, List, [], ◌∷◌, ◌++◌, Some, refl, sym, subst, ap, ◌∙◌, ◌⊎◌, inl, inr, length, Bool, true}
 use Rattle.std.specs.Prelude.{slice_get}
-use Rattle.def_machine.specs.Values.{Name, Root, Object, Promise, Answer, Gift, Sent, Msg, IsAnswer, host_of, naming, name_of, answer_of, mail_of}
-use Rattle.def_machine.specs.State.{Known, Note, Deliver, Open, Ask, SettledTo, Elsewhere, Shorten, Put, Vat, Gives, ◌>>=◌, ◌>>◌, and_then, give, come, mail, send_out, begun}
+use Rattle.def_machine.specs.Values.{Name, Promise, Answer, Sent, Msg, IsAnswer, host_of, naming, name_of, answer_of, mail_of}
+use Rattle.def_machine.specs.State.{Known, Note, Deliver, Put, Vat, Gives, ◌>>=◌, ◌>>◌, and_then, give, come, mail, send_out, begun}
 use Rattle.def_machine.specs.Arrive as arrive
 use Rattle.def_machine.specs.Arrive.{New}
 use Rattle.def_run.specs.World.{next_frame, Script, Program, Event, Carried, World, put_at, push_all, with_link, with_notes, readied, names}

@@ -3,12 +3,12 @@ use mathlib.Core.Bool.{false}
 use Rattle.std.proofs.Common.{◌≡◌, ℕ, zero, true, List, [], ◌∷◌, Some, subst, length, arith, Bool}
 use Rattle.std.specs.Prelude.{slice_get}
 use Rattle.def_machine.specs.Values.{Name, IsAnswer, host_of, Naming, naming}
-use Rattle.def_machine.specs.State.{Made, Note, Deliver, Open, Ask, SettledTo, Elsewhere, Shorten, Vat, Done, Gives, Throws, Ejects, Stops, Act, ◌>>=◌, ◌>>◌, and_then, give, come, new_thing, new_promise, new_message, new_lone_message, draw, send_out}
+use Rattle.def_machine.specs.State.{Made, Note, Deliver, Vat, Done, Gives, Act, ◌>>=◌, ◌>>◌, and_then, give, come, new_thing, new_promise, new_message, new_lone_message, draw, send_out}
 use Rattle.def_machine.specs.Arrive as arrive
 use Rattle.def_machine.specs.Arrive.{New}
 use Rattle.def_run.specs.Draws.{draw_word}
 use Rattle.def_run.specs.World.{Script, World, put_at, names, names_of}
-use Rattle.law_name.specs.Names.{Bit, Named, Mail, Drew, At, Off, Entered, Owns, Gave, bare, promises_of, IsMade, IsHad, NoteOk, GoesOk, names_in}
+use Rattle.law_name.specs.Names.{Bit, Named, Mail, At, Off, bare, promises_of, IsMade, IsHad, NoteOk, GoesOk, names_in}
 use Rattle.law_name.proofs.Facts.{note_up, Fact, Also, Nothing, IsVat, IsName, IsMail, IsDraw, NoteDoes, NoteGoes, new_names, nothing}
 use Rattle.law_name.proofs.Care.{Care, Sound, Ends, Fine, fine_then, fine_give, fine_thing, fine_promise, fine_new_message, fine_lone_message, fine_draw, fine_out, come_answer}
 use Rattle.law_name.proofs.Among.{promises_at, get_put}

@@ -1,13 +1,13 @@
 -- The notes between two vats name only the two, in each world that is reached with hostile vats.
 use Rattle.std.proofs.Common.{◌≡◌, ℕ, zero, Bool, true, false, List, [], ◌∷◌, ◌++◌, Option, Some, None, refl, sym, subst, ◌∙◌, ◌⊎◌, inl, inr, length}
 use Rattle.std.specs.Prelude.{slice_get}
-use Rattle.def_machine.specs.Values.{Name, Sent, Root, Object, Promise, Answer, Gift, IsAnswer, host_of, Naming, naming, name_of, answer_of, mail_of}
-use Rattle.def_machine.specs.State.{Made, Note, Deliver, Open, Ask, SettledTo, Elsewhere, Shorten, Put, Vat, Gives, ◌>>=◌, ◌>>◌, and_then, give, new_thing, new_promise, new_message, new_lone_message, draw, draws, send_out, begun, come, mail, is_in}
+use Rattle.def_machine.specs.Values.{Name, Sent, Answer, IsAnswer, host_of, Naming, naming, name_of, answer_of, mail_of}
+use Rattle.def_machine.specs.State.{Made, Note, Deliver, Put, Vat, Gives, ◌>>=◌, ◌>>◌, and_then, give, new_thing, new_promise, new_message, new_lone_message, draw, draws, send_out, begun, come, mail, is_in}
 use Rattle.def_machine.specs.Arrive as arrive
-use Rattle.def_machine.specs.Arrive.{Incoming, Old, New}
+use Rattle.def_machine.specs.Arrive.{Old, New}
 use Rattle.def_run.specs.Draws.{draw_word}
 use Rattle.def_run.specs.World as world
-use Rattle.def_run.specs.World.{Script, Program, Entry, Event, Link, World, Run, Goes as Going, put_at, readied, names, names_of}
+use Rattle.def_run.specs.World.{Script, Program, Entry, Event, Link, World, Run, Goes as Going, readied, names, names_of}
 use Rattle.law_name.specs.Names.{AllOf, Once, IsMessageMade, NoteOk}
 use Rattle.law_name.proofs.Facts.{all_end, all_map}
 use Rattle.law_name.proofs.Run.{Stands, Told}

@@ -4,7 +4,7 @@ use Rattle.std.specs.Prelude.{slice_get}
 use Rattle.def_machine.specs.Values.{Name, Root}
 use Rattle.def_machine.specs.State.{Note, Vat, Gives}
 use Rattle.def_run.specs.World as world
-use Rattle.def_run.specs.World.{Script, Program, Event, Carried, Link, World, Goes as Going, put_at, readied}
+use Rattle.def_run.specs.World.{Script, Program, Event, Link, World, Goes as Going, put_at, readied}
 use Rattle.law_name.specs.Names.{Bit, bare, Once, AllOf, promises_of, messages_of, IsMade, IsHad, NoteOk, names_in}
 use Rattle.law_name.proofs.Facts.{all_map, all_end, note_up}
 use Rattle.law_name.proofs.Care.{parts_up}

@@ -2,7 +2,7 @@
 use Rattle.std.proofs.Common.{◌≡◌, ℕ, zero, suc, ◌+◌, Bool, true, false, List, [], ◌∷◌, ◌++◌, Option, Some, None, refl, sym, subst, ◌⊎◌, inl, inr, length, arith}
 use Rattle.std.specs.Prelude.{slice_get}
 use Rattle.def_machine.specs.Values.{Name, Promise, Answer, Sent, Msg, IsLearnt, IsAnswer, IsCarried, host_of, naming, name_of, answer_of, mail_of}
-use Rattle.def_machine.specs.State.{Thing, Made, Note, Deliver, Open, Ask, SettledTo, Elsewhere, Shorten, Put, Vat, Gives, ◌>>=◌, ◌>>◌, and_then, give, new_thing, new_promise, new_message, new_lone_message, draw, draws, send_out, begun, come, mail}
+use Rattle.def_machine.specs.State.{Thing, Made, Note, Deliver, Put, Vat, Gives, ◌>>=◌, ◌>>◌, and_then, give, new_thing, new_promise, new_message, new_lone_message, draw, draws, send_out, begun, come, mail}
 use Rattle.def_machine.specs.Arrive as arrive
 use Rattle.def_machine.specs.Arrive.{Old, New}
 use Rattle.law_machine.proofs.Keeps.{IsKept, IsKeptUnder}

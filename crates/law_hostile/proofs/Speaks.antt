@@ -3,7 +3,7 @@ use Rattle.std.proofs.Common.{◌≡◌, ℕ, zero, suc, false, List, [], ◌∷
 use Rattle.def_machine.specs.Values.{Name, Root, Answer, Sent}
 use Rattle.def_machine.specs.State.{Unsettled, Vat}
 use Rattle.def_run.specs.World as world
-use Rattle.def_run.specs.World.{Script, Program, Link, World, readied, opened_world}
+use Rattle.def_run.specs.World.{Script, Link, World, readied, opened_world}
 use Rattle.law_name.specs.Names.{opened_names}
 use Rattle.law_run.specs.Moves.{NewMessage, Says, went, opened_moves}
 use Rattle.law_hostile.specs.Hostile.{a_note, IsReached, HostileVatsSpeak}

@@ -19,7 +19,7 @@ use Rattle.law_connected.specs.Known.{AValue, IsAmong, Holdings, IsThing}
 use Rattle.law_connected.specs.InTime.{WellThen}
 use Rattle.law_connected.specs.Connected.{Open, AskedThen, GivenBack, BackWell}
 use Rattle.def_trace.specs.Uses as text
-use Rattle.def_trace.specs.Uses.{Line, line_after, place_of, place_after, OpenCall, open_calls, KnowsName, name_of, things_of, AName, AsksAudition, GivesBack, BackKnown, HoldsAt}
+use Rattle.def_trace.specs.Uses.{Line, place_of, place_after, OpenCall, open_calls, KnowsName, name_of, things_of, AName, AsksAudition, GivesBack, BackKnown}
 use Rattle.law_connected.proofs.Events.{here_event}
 use Rattle.law_connected.proofs.FineSteps.{among_right}
 use Rattle.law_connected.proofs.Knowing.{among_mid, among_more, thing_more}

@@ -1,7 +1,7 @@
 -- Each line of a run is connected by what was there when it was told.
 use Rattle.std.proofs.Common.{◌≡◌, ℕ, false, List, [], ◌∷◌, ◌++◌, sym, ap, subst, append_assoc, append-nil}
 use Rattle.def_machine.specs.Values.{Name}
-use Rattle.def_machine.specs.State.{Happened, Vat, Done, Gives, Throws, Ejects, Stops}
+use Rattle.def_machine.specs.State.{Happened, Vat, Done, Gives}
 use Rattle.law_machine.specs.Steps.{does, After}
 use Rattle.def_run.specs.World.{Script, Event, World, names, readied}
 use Rattle.law_connected.specs.Known.{Holdings}

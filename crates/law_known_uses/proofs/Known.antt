@@ -1,7 +1,7 @@
 -- What an activation knows in the machine, it knows by the lines.
 use Rattle.std.proofs.Common.{◌≡◌, ℕ, ◌+◌, Bool, true, false, List, [], ◌∷◌, ◌++◌, Some, refl, subst, map, inl, inr}
 use Rattle.std.specs.Prelude.{slice_get}
-use Rattle.def_machine.specs.Values.{Value, Null, Flag, Number, Letter, Text, Prim, Broken, Items, Ref, Name, Object, same_reference, naming}
+use Rattle.def_machine.specs.Values.{Value, Items, Ref, Name, Object, same_reference, naming}
 use Rattle.def_machine.specs.State.{Standing, Viewed, Settled, Known, Happened, Settles, Views, Binding, Made}
 use Rattle.def_machine.specs.Refs as refs
 use Rattle.def_run.specs.World.{Script, Event, Here, names}
@@ -9,10 +9,10 @@ use Rattle.def_run.specs.Shown as show
 use Rattle.law_natives.specs.Natives.{IsPlain}
 use Rattle.law_name.proofs.SameNames.{reference_is}
 use Rattle.law_connected.specs.Known as known
-use Rattle.law_connected.specs.Known.{Item, AValue, AGuard, ASlot, IsAmong, AllOf, Holdings, parts_of_all, tells, AreOne, Leads, Runs}
+use Rattle.law_connected.specs.Known.{Item, AValue, IsAmong, AllOf, Holdings, parts_of_all, tells, AreOne, Leads, Runs}
 use Rattle.law_connected.specs.MessageLaws.{IsToldStanding}
 use Rattle.def_trace.specs.Uses as uses
-use Rattle.def_trace.specs.Uses.{Thing, AName, AList, Listed, Given, Captured, IsTold, Reaches, start, onward, Has, IsOpenAt, place_of, things_of}
+use Rattle.def_trace.specs.Uses.{Thing, AName, AList, Listed, Given, Captured, IsTold, start, onward, Has, place_of, things_of}
 use Rattle.law_uses.proofs.Shown.{lines, ListTold, list_leads}
 use Rattle.law_uses.proofs.Sources.{turned}
 use Rattle.law_uses.proofs.Carried.{in_all}

@@ -2,7 +2,7 @@
 use Rattle.std.proofs.Common.{◌≡◌, ℕ, ◌+◌, ◌==◌, Bool, true, false, List, [], ◌∷◌, ◌++◌, Some, refl, sym, ap, ◌∙◌, subst, append_assoc, append-nil}
 use Rattle.std.proofs.lemmas.Bool.{eqb-true, eq-eqb}
 use Rattle.def_machine.specs.Values.{Name}
-use Rattle.def_machine.specs.State.{Message, Happened, Posted, Vat, Done, Gives, Throws, Ejects, Stops}
+use Rattle.def_machine.specs.State.{Message, Happened, Posted, Vat, Done, Gives}
 use Rattle.law_machine.specs.Steps.{Step, Opens as Starts, Takes, Receives, Notices, does}
 use Rattle.def_run.specs.World as world
 use Rattle.def_run.specs.World.{Script, Event, LostCut, Link, World, names, readied, events_of, event_of}

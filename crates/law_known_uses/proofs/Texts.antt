@@ -11,7 +11,7 @@ use Rattle.def_run.specs.World.{Script, Event, Carried, Here, names}
 use Rattle.def_run.specs.Shown as show
 use Rattle.def_run.specs.Text.{shown_events, history_of}
 use Rattle.law_connected.specs.Known as known
-use Rattle.law_connected.specs.Known.{Item, AValue, AGuard, ASlot, IsAmong}
+use Rattle.law_connected.specs.Known.{Item, AValue, IsAmong}
 use Rattle.law_connected.specs.Connected.{uses, itself}
 use Rattle.law_connected.specs.InTime.{Moment, WellThen, InTime}
 use Rattle.law_connected.proofs.Passing.{all_map}

@@ -5,12 +5,12 @@ use Rattle.ev_base.specs.declared.names.Name.{Name as ShownName}
 use Rattle.def_event.specs.declared.shown.Shown.{Shown}
 use Rattle.def_event.specs.declared.event.Called.{Called as ShownCall}
 use Rattle.def_event.specs.declared.event.Event.{Event as ShownEvent}
-use Rattle.def_machine.specs.Values.{Words, Value, Null, Flag, Number, Letter, Text, Prim, Broken, Items, Ref, Name}
+use Rattle.def_machine.specs.Values.{Words, Value, Ref, Name}
 use Rattle.def_machine.specs.State.{Bound, Fixed, Slot, Message, Happened, Called, SlotWrote, ListMade, ObjectMade, Sends, Reacts, Finished, Posted}
 use Rattle.def_machine.specs.Free.{same_words}
 use Rattle.def_run.specs.Shown as show
 use Rattle.law_frozen.proofs.EvalFacts.{same_is}
-use Rattle.law_connected.specs.Known.{Item, AValue, AGuard, ASlot, IsAmong, AllOf, parts_of, parts_of_all, by, values}
+use Rattle.law_connected.specs.Known.{Item, AValue, AGuard, IsAmong, AllOf, parts_of, parts_of_all, by, values}
 use Rattle.law_connected.specs.Connected as connected
 use Rattle.law_connected.specs.Connected.{callee, itself}
 use Rattle.def_trace.specs.Uses as uses

@@ -2,7 +2,7 @@
 use Rattle.std.proofs.Common.{◌≡◌, ℕ, zero, suc, Bool, true, false, List, [], ◌∷◌, ◌++◌, Option, Some, None, refl, ◌⊎◌, inl, inr, subst, ap, sym}
 use Rattle.std.specs.Prelude.{slice_get}
 use Rattle.def_machine.specs.Values.{Name, Root}
-use Rattle.def_machine.specs.State.{Message, Note, Vat, Done, Gives, Throws, Ejects, Stops, Act}
+use Rattle.def_machine.specs.State.{Message, Note, Vat, Done, Gives, Act}
 use Rattle.def_machine.specs.Eval.{opening}
 use Rattle.def_machine.specs.Arrive.{notice}
 use Rattle.law_machine.specs.Steps.{Step, Opens as Starts, Takes, Receives, Notices, does}

@@ -3,13 +3,13 @@ use Rattle.std.proofs.Common.{◌≡◌, ℕ, zero, Bool, true, false, List, [],
 use Rattle.def_machine.specs.Values.{Name}
 use Rattle.def_run.specs.Wire.{connected_at}
 use Rattle.def_run.specs.World as machine
-use Rattle.def_run.specs.World.{Script, Entry, Carry, Link, World, Run, Goes, link_at}
+use Rattle.def_run.specs.World.{Script, Entry, Carry, Link, World, Goes, link_at}
 use Rattle.law_name.specs.Runs.{KnowsOnce}
 use Rattle.law_reference.specs.Cuts.{NoticesFollowCuts}
 use Rattle.law_reference.proofs.LegMoves.{stepped_before}
 use Rattle.law_reference.proofs.LegRuns.{self_none}
 use Rattle.def_local.specs.Numbers as numbers
-use Rattle.def_local.specs.Numbers.{Frame, Way, Vats, Course, way_at}
+use Rattle.def_local.specs.Numbers.{Frame, Way, Vats, way_at}
 use Rattle.law_local.specs.Mirrors.{Mirrors, WayMirrors, RunMirrors}
 use Rattle.law_local.specs.Carrying.{CarriesMirror}
 use Rattle.law_local.proofs.Closing.{idles_mirror}

@@ -6,7 +6,7 @@ use Rattle.std.proofs.lemmas.List.{length-set}
 use Rattle.std.proofs.lemmas.Option.{slice_get_within}
 use Rattle.def_op.specs.Frames.{spelling}
 use Rattle.def_machine.specs.Values.{Name, Promise, host_of, Local, Prom, numbering, naming}
-use Rattle.def_machine.specs.State.{Note, Deliver, Open, Ask, SettledTo, Elsewhere, Shorten, Vat, Stop, Done, Gives, Throws, Ejects, Stops}
+use Rattle.def_machine.specs.State.{Note, Deliver, Ask, Vat, Stop, Done, Gives, Stops}
 use Rattle.def_machine.specs.Arrive.{Incoming, Old, New, arrive}
 use Rattle.def_run.specs.Connections.{Heard, asked_in}
 use Rattle.def_run.specs.Draws.{draw_word}
@@ -62,7 +62,7 @@ use Rattle.law_local.proofs.ToldLaws.{messages_in_order, lines_named, gifts_name
 use Rattle.law_local.proofs.ToldPromises.{own_promises_ordered}
 use Rattle.def_local.specs.Vats.{Member, connection_for, heard_in, heard_on, asked_by}
 use Rattle.def_local.specs.Numbers as numbers
-use Rattle.def_local.specs.Numbers.{Frame, Way, Vats, Course, Runs, way_at, ready, brought, after_step}
+use Rattle.def_local.specs.Numbers.{Frame, Way, Vats, Course, way_at, ready, brought, after_step}
 use Rattle.law_local.specs.Mirrors.{Mirrors, VatMirrors, RunMirrors}
 use Rattle.law_local.specs.Naming.{Tells}
 use Rattle.law_local.specs.Writing.{PutsSo}

@@ -4,7 +4,7 @@ use Rattle.std.specs.Prelude.{slice_set, get_or, option_map, ◌==◌}
 use Rattle.std.proofs.lemmas.Bool.{eqb-true}
 use Rattle.std.proofs.lemmas.List.{get_or-set_same, get_or-set_other, map-append}
 use Rattle.def_machine.specs.Values.{Name, Gift, answer_of, Local, Prom}
-use Rattle.def_machine.specs.State.{Note, Deliver, Open, Ask, SettledTo, Elsewhere, Shorten, GiftEntry, Vat, is_gift}
+use Rattle.def_machine.specs.State.{Note, Deliver, Ask, GiftEntry, Vat, is_gift}
 use Rattle.def_machine.specs.Arrive.{Incoming, gift_at}
 use Rattle.def_run.specs.Connections.{Connection, Heard, asked_in, answer_if}
 use Rattle.def_run.specs.Wire.{Connected, connected_at, sight, received, hear_at, imports_after, read_frame, first_stage, frame_due}

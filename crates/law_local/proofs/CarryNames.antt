@@ -4,8 +4,8 @@ use Rattle.std.specs.Prelude.{slice_get, drop}
 use Rattle.std.proofs.lemmas.List.{length-append}
 use Rattle.std.proofs.lemmas.Option.{slice_get_within}
 use Rattle.def_op.specs.Frames.{Operation}
-use Rattle.def_machine.specs.Values.{Name, Root, Promise, Gift, host_of, answer_of, Local, Obj, Prom, Far, Mess}
-use Rattle.def_machine.specs.State.{Note, Deliver, Open, Ask, SettledTo, Elsewhere, Shorten, Vat}
+use Rattle.def_machine.specs.Values.{Name, Root, Promise, Gift, host_of, answer_of, Local, Prom}
+use Rattle.def_machine.specs.State.{Note, Deliver, Vat}
 use Rattle.def_machine.specs.Arrive.{Incoming}
 use Rattle.def_run.specs.Connections.{Learnt, Heard, Stage}
 use Rattle.def_run.specs.Wire.{connected_at}

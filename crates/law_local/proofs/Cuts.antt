@@ -2,7 +2,7 @@
 use Rattle.std.proofs.Common.{◌≡◌, ℕ, ◌<◌, length, Bool, true, false, List, [], ◌∷◌, ◌++◌, Option, Some, None, ◌⊎◌, inl, inr, refl, sym, ap, ◌∙◌, subst, map}
 use Rattle.std.specs.Prelude.{option_map, slice_get, ◌==◌}
 use Rattle.def_machine.specs.Values.{Name}
-use Rattle.def_machine.specs.State.{Vat, Note, Deliver, Open, Ask, SettledTo, Elsewhere, Shorten}
+use Rattle.def_machine.specs.State.{Vat, Note, Deliver}
 use Rattle.def_run.specs.Wire.{connected_at}
 use Rattle.def_run.specs.World as machine
 use Rattle.def_run.specs.World.{Script, Event, CutAt, LostCut, Link, World, link_at, with_link, severed_link, lost_by, lost_on, readied}

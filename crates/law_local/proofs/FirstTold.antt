@@ -1,7 +1,7 @@
 -- What is read first in a note comes to be known, in order, behind what was known before.
 use Rattle.std.proofs.Common.{◌≡◌, ℕ, Bool, true, false, List, [], ◌∷◌, ◌++◌, refl, sym, ap, subst, ◌∙◌, map, append_assoc, append-nil}
 use Rattle.std.proofs.lemmas.List.{map-append}
-use Rattle.def_machine.specs.Values.{Value, Null, Flag, Number, Letter, Text, Prim, Broken, Items, Ref, Name, Root, Object, Promise, Answer, Gift, Sent, host_of}
+use Rattle.def_machine.specs.Values.{Value, Ref, Name, Object, Gift, host_of}
 use Rattle.def_machine.specs.State.{Passed, Passeds, Plain, AGift, Many, NoMore, More, Note, Deliver, Open, Ask, SettledTo, Elsewhere, Shorten}
 use Rattle.def_machine.specs.Arrive.{Incoming, Old, New}
 use Rattle.def_machine.specs.Maps as maps

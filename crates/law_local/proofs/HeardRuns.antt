@@ -6,7 +6,7 @@ use Rattle.std.proofs.lemmas.List.{length-map}
 use Rattle.std.proofs.lemmas.Option.{slice_get_within}
 use Rattle.def_op.specs.Frames.{Operation}
 use Rattle.def_machine.specs.Values.{Name, Root, Object, Gift, Sent, host_of, Local, Obj, Prom, Far, Mess}
-use Rattle.def_machine.specs.State.{Known, Note, Deliver, Open, Ask, SettledTo, Elsewhere, Shorten, Vat}
+use Rattle.def_machine.specs.State.{Known, Note, Deliver, Vat}
 use Rattle.def_machine.specs.Arrive.{Incoming}
 use Rattle.def_machine.specs.Maps as maps
 use Rattle.def_machine.specs.Maps.{incoming}

@@ -3,13 +3,13 @@ use Rattle.std.proofs.Common.{◌≡◌, ℕ, zero, ◌+◌, ◌<◌, ◌≤◌,
 use Rattle.std.specs.Prelude.{slice_get}
 use Rattle.std.proofs.lemmas.Option.{slice_get_within}
 use Rattle.def_machine.specs.Values.{Name, Local, naming}
-use Rattle.def_machine.specs.State.{Message, Vat, Stop, Done, Gives, Throws, Ejects, Stops}
+use Rattle.def_machine.specs.State.{Message, Vat, Stop, Done, Gives, Stops}
 use Rattle.def_machine.specs.Eval.{taking}
 use Rattle.law_machine.specs.Steps.{Step, Takes, IsQuiet, does}
 use Rattle.law_machine.proofs.StepEnds.{step_ends}
 use Rattle.def_run.specs.Draws.{draw_word}
 use Rattle.def_run.specs.World as machine
-use Rattle.def_run.specs.World.{Script, Program, Entry, Turn, NoticeLink, Event, Turned, NoticedAt, World, Run, Goes, readied, put_back, within, heard_by, connections_after, tree_at, step_number}
+use Rattle.def_run.specs.World.{Script, Entry, Turn, Event, Turned, World, Goes, readied, put_back, within, heard_by, connections_after, tree_at, step_number}
 use Rattle.law_name.specs.Names.{AllOf, names_in}
 use Rattle.law_name.specs.Runs.{KnowsOnce}
 use Rattle.law_name.proofs.Laws.{names_apart}
@@ -36,7 +36,7 @@ use Rattle.law_local.proofs.ToldPromises.{own_promises_ordered}
 use Rattle.def_local.specs.Names.{own_mails}
 use Rattle.def_local.specs.Vats.{Member}
 use Rattle.def_local.specs.Numbers as numbers
-use Rattle.def_local.specs.Numbers.{Vats, own_step}
+use Rattle.def_local.specs.Numbers.{Vats}
 use Rattle.law_local.specs.Joined.{IsLawful, TurnsMirror}
 use Rattle.law_local.specs.Mirrors.{Mirrors, RunMirrors}
 use Rattle.law_local.specs.Steps.{world_left, OwnStepStands}

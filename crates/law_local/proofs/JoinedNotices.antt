@@ -3,13 +3,13 @@ use Rattle.std.proofs.Common.{◌≡◌, ℕ, zero, ◌+◌, ◌<◌, List, [], 
 use Rattle.std.specs.Prelude.{slice_get}
 use Rattle.std.proofs.lemmas.Option.{slice_get_within}
 use Rattle.def_machine.specs.Values.{Name, Local, naming}
-use Rattle.def_machine.specs.State.{Vat, Stop, Done, Gives, Throws, Ejects, Stops}
+use Rattle.def_machine.specs.State.{Vat, Stop, Done, Gives, Stops}
 use Rattle.def_machine.specs.Arrive.{notice}
 use Rattle.law_machine.specs.Steps.{Step, Notices, IsQuiet, does}
 use Rattle.law_machine.proofs.StepEnds.{step_ends}
 use Rattle.def_run.specs.Draws.{draw_word}
 use Rattle.def_run.specs.World as machine
-use Rattle.def_run.specs.World.{Script, Program, Entry, Turn, NoticeLink, Event, Turned, NoticedAt, World, Run, Goes, readied, put_back, within, heard_by, connections_after, tree_at, step_number}
+use Rattle.def_run.specs.World.{Script, Entry, NoticeLink, Event, NoticedAt, World, Goes, readied, put_back, within, heard_by, connections_after, step_number}
 use Rattle.law_reference.specs.Knowing.{brought}
 use Rattle.law_reference.proofs.NameTableSteps.{steps_know_once}
 use Rattle.law_frame.specs.AlikeArrivals.{table_across}

@@ -3,13 +3,13 @@ use Rattle.std.proofs.Common.{◌≡◌, ℕ, zero, suc, ◌+◌, ◌<◌, List,
 use Rattle.std.specs.Prelude.{slice_get}
 use Rattle.std.proofs.lemmas.Option.{slice_get_within}
 use Rattle.def_machine.specs.Values.{Name, Root, Prom, naming}
-use Rattle.def_machine.specs.State.{Vat, Stop, Done, Gives, Throws, Ejects, Stops}
+use Rattle.def_machine.specs.State.{Vat, Stop, Done, Gives, Stops}
 use Rattle.def_machine.specs.Eval.{opening}
 use Rattle.law_machine.specs.Steps.{Step, Opens as Starts, IsQuiet, does}
 use Rattle.law_machine.proofs.StepEnds.{step_ends}
 use Rattle.def_run.specs.Draws.{draw_word}
 use Rattle.def_run.specs.World as machine
-use Rattle.def_run.specs.World.{Script, Program, Opens, Event, World, Goes, readied, put_back, within, heard_by, connections_after}
+use Rattle.def_run.specs.World.{Script, Program, Opens, World, Goes, readied, put_back, within, heard_by, connections_after}
 use Rattle.law_name.specs.Names.{names_in}
 use Rattle.law_name.specs.Runs.{KnowsOnce}
 use Rattle.law_name.proofs.Laws.{names_apart}

@@ -2,7 +2,7 @@
 use Rattle.std.proofs.Common.{◌≡◌, ℕ, zero, suc, ◌+◌, ◌-◌, ◌≤◌, Bool, true, false, List, [], ◌∷◌, ◌++◌, ◌⊎◌, inl, inr, Option, None, refl, sym, ap, ◌∙◌, subst, length, drop, arith}
 use Rattle.std.proofs.lemmas.Bool.{eq-eqb}
 use Rattle.def_machine.specs.Values.{Name, Promise, Gift}
-use Rattle.def_machine.specs.State.{Note, Deliver, Open, Ask, SettledTo, Elsewhere, Shorten, Put, GiftEntry, Happened, Sends, Reacts, Vat}
+use Rattle.def_machine.specs.State.{Note, Deliver, Ask, Put, GiftEntry, Happened, Sends, Reacts, Vat}
 use Rattle.law_name.specs.Names.{AllOf, IsAmong, HostIsTrue, IsEventual, IsMessageName, names_in}
 use Rattle.law_name.proofs.Among.{all_among}
 use Rattle.law_name.proofs.Facts.{all_map}

@@ -1,6 +1,6 @@
 -- Which names may stand in a note or in a connection, where names are changed.
 use Rattle.std.proofs.Common.{◌≡◌, Bool, true, List, [], ◌∷◌, map}
-use Rattle.def_machine.specs.Values.{Value, Null, Flag, Number, Letter, Text, Prim, Broken, Items, Ref}
+use Rattle.def_machine.specs.Values.{Value, Ref}
 use Rattle.def_machine.specs.State.{Passed, Passeds, Plain, AGift, Many, NoMore, More, Note, Deliver, Open, Ask, SettledTo, Elsewhere, Shorten}
 use Rattle.def_run.specs.Connections.{Connection}
 use Rattle.law_name.specs.Names.{AllOf}

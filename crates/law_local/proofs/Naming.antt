@@ -4,7 +4,7 @@ use Rattle.std.specs.Prelude.{slice_get, option_map, drop, flat_map, unwrap_or, 
 use Rattle.std.proofs.lemmas.Bool.{eqb-true, eq-eqb}
 use Rattle.std.proofs.lemmas.Option.{slice_get-map}
 use Rattle.def_machine.specs.Values.{Name, Root, Object, Promise, Answer, Gift, Sent, Msg, host_of, answer_of, Local, Obj, Prom, Far, Mess}
-use Rattle.def_machine.specs.State.{Known, Message, Note, Delivery, Deliver, Open, Ask, SettledTo, Elsewhere, Shorten, Put, GiftEntry, Happened, Took, Called, Back, Thrown, Left, Got, SlotMade, SlotRead, SlotWrote, ListMade, ListCame, EjectorMade, AuditionMade, PromiseMade, ObjectMade, Sends, Reacts, Finished, Threw, Settles, Waits, Views, Lost, Posted, Vat}
+use Rattle.def_machine.specs.State.{Known, Message, Note, Delivery, Deliver, Ask, Put, GiftEntry, Happened, Sends, Vat}
 use Rattle.law_name.specs.Names.{AllOf, IsAmong, IsEventual, IsMessageName, names_in}
 use Rattle.law_name.proofs.SameNames.{at_all}
 use Rattle.def_machine.specs.Maps as maps

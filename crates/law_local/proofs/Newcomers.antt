@@ -5,7 +5,7 @@ use Rattle.def_op.specs.Frames as op
 use Rattle.def_op.specs.declared.op.Plain.TheVariants as plain
 use Rattle.def_op.specs.declared.op.Plain.{Plain as Fact}
 use Rattle.def_op.specs.Frames.{Described, Members, Outcome, Operation}
-use Rattle.def_machine.specs.Values.{Value, Null, Flag, Number, Letter, Text, Prim, Broken, Items, Ref, key}
+use Rattle.def_machine.specs.Values.{Value, Null, Flag, Number, Letter, Text, Prim, Broken, Ref, key}
 use Rattle.def_machine.specs.State.{Passed, Passeds, Plain, AGift, Many, NoMore, More, Note, Delivery, Deliver, Open, Ask, SettledTo, Elsewhere, Shorten}
 use Rattle.def_machine.specs.Arrive.{Incoming, Old, New}
 use Rattle.def_run.specs.Connections as read

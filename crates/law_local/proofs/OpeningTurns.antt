@@ -17,7 +17,7 @@ use Rattle.law_renaming.proofs.Stands.{Extends, still, step_stands, books_of, bo
 use Rattle.law_reference.specs.Tables.{table_of}
 use Rattle.def_local.specs.Vats.{Member}
 use Rattle.def_local.specs.Numbers as numbers
-use Rattle.def_local.specs.Numbers.{Vats, ready, own_step, nothing_brought}
+use Rattle.def_local.specs.Numbers.{Vats, ready, own_step}
 use Rattle.law_local.specs.Mirrors.{Mirrors, RunMirrors}
 use Rattle.law_local.specs.Steps.{OwnStepStands}
 use Rattle.law_local.proofs.OwnSteps.{own_steps_mirror}

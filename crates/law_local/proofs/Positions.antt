@@ -3,7 +3,7 @@ use Rattle.std.proofs.Common.{◌≡◌, ℕ, zero, suc, ◌<◌, Bool, true, fa
 use Rattle.std.specs.Prelude.{slice_get, option_map, ◌==◌}
 use Rattle.std.proofs.lemmas.Bool.{eq-eqb}
 use Rattle.std.proofs.lemmas.Option.{slice_get-map}
-use Rattle.def_machine.specs.Values.{Name, Root, Object, Promise, Answer, Gift, Sent, host_of, Spot, Own, Foreign, NoObject, spot_of, Local, Obj, Prom, Far, Mess}
+use Rattle.def_machine.specs.Values.{Name, Object, Sent, host_of, Spot, Own, Foreign, NoObject, spot_of, Local, Obj, Prom, Far, Mess}
 use Rattle.def_run.specs.World.{Link, link_at}
 use Rattle.law_name.specs.Names.{AllOf}
 use Rattle.law_name.proofs.SameNames.{at_all}

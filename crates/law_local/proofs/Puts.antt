@@ -1,6 +1,6 @@
 -- What holds of each state in names, of what its vat put.
 use Rattle.std.proofs.Common.{◌≡◌, ℕ, Bool, true, false, List, [], ◌∷◌, refl}
-use Rattle.def_machine.specs.Values.{Value, Null, Flag, Number, Letter, Text, Prim, Broken, Items, Ref, Name, Root, Object, Promise, Answer, Gift, Sent, answer_of}
+use Rattle.def_machine.specs.Values.{Value, Ref, Name, Sent, answer_of}
 use Rattle.def_machine.specs.State.{Passed, Passeds, Plain, AGift, Many, NoMore, More, Note, Deliver, Open, Ask, SettledTo, Elsewhere, Shorten, Put}
 use Rattle.def_run.specs.Connections.{asked_in, answer_if}
 use Rattle.def_run.specs.Wire.{sight}

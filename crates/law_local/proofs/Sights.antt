@@ -3,7 +3,7 @@ use Rattle.std.proofs.Common.{◌≡◌, ℕ, zero, suc, Bool, true, false, List
 use Rattle.std.specs.Prelude.{slice_get, option_map, ◌==◌}
 use Rattle.std.proofs.lemmas.Bool.{eqb-true, eq-eqb}
 use Rattle.std.proofs.lemmas.Option.{slice_get-map}
-use Rattle.def_machine.specs.Values.{Name, Root, Object, Promise, Answer, Gift, Sent, host_of, Foreign, Own, NoObject, Spot, spot_of, Local, Obj, Prom, Far, Mess}
+use Rattle.def_machine.specs.Values.{Name, Object, host_of, Foreign, Own, NoObject, Spot, spot_of, Local, Obj, Prom, Far, Mess}
 use Rattle.def_machine.specs.State.{Known, Note, Vat}
 use Rattle.def_run.specs.Wire.{is_object}
 use Rattle.law_name.specs.Names.{AllOf, HostIsTrue, names_in}

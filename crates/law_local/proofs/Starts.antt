@@ -20,7 +20,7 @@ use Rattle.law_frame.specs.OwnFrames.{refers}
 use Rattle.law_frame.proofs.Written.{at_fresh, from_fresh}
 use Rattle.def_local.specs.Vats.{Member, connection_for, unconnected}
 use Rattle.def_local.specs.Numbers as numbers
-use Rattle.def_local.specs.Numbers.{Frame, Way, Vats, way_at, far_name, ready}
+use Rattle.def_local.specs.Numbers.{Way, Vats, way_at, ready}
 use Rattle.law_local.specs.Mirrors.{VatMirrors, WaysMirror, FramesDue}
 use Rattle.law_local.specs.Statements.{StartMirrors}
 use Rattle.law_local.proofs.Ways.{way_found}

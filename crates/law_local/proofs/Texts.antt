@@ -3,7 +3,7 @@ use Rattle.std.proofs.Common.{refl, sym, append-nil}
 use Rattle.def_event.specs.Lines.{render, render_run}
 use Rattle.def_run.specs.World.{Goes, Stopped}
 use Rattle.def_run.specs.Text as theirs
-use Rattle.def_run.specs.Text.{shown_events, stop_line, stop_text, history_of, draws_of, vat_names}
+use Rattle.def_run.specs.Text.{shown_events, stop_text, history_of, draws_of, vat_names}
 use Rattle.def_local.specs.Numbers.{Runs, Halts}
 use Rattle.def_local.specs.Text as ours
 use Rattle.law_local.specs.Statements.{TextsMirror}

@@ -1,10 +1,10 @@
 -- A note brings no promise of its receiver that the receiver does not know.
 use Rattle.std.proofs.Common.{◌≡◌, ℕ, Bool, true, false, List, [], ◌∷◌, ◌++◌, Option, Some, None, sym, subst, ◌⊎◌, inl, inr, arith}
 use Rattle.std.specs.Prelude.{slice_get}
-use Rattle.def_machine.specs.Values.{Value, Null, Flag, Number, Letter, Text, Prim, Broken, Items, Ref, Name, Root, Object, Promise, Answer, Gift, Sent, answer_of}
+use Rattle.def_machine.specs.Values.{Value, Ref, Name, Promise, Gift, Sent, answer_of}
 use Rattle.def_machine.specs.State.{Passed, Passeds, Plain, AGift, Many, NoMore, More, Note, Deliver, Open, Ask, SettledTo, Elsewhere, Shorten, Vat}
 use Rattle.def_run.specs.World.{Script, World, is_old, known_after, read_value, read_passed, read_all, plain_read, many_read, more_read}
-use Rattle.law_machine.specs.Steps.{Step, Opens as Starts, Takes, Receives, Notices}
+use Rattle.law_machine.specs.Steps.{Step, Receives}
 use Rattle.law_name.specs.Names.{Bit, Named, IsAmong, IsMessageName, ValueOk, PassedOk, PassedsOk, NoteOk, names_in}
 use Rattle.law_name.proofs.Among.{among_or, promises_at}
 use Rattle.law_name.proofs.Run.{Told, Stands}

@@ -2,7 +2,7 @@
 use Rattle.std.proofs.Common.{◌≡◌, ℕ, Bool, true, false, List, [], ◌∷◌, ◌++◌, Option, Some, None, refl, sym, ap, subst, ◌∙◌, length, inl}
 use Rattle.std.specs.Prelude.{slice_get}
 use Rattle.def_machine.specs.Values.{Name, Root}
-use Rattle.def_machine.specs.State.{Message, Note, Vat, Done, Gives, Throws, Ejects, Stops}
+use Rattle.def_machine.specs.State.{Message, Note, Vat, Done, Gives}
 use Rattle.def_machine.specs.Eval.{opening}
 use Rattle.def_machine.specs.Arrive.{notice}
 use Rattle.def_run.specs.World as world

@@ -2,10 +2,10 @@
 use Rattle.std.proofs.Common.{◌≡◌, ℕ, ◌+◌, ◌≤◌, ◌-◌, Bool, true, false, List, [], ◌∷◌, ◌++◌, Option, Some, None, refl, sym, ap, ◌∙◌, inl, inr, length, arith}
 use Rattle.std.specs.Prelude.{drop, slice_get}
 use Rattle.def_machine.specs.Values.{Name, answer_of}
-use Rattle.def_machine.specs.State.{Note, Deliver, Open, Ask, SettledTo, Elsewhere, Shorten, Put, GiftEntry, Vat}
+use Rattle.def_machine.specs.State.{Note, Deliver, Ask, Put, GiftEntry, Vat}
 use Rattle.def_local.specs.Names.{own_mails}
 use Rattle.def_run.specs.World.{Script, World, names, readied}
-use Rattle.law_machine.specs.Steps.{Step, Opens as Starts, Takes, Receives, Notices}
+use Rattle.law_machine.specs.Steps.{Step, Opens as Starts, Receives, Notices}
 use Rattle.law_run.specs.Moves.{Does}
 use Rattle.law_name.specs.Names.{AllOf, IsAmong, NoteOk, PutOk, names_in}
 use Rattle.law_name.proofs.Facts.{all_map}

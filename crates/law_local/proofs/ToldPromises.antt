@@ -2,11 +2,11 @@
 use Rattle.std.proofs.Common.{◌≡◌, ℕ, zero, suc, ◌+◌, ◌-◌, ◌<◌, Bool, true, false, List, [], ◌∷◌, ◌++◌, Some, refl, sym, ap, ◌∙◌, ◌⊎◌, inl, inr, append_assoc, append-nil, length, ◌==◌, arith}
 use Rattle.std.specs.Prelude.{slice_get}
 use Rattle.std.proofs.lemmas.Bool.{eqb-true, eq-eqb}
-use Rattle.def_machine.specs.Values.{Name, Root, Object, Promise, Answer, Gift, Sent, IsAnswer, Naming, naming, name_of}
+use Rattle.def_machine.specs.Values.{Name, Promise, IsAnswer, Naming, naming, name_of}
 use Rattle.def_machine.specs.State.{Vat, change, dead, holding, with_opened, with_change, begun}
 use Rattle.def_run.specs.Draws.{draw_word}
 use Rattle.def_run.specs.World as world
-use Rattle.def_run.specs.World.{Script, Program, World, Goes, names, readied}
+use Rattle.def_run.specs.World.{Script, Program, World, names, readied}
 use Rattle.law_machine.proofs.Keeps.{IsKept, IsKeptUnder}
 use Rattle.law_machine.proofs.StepLaws.{kept_by_steps}
 use Rattle.law_run.specs.Runs.{EachVat}

@@ -1,7 +1,7 @@
 -- Each step of a run is steady: what comes to be known in it comes by what it tells, and messages come in order.
 use Rattle.std.proofs.Common.{◌≡◌, ℕ, List, ◌++◌, Option, Some, None, refl, sym, append-nil, subst}
 use Rattle.std.specs.Prelude.{slice_get}
-use Rattle.def_machine.specs.Values.{Name, Root, Object, Promise, Answer, Gift, Sent, naming}
+use Rattle.def_machine.specs.Values.{Name, Object, naming}
 use Rattle.def_machine.specs.State.{Note, Vat, Done, Gives}
 use Rattle.def_machine.specs.Arrive.{arrive}
 use Rattle.def_run.specs.Draws.{draw_word}

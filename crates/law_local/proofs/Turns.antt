@@ -3,13 +3,13 @@ use Rattle.std.proofs.Common.{◌≡◌, ℕ, List, [], ◌∷◌, Some, refl, s
 use Rattle.std.specs.Prelude.{slice_get}
 use Rattle.def_kernel.specs.declared.node.Node.{Node}
 use Rattle.def_machine.specs.Values.{Name, Local, numbering, naming}
-use Rattle.def_machine.specs.State.{Message, Vat, Stop, Done, Gives, Throws, Ejects, Stops}
+use Rattle.def_machine.specs.State.{Message, Vat, Stop, Done, Gives, Stops}
 use Rattle.def_machine.specs.Arrive.{notice}
 use Rattle.def_machine.specs.Eval.{taking}
 use Rattle.def_run.specs.Wire.{Connected}
 use Rattle.def_run.specs.Draws.{draw_word}
 use Rattle.def_run.specs.World as machine
-use Rattle.def_run.specs.World.{Script, Event, Turned, NoticedAt, World, Run, Goes, readied, put_back, put_at, within, connections_after, heard_by, tree_at, step_number}
+use Rattle.def_run.specs.World.{Script, Event, Turned, NoticedAt, World, readied, put_back, within, connections_after, heard_by, tree_at, step_number}
 use Rattle.law_name.specs.Names.{names_in}
 use Rattle.def_machine.specs.Maps as maps
 use Rattle.law_renaming.specs.Stands.{Table, Found, Is, found, finding, IsTable, StandsFor}
@@ -20,7 +20,7 @@ use Rattle.law_renaming.proofs.Stands.{Extends, still, step_stands, books_of, bo
 use Rattle.law_reference.specs.Tables.{table_of}
 use Rattle.def_local.specs.Vats.{Member}
 use Rattle.def_local.specs.Numbers as numbers
-use Rattle.def_local.specs.Numbers.{Vats, Course, Runs, ready, nothing_brought, left_by, after_step}
+use Rattle.def_local.specs.Numbers.{Vats, ready, nothing_brought, left_by, after_step}
 use Rattle.law_local.specs.Mirrors.{Mirrors, RunMirrors}
 use Rattle.law_local.specs.Steps.{world_left, OwnStepStands}
 use Rattle.law_local.proofs.OwnSteps.{own_steps_mirror}

@@ -4,7 +4,7 @@ use Rattle.std.specs.Prelude.{get_or, drop, option_map, slice_set, zero, suc}
 use Rattle.std.proofs.lemmas.List.{length-set, get_or-set_same, get_or-set_other}
 use Rattle.def_op.specs.Frames.{Operation}
 use Rattle.def_machine.specs.Values.{Name, answer_of, Local, Prom}
-use Rattle.def_machine.specs.State.{Put, Note, Delivery, Deliver, Open, Ask, SettledTo, Elsewhere, Shorten, Vat}
+use Rattle.def_machine.specs.State.{Put, Note, Delivery, Deliver, Vat}
 use Rattle.def_run.specs.Connections.{Connection, Sight, asked_in, frame_now, put_on, exporting}
 use Rattle.def_run.specs.Wire.{Connected, connected_at, with_connected, wrote, sight, write_all}
 use Rattle.def_run.specs.World as machine
@@ -20,7 +20,7 @@ use Rattle.law_frame.proofs.Writes.{exporting_may}
 use Rattle.law_frame.proofs.Places.{same_or, connected_same, connected_other, connected_ends}
 use Rattle.def_local.specs.Vats.{sight_for, answer_in, unconnected}
 use Rattle.def_local.specs.Numbers as numbers
-use Rattle.def_local.specs.Numbers.{Frame, Way, Addressed, way_at, with_way, written_on, all_written, frames_of}
+use Rattle.def_local.specs.Numbers.{Frame, Way, way_at, with_way, written_on, all_written, frames_of}
 use Rattle.law_local.specs.Mirrors.{WayMirrors, WaysMirror, FramesDue, HoldReferences}
 use Rattle.law_local.specs.Writing.{PutsSo, ConnectionsMirror, AllDue, WritingsMirror}
 use Rattle.law_local.proofs.MayMaps.{note_back, tables_back, note_on, tables_on}

@@ -1,10 +1,10 @@
 -- What arrives and what is noticed keep what each single change keeps.
 use Rattle.std.proofs.Common.{ℕ, List}
-use Rattle.def_machine.specs.Values.{Value, Prim, Naming}
+use Rattle.def_machine.specs.Values.{Value, Naming}
 use Rattle.def_machine.specs.State.{Standing, Known, Passed, Passeds, Note, GiftEntry, Vat}
 use Rattle.def_machine.specs.Refs.{Place}
 use Rattle.def_machine.specs.Arrive as arrive
-use Rattle.def_machine.specs.Arrive.{Incoming, Old, New}
+use Rattle.def_machine.specs.Arrive.{Incoming}
 use Rattle.def_machine.specs.Receive.{Sight, receive}
 use Rattle.law_machine.proofs.Walks.{InArrive, InArriveUnder}
 use Rattle.law_machine.proofs.Blocks.{arrive_of, arrive_under_of}

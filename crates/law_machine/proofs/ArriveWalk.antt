@@ -1,7 +1,7 @@
 -- What arrives and what is noticed have what each change and block of it has.
 use Rattle.std.proofs.Common.{ℕ, Bool, true, false, List, Option, Some, None}
-use Rattle.def_machine.specs.Values.{Words, Value, Null, Flag, Number, Letter, Text, Prim, Broken, Items, Ref, Naming, Mailing}
-use Rattle.def_machine.specs.State.{Standing, Unsettled, WaitsOn, Viewed, Settled, Known, Passed, Passeds, Plain, AGift, Many, NoMore, More, Note, Delivery, Deliver, Open, Ask, SettledTo, Elsewhere, Shorten, GiftEntry, ListCame, send_out, Views, See, Act, ◌>>◌, tell, alter, new_list, new_gift, open_gift, mark, mail}
+use Rattle.def_machine.specs.Values.{Words, Value, Items, Ref, Naming, Mailing}
+use Rattle.def_machine.specs.State.{Standing, Viewed, Settled, Known, Passed, Passeds, Plain, AGift, Many, NoMore, More, Note, Delivery, Deliver, Open, Ask, SettledTo, Elsewhere, Shorten, GiftEntry, ListCame, send_out, Views, See, Act, ◌>>◌, tell, alter, new_list, new_gift, open_gift, mark, mail}
 use Rattle.def_machine.specs.Refs.{Place, Away}
 use Rattle.def_machine.specs.Arrive as arrive
 use Rattle.def_machine.specs.Arrive.{Incoming, Old, New}

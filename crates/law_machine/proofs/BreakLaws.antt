@@ -2,8 +2,8 @@
 use Rattle.std.proofs.Common.{◌≡◌, ℕ, zero, suc, ◌≤◌, Bool, true, false, List, [], ◌∷◌, ◌++◌, Option, Some, None, refl, sym, ap, ◌⊎◌, inl, inr, arith, length}
 use Rattle.std.specs.Prelude.{codes, ◌==◌, if◌then◌else◌}
 use Rattle.std.proofs.lemmas.Bool.{eq-eqb}
-use Rattle.def_machine.specs.Values.{Words, Value, Prim, Broken, Ref, Local, Obj, Prom, Far, Mess, Naming, Spot, Own, Foreign, NoObject, numbering, local_spot, same_local}
-use Rattle.def_machine.specs.State.{Known, Standing, Unsettled, WaitsOn, Viewed, Settled, Change, Vat, Done, Gives, Throws, Ejects, Stops, Act, ◌>>=◌, ◌>>◌, and_then, each, give, look, mark, begun, is_in, with_change, changed}
+use Rattle.def_machine.specs.Values.{Words, Value, Broken, Ref, Local, Prom, Far, Naming, Spot, Own, Foreign, NoObject, numbering, local_spot, same_local}
+use Rattle.def_machine.specs.State.{Known, Standing, Viewed, Settled, Change, Vat, Done, Gives, Act, ◌>>=◌, ◌>>◌, and_then, each, give, look, mark, begun, is_in, with_change, changed}
 use Rattle.def_machine.specs.Refs.{Near, Mine, Away, entry_of, standing_of, standing_in, host_at, follow, follow_at, led, severed, severed_at, severed_by, spotted, hosted, place}
 use Rattle.def_machine.specs.Arrive as arrive
 use Rattle.def_machine.specs.Arrive.{notice, notice_all}

@@ -1,6 +1,6 @@
 -- All of evaluation keeps what each single change keeps.
 use Rattle.std.proofs.Common.{ℕ, List, Option}
-use Rattle.def_machine.specs.Values.{Words, Value, Prim, Naming}
+use Rattle.def_machine.specs.Values.{Words, Value, Naming}
 use Rattle.def_machine.specs.State.{Scope, Binding, View, Message, Vat, Act, Took}
 use Rattle.def_machine.specs.Form.{Item}
 use Rattle.def_machine.specs.Free.{BoundNoun}
@@ -8,7 +8,7 @@ use Rattle.def_machine.specs.Scopes as scopes
 use Rattle.def_machine.specs.Perform as perform
 use Rattle.def_machine.specs.Calls as calls
 use Rattle.def_machine.specs.Eval as eval
-use Rattle.def_machine.specs.Scopes.{Answer, Answers, Evaluator, Caller, Body, Case, AuditionAsk, GetsForm, GetsGuard, Asks, NoAuditionAsk, ResolverAsk, Resolves, Smashes, NoResolverAsk}
+use Rattle.def_machine.specs.Scopes.{Answer, Evaluator, Caller, Case}
 use Rattle.def_kernel.specs.declared.node.Node.{Node}
 use Rattle.law_machine.proofs.Walks.{where_some}
 use Rattle.law_machine.proofs.Walks.{InEval, InEvalUnder}

@@ -1,18 +1,18 @@
 -- All of evaluation has what each change and block of it has.
 use Rattle.std.proofs.Common.{ℕ, zero, suc, Bool, true, false, List, [], ◌∷◌, Option, Some, None, codes, if◌then◌else◌, ◌==◌}
 use Rattle.def_machine.specs.Values.{Words, Value, Null, Flag, Text, Prim, Broken, Items, Ref, Naming, Spot, Own}
-use Rattle.def_machine.specs.State.{Bound, Fixed, Slot, Scope, Binding, Cell, View, Thing, Made, Ejector, Audition, Resolver, Message, Standing, Unsettled, Act, Took, Got, SlotMade, SlotRead, SlotWrote, ListMade, PromiseMade, ObjectMade, Finished, Threw, ◌>>=◌, ◌>>◌, give, throw, eject, ending, tell, spend, new_activation, new_thing, new_slot, write_slot, new_list, new_promise, for_some, WhereSome}
+use Rattle.def_machine.specs.State.{Bound, Slot, Scope, Binding, Cell, View, Thing, Made, Ejector, Resolver, Message, Standing, Unsettled, Act, Took, Got, SlotMade, SlotRead, SlotWrote, ListMade, PromiseMade, ObjectMade, Finished, Threw, ◌>>=◌, ◌>>◌, give, throw, eject, ending, tell, spend, new_activation, new_thing, new_slot, write_slot, new_list, new_promise, for_some, WhereSome}
 use Rattle.def_machine.specs.Refs.{Place, Near, settle, resolve, send, send_only, react}
 use Rattle.def_machine.specs.Form.{Item, Begin, End, Word, Fact}
 use Rattle.def_machine.specs.Free.{BoundNoun}
-use Rattle.def_machine.specs.Native.{Reply, Says, Writes, Lists, Iterates, Fails, Guard, Asked, MakesList, Ranges, Same, Compares, Loops, SendsTo, CallsTo, MakesPromise, Breaks, Tells, Whens, ThrowsIt, IsStamped, Coerces, AddsNull, NoMethod}
+use Rattle.def_machine.specs.Native.{Reply, Writes, Guard, Asked, MakesList}
 use Rattle.def_machine.specs.Scopes as scopes
 use Rattle.def_machine.specs.Perform as perform
 use Rattle.def_machine.specs.Calls as calls
 use Rattle.def_machine.specs.Eval as eval
-use Rattle.def_machine.specs.Scopes.{Answer, Answers, Evaluator, Caller, Body, Case, AuditionAsk, GetsForm, GetsGuard, Asks, NoAuditionAsk, ResolverAsk, Resolves, Smashes, NoResolverAsk}
+use Rattle.def_machine.specs.Scopes.{Answer, Evaluator, Caller, Body, Case, AuditionAsk, GetsForm, NoAuditionAsk, ResolverAsk, Resolves, Smashes, NoResolverAsk}
 use Rattle.def_kernel.specs.declared.node.Node.{Node}
-use Rattle.def_kernel.specs.declared.node.Node.TheVariants.{Lit, Noun, Set, Def, Call, Sequence, If, Escape, Try, Finally, Hide, MatchBind, Object, Final, Var, Any, ListPattern, Via}
+use Rattle.def_kernel.specs.declared.node.Node.TheVariants.{Escape, MatchBind, Any}
 use Rattle.law_machine.proofs.Walks.{Property, Holds, IsClosed, IsEnding, InEval, InEvalUnder, walk, walk_bind}
 
 module _ {N : Type 0} (P : Property N) (law : IsEnding P) where
@@ -151,9 +151,8 @@ module _ {N W : Type 0} (P : Property N) (K : Naming N W) (tree : List Node) (ba
 
   pub walk_coerce : (x1 : Caller N) → GoodCaller P x1 → (x2 : ℕ) → (x3 : Value N) → (x4 : Value N) → (x5 : Value N) → Holds P (perform.coerce K tree x1 x2 x3 x4 x5)
   unfolding perform.coerce
-  walk_coerce again h1 act (Prim n) j x = search (eval_walk, walk_coerce_native) depth 14
-  walk_coerce again h1 act (Ref n) j x = search (eval_walk, walk_coerce_near) depth 14
-  walk_coerce again h1 act _ j x = search (eval_walk) depth 14
+  walk_coerce again h1 act (Prim n) j x = search (eval_walk, walk_coerce_native, walk_coerce_near) depth 14
+  walk_coerce again h1 act other j x = search (eval_walk, walk_coerce_native, walk_coerce_near) depth 14
 
   pub walk_store : (x1 : ℕ) → (x2 : List (Value N)) → Holds P (perform.store K tree x1 x2)
   unfolding perform.store
@@ -178,10 +177,8 @@ module _ {N W : Type 0} (P : Property N) (K : Naming N W) (tree : List Node) (ba
 
   pub walk_reply : (x1 : Caller N) → GoodCaller P x1 → (x2 : ℕ) → (x3 : Reply N) → Holds P (perform.reply K tree x1 x2 x3)
   unfolding perform.reply
-  walk_reply again h1 act (Writes t) = search (eval_walk, walk_write_text) depth 14
-  walk_reply again h1 act (Lists vs) = search (eval_walk, walk_make_list) depth 14
-  walk_reply again h1 act (Iterates o vs) = search (eval_walk, walk_iterate) depth 14
-  walk_reply again h1 act other = search (eval_walk) depth 14
+  walk_reply again h1 act (Writes t) = search (eval_walk, walk_write_text, walk_make_list, walk_iterate) depth 14
+  walk_reply again h1 act other = search (eval_walk, walk_write_text, walk_make_list, walk_iterate) depth 14
 
   pub walk_data_answer : (x1 : Caller N) → GoodCaller P x1 → (x2 : ℕ) → (x3 : Value N) → (x4 : Words) → (x5 : List (Value N)) → Holds P (perform.data_answer K tree x1 x2 x3 x4 x5)
   unfolding perform.data_answer
@@ -224,9 +221,8 @@ module _ {N W : Type 0} (P : Property N) (K : Naming N W) (tree : List Node) (ba
 
   pub walk_after_turn : (x1 : Act N (Value N)) → Holds P x1 → (x2 : Value N) → Holds P (perform.after_turn K tree x1 x2)
   unfolding perform.after_turn
-  walk_after_turn more h1 (Flag true) = search (eval_walk) depth 14
-  walk_after_turn more h1 (Flag false) = search (eval_walk) depth 14
-  walk_after_turn more h1 _ = search (eval_walk) depth 14
+  walk_after_turn more h1 (Flag true) = search eval_walk depth 14
+  walk_after_turn more h1 other = search eval_walk depth 14
 
   pub walk_turns : (x1 : ℕ) → (x2 : Act N (Value N)) → Holds P x2 → Holds P (perform.turns K tree x1 x2)
   unfolding perform.turns
@@ -239,16 +235,8 @@ module _ {N W : Type 0} (P : Property N) (K : Naming N W) (tree : List Node) (ba
 
   pub walk_perform : (x1 : Caller N) → GoodCaller P x1 → (x2 : ℕ) → (x3 : Asked N) → Holds P (perform.perform K tree x1 x2 x3)
   unfolding perform.perform
-  walk_perform again h1 act (MakesList vs) = search (eval_walk, walk_make_list) depth 14
-  walk_perform again h1 act (Loops o) = search (eval_walk, walk_loop) depth 14
-  walk_perform again h1 act (SendsTo only x v l) = search (eval_walk, walk_send_with) depth 14
-  walk_perform again h1 act (CallsTo x v l) = search (eval_walk, walk_call_with) depth 14
-  walk_perform again h1 act MakesPromise = search (eval_walk, walk_make_promise) depth 14
-  walk_perform again h1 act (Whens x o) = search (eval_walk, walk_when_resolved) depth 14
-  walk_perform again h1 act (IsStamped a x) = search (eval_walk) depth 14
-  walk_perform again h1 act (Coerces g x j) = search (eval_walk, walk_native_coerce) depth 14
-  walk_perform again h1 act NoMethod = search (eval_walk) depth 14
-  walk_perform again h1 act other = search (eval_walk, walk_reply) depth 14
+  walk_perform again h1 act (MakesList vs) = search (eval_walk, walk_make_list, walk_loop, walk_send_with, walk_call_with, walk_make_promise, walk_when_resolved, walk_native_coerce, walk_reply) depth 14
+  walk_perform again h1 act other = search (eval_walk, walk_make_list, walk_loop, walk_send_with, walk_call_with, walk_make_promise, walk_when_resolved, walk_native_coerce, walk_reply) depth 14
 
   pub walk_audit : (x1 : Caller N) → GoodCaller P x1 → (x2 : ℕ) → (x3 : View N) → (x4 : Value N) → (x5 : Place N) → Holds P (calls.audit K tree x1 x2 x3 x4 x5)
   unfolding calls.audit
@@ -257,9 +245,8 @@ module _ {N W : Type 0} (P : Property N) (K : Naming N W) (tree : List Node) (ba
 
   pub walk_verdict : (x1 : Caller N) → GoodCaller P x1 → (x2 : ℕ) → (x3 : View N) → (x4 : Value N) → (x5 : Value N) → Holds P (calls.verdict K tree x1 x2 x3 x4 x5)
   unfolding calls.verdict
-  walk_verdict again h1 act view a (Prim n) = search (eval_walk) depth 14
-  walk_verdict again h1 act view a (Ref n) = search (eval_walk, walk_audit) depth 14
-  walk_verdict again h1 act view a _ = search (eval_walk) depth 14
+  walk_verdict again h1 act view a (Prim n) = search (eval_walk, walk_audit) depth 14
+  walk_verdict again h1 act view a other = search (eval_walk, walk_audit) depth 14
 
   pub walk_ask_all : (x1 : Caller N) → GoodCaller P x1 → (x2 : ℕ) → (x3 : View N) → (x4 : List (Value N)) → Holds P (calls.ask_all K tree x1 x2 x3 x4)
   unfolding calls.ask_all
@@ -277,10 +264,8 @@ module _ {N W : Type 0} (P : Property N) (K : Naming N W) (tree : List Node) (ba
 
   pub walk_audition_live : (x1 : Caller N) → GoodCaller P x1 → (x2 : ℕ) → (x3 : View N) → (x4 : AuditionAsk N) → Holds P (calls.audition_live K tree x1 x2 x3 x4)
   unfolding calls.audition_live
-  walk_audition_live again h1 act view GetsForm = search (eval_walk, walk_build) depth 14
-  walk_audition_live again h1 act view (GetsGuard x) = search (eval_walk, walk_reply) depth 14
-  walk_audition_live again h1 act view (Asks a) = search (eval_walk, walk_verdict) depth 14
-  walk_audition_live again h1 act view NoAuditionAsk = search (eval_walk) depth 14
+  walk_audition_live again h1 act view GetsForm = search (eval_walk, walk_build, walk_reply, walk_verdict) depth 14
+  walk_audition_live again h1 act view other = search (eval_walk, walk_build, walk_reply, walk_verdict) depth 14
 
   pub walk_audition_answer : (x1 : Caller N) → GoodCaller P x1 → (x2 : ℕ) → (x3 : Bool) → (x4 : View N) → (x5 : AuditionAsk N) → Holds P (calls.audition_answer K tree x1 x2 x3 x4 x5)
   unfolding calls.audition_answer
@@ -347,10 +332,8 @@ module _ {N W : Type 0} (P : Property N) (K : Naming N W) (tree : List Node) (ba
 
   pub walk_thing_answer : (x1 : Caller N) → GoodCaller P x1 → (x2 : ℕ) → (x3 : ℕ) → (x4 : Thing N) → (x5 : Words) → (x6 : List (Value N)) → Holds P (calls.thing_answer K tree x1 x2 x3 x4 x5 x6)
   unfolding calls.thing_answer
-  walk_thing_answer again h1 act i (Ejector live) verb args = search (eval_walk, walk_ejector_answer) depth 14
-  walk_thing_answer again h1 act i (Audition live view) verb args = search (eval_walk, walk_audition_answer) depth 14
-  walk_thing_answer again h1 act i (Resolver p) verb args = search (eval_walk, walk_resolver_answer) depth 14
-  walk_thing_answer again h1 act i (Made node caught stamps) verb args = search (eval_walk) depth 14
+  walk_thing_answer again h1 act i (Ejector live) verb args = search (eval_walk, walk_ejector_answer, walk_audition_answer, walk_resolver_answer) depth 14
+  walk_thing_answer again h1 act i other verb args = search (eval_walk, walk_ejector_answer, walk_audition_answer, walk_resolver_answer) depth 14
 
   pub walk_call_thing : (x1 : Evaluator N) → GoodEvaluator P x1 → (x2 : Caller N) → GoodCaller P x2 → (x3 : ℕ) → (x4 : Value N) → (x5 : ℕ) → (x6 : Option (Thing N)) → (x7 : Words) → (x8 : List (Value N)) → Holds P (calls.call_thing K tree x1 x2 x3 x4 x5 x6 x7 x8)
   unfolding calls.call_thing
@@ -365,10 +348,8 @@ module _ {N W : Type 0} (P : Property N) (K : Naming N W) (tree : List Node) (ba
 
   pub walk_call_value : (x1 : Evaluator N) → GoodEvaluator P x1 → (x2 : Caller N) → GoodCaller P x2 → (x3 : ℕ) → (x4 : Value N) → (x5 : Value N) → (x6 : Words) → (x7 : List (Value N)) → Holds P (calls.call_value K tree x1 x2 x3 x4 x5 x6 x7)
   unfolding calls.call_value
-  walk_call_value rec good again h2 act x (Ref n) verb args = search (eval_walk, walk_call_spot) depth 14
-  walk_call_value rec good again h2 act x (Broken p) verb args = search (eval_walk) depth 14
-  walk_call_value rec good again h2 act x (Prim n) verb args = search (eval_walk, walk_perform) depth 14
-  walk_call_value rec good again h2 act x y verb args = search (eval_walk, walk_with_lines, walk_data_answer) depth 14
+  walk_call_value rec good again h2 act x (Ref n) verb args = search (eval_walk, walk_call_spot, walk_perform, walk_with_lines, walk_data_answer) depth 14
+  walk_call_value rec good again h2 act x other verb args = search (eval_walk, walk_call_spot, walk_perform, walk_with_lines, walk_data_answer) depth 14
 
   pub walk_call_one : (x1 : Evaluator N) → GoodEvaluator P x1 → (x2 : Caller N) → GoodCaller P x2 → (x3 : ℕ) → (x4 : Value N) → (x5 : Words) → (x6 : List (Value N)) → Holds P (calls.call_one K tree x1 x2 x3 x4 x5 x6)
   unfolding calls.call_one
@@ -385,9 +366,8 @@ module _ {N W : Type 0} (P : Property N) (K : Naming N W) (tree : List Node) (ba
 
   pub walk_turn_thing : (x1 : Evaluator N) → GoodEvaluator P x1 → (x2 : ℕ) → (x3 : ℕ) → (x4 : Option (Thing N)) → (x5 : Words) → (x6 : List (Value N)) → Holds P (calls.turn_thing K tree x1 x2 x3 x4 x5 x6)
   unfolding calls.turn_thing
-  walk_turn_thing rec good act i None verb args = search (eval_walk) depth 14
-  walk_turn_thing rec good act i (Some (Made node caught stamps)) verb args = search (eval_walk, walk_run_object) depth 14
-  walk_turn_thing rec good act i (Some t) verb args = search (eval_walk, walk_thing_answer, walk_call) depth 14
+  walk_turn_thing rec good act i (Some (Made node caught stamps)) verb args = search (eval_walk, walk_run_object, walk_thing_answer, walk_call) depth 14
+  walk_turn_thing rec good act i other verb args = search (eval_walk, walk_run_object, walk_thing_answer, walk_call) depth 14
 
   pub walk_turn_spot : (x1 : Evaluator N) → GoodEvaluator P x1 → (x2 : ℕ) → (x3 : Spot) → (x4 : Words) → (x5 : List (Value N)) → Holds P (calls.turn_spot K tree x1 x2 x3 x4 x5)
   unfolding calls.turn_spot
@@ -396,10 +376,8 @@ module _ {N W : Type 0} (P : Property N) (K : Naming N W) (tree : List Node) (ba
 
   pub walk_turn_value : (x1 : Evaluator N) → GoodEvaluator P x1 → (x2 : ℕ) → (x3 : Value N) → (x4 : Words) → (x5 : List (Value N)) → Holds P (calls.turn_value K tree x1 x2 x3 x4 x5)
   unfolding calls.turn_value
-  walk_turn_value rec good act (Ref n) verb args = search (eval_walk, walk_turn_spot) depth 14
-  walk_turn_value rec good act (Broken p) verb args = search (eval_walk) depth 14
-  walk_turn_value rec good act (Prim n) verb args = search (eval_walk, walk_perform, walk_call) depth 14
-  walk_turn_value rec good act y verb args = search (eval_walk, walk_data_answer, walk_call) depth 14
+  walk_turn_value rec good act (Ref n) verb args = search (eval_walk, walk_turn_spot, walk_perform, walk_call, walk_data_answer) depth 14
+  walk_turn_value rec good act other verb args = search (eval_walk, walk_turn_spot, walk_perform, walk_call, walk_data_answer) depth 14
 
   pub walk_object_made : (x1 : ℕ) → (x2 : Words) → (x3 : ℕ) → (x4 : N) → (x5 : Scope N) → (x6 : List (Value N)) → (x7 : List (Binding N)) → Holds P (calls.object_made K tree x1 x2 x3 x4 x5 x6 x7)
   unfolding calls.object_made
@@ -457,8 +435,7 @@ module _ {N W : Type 0} (P : Property N) (K : Naming N W) (tree : List Node) (ba
   pub walk_choose : (x1 : Evaluator N) → GoodEvaluator P x1 → (x2 : ℕ) → (x3 : ℕ) → (x4 : Scope N) → (x5 : Scope N) → (x6 : Value N) → Holds P (eval.choose K tree x1 x2 x3 x4 x5 x6)
   unfolding eval.choose
   walk_choose rec good a b here inner (Flag true) = search (eval_walk, walk_answered, good.expression) depth 14
-  walk_choose rec good a b here inner (Flag false) = search (eval_walk, walk_answered, good.expression) depth 14
-  walk_choose rec good a b here inner _ = search (eval_walk) depth 14
+  walk_choose rec good a b here inner other = search (eval_walk, walk_answered, good.expression) depth 14
 
   pub walk_unmatched_noun : (x1 : ℕ) → (x2 : Bool) → Holds P (eval.unmatched_noun K tree x1 x2)
   unfolding eval.unmatched_noun
@@ -489,25 +466,6 @@ module _ {N W : Type 0} (P : Property N) (K : Naming N W) (tree : List Node) (ba
   walk_write_bound rec good act (Some (Slot k)) v = search (eval_walk, walk_write_cell) depth 14
   walk_write_bound rec good act _ v = search (eval_walk) depth 14
 
-  pub walk_step : (x1 : Evaluator N) → GoodEvaluator P x1 → (x2 : ℕ) → (x3 : Node) → (x4 : Scope N) → Holds P (eval.step K tree x1 x2 x3 x4)
-  unfolding eval.step
-  walk_step rec good id (Lit l) here = search (eval_walk, walk_answered) depth 14
-  walk_step rec good id (Noun x) here = search (eval_walk, walk_read_bound, walk_answered) depth 14
-  walk_step rec good id (Set x e) here = search (eval_walk, walk_write_bound, walk_answered, good.expression) depth 14
-  walk_step rec good id (Def p exit e) here = search (eval_walk, walk_exit_of, walk_answered, good.expression, good.pattern) depth 14
-  walk_step rec good id (Call r verb args) here = search (eval_walk, walk_all_of, walk_call, walk_answered, good.expression) depth 14
-  walk_step rec good id (Sequence es) here = search (eval_walk, walk_last_of) depth 14
-  walk_step rec good id (If t a b) here = search (eval_walk, walk_choose, good.expression) depth 14
-  walk_step rec good id (Escape p body c) here = walk_escaped rec good here.act here c (λ j. rec.pattern p (Ref (K.object j)) Null here >>= λ inner. rec.expression body inner)
-      (λ j. search (eval_walk, good.expression, good.pattern) depth 14)
-  walk_step rec good id (Try body p h) here = search (eval_walk, walk_tried, good.expression) depth 14
-  walk_step rec good id (Finally a b) here = search (eval_walk, walk_at_last, good.expression) depth 14
-  walk_step rec good id (Hide e) here = search (eval_walk, walk_answered, good.expression) depth 14
-  walk_step rec good id (MatchBind e p) here = walk_bind P base (good.expression e here) (λ x. walk_match_ended here.act p x.scope (λ j. rec.pattern p x.value (Ref (K.object j)) x.scope)
-      (λ j. good.pattern p x.value (Ref (K.object j)) x.scope))
-  walk_step rec good id (Object p auditors members) here = search (eval_walk, walk_all_of, walk_make_object, walk_call) depth 14
-  walk_step rec good id _ here = search (eval_walk) depth 14
-
   pub walk_guard_of : (x1 : Evaluator N) → GoodEvaluator P x1 → (x2 : Option ℕ) → (x3 : Scope N) → Holds P (eval.guard_of K tree x1 x2 x3)
   unfolding eval.guard_of
   walk_guard_of rec good None here = search (eval_walk, walk_answered) depth 14
@@ -522,14 +480,21 @@ module _ {N W : Type 0} (P : Property N) (K : Naming N W) (tree : List Node) (ba
   walk_bind_items rec good ps j here (Items k) = search (eval_walk, walk_bind_list) depth 14
   walk_bind_items rec good ps j here _ = search (eval_walk, walk_failed, walk_call) depth 14
 
+  -- what the nodes of the language are put together from: a node that is put together so too is no more text here
+  ruleset nodes = (eval_walk, walk_answered, walk_read_bound, walk_write_bound, walk_failed, walk_handed, walk_coerce, walk_make_list, walk_bind_all, walk_call, walk_make_object, walk_all_of, walk_last_of, walk_exit_of, walk_caught_by, walk_handles, walk_tried, walk_at_last, walk_choose, walk_unmatched, walk_not_matched, walk_guard_of, walk_bind_list, walk_bind_items)
+
+  pub walk_step : (x1 : Evaluator N) → GoodEvaluator P x1 → (x2 : ℕ) → (x3 : Node) → (x4 : Scope N) → Holds P (eval.step K tree x1 x2 x3 x4)
+  unfolding eval.step
+  walk_step rec good id (Escape p body c) here = walk_escaped rec good here.act here c (λ j. rec.pattern p (Ref (K.object j)) Null here >>= λ inner. rec.expression body inner)
+      (λ j. search (eval_walk, good.expression, good.pattern) depth 14)
+  walk_step rec good id (MatchBind e p) here = walk_bind P base (good.expression e here) (λ x. walk_match_ended here.act p x.scope (λ j. rec.pattern p x.value (Ref (K.object j)) x.scope)
+      (λ j. good.pattern p x.value (Ref (K.object j)) x.scope))
+  walk_step rec good id other here = search (nodes, good.expression, good.pattern) depth 14
+
   pub walk_bind_step : (x1 : Evaluator N) → GoodEvaluator P x1 → (x2 : Node) → (x3 : Value N) → (x4 : Value N) → (x5 : Scope N) → Holds P (eval.bind_step K tree x1 x2 x3 x4 x5)
   unfolding eval.bind_step
-  walk_bind_step rec good (Final x g) v j here = search (eval_walk, walk_guard_of, walk_coerce, walk_call) depth 14
-  walk_bind_step rec good (Var x g) v j here = search (eval_walk, walk_guard_of, walk_coerce, walk_call) depth 14
-  walk_bind_step rec good (Any g) v j here = search (eval_walk, walk_guard_of, walk_coerce, walk_call) depth 14
-  walk_bind_step rec good (ListPattern ps) v j here = search (eval_walk, walk_bind_items) depth 14
-  walk_bind_step rec good (Via e p) v j here = search (eval_walk, walk_handed, walk_call, good.expression, good.pattern) depth 14
-  walk_bind_step rec good _ v j here = search (eval_walk) depth 14
+  walk_bind_step rec good (Any g) v j here = search (nodes, good.expression, good.pattern) depth 14
+  walk_bind_step rec good other v j here = search (nodes, good.expression, good.pattern) depth 14
 
   pub walk_step_found : (x1 : Evaluator N) → GoodEvaluator P x1 → (x2 : ℕ) → (x3 : Option Node) → (x4 : Scope N) → Holds P (eval.step_found K tree x1 x2 x3 x4)
   unfolding eval.step_found

@@ -1,10 +1,10 @@
 -- What a notice does, where every name that settles settles to a broken reference: what each such change keeps, all of it keeps.
 use Rattle.std.proofs.Common.{ℕ, zero, suc, ◌-◌, Bool, true, false, List, [], ◌∷◌, ◌++◌, Option, Some, None, if◌then◌else◌, length}
 use Rattle.std.specs.Prelude.{nat_le}
-use Rattle.def_machine.specs.Values.{Words, Value, Prim, Broken, Naming, Coming}
-use Rattle.def_machine.specs.State.{Message, Happened, Note, Put, Standing, Unsettled, WaitsOn, Viewed, Settled, Known, Hold, Wait, WaitOn, ToTell, Settle, Passed, Passeds, Plain, AGift, Many, NoMore, More, GiftEntry, Vat, Stop, Done, Gives, Throws, Ejects, Stops, Act, ◌>>=◌, ◌>>◌, and_then, each, give, stop, look, tell, spend, spent, enqueue, send_out, draws, draw, with_change, alter, come, begun, for_some}
+use Rattle.def_machine.specs.Values.{Words, Value, Broken, Naming, Coming}
+use Rattle.def_machine.specs.State.{Message, Happened, Note, Put, Standing, Viewed, Settled, Known, Hold, Wait, WaitOn, ToTell, Settle, Passed, Passeds, Plain, AGift, Many, NoMore, More, GiftEntry, Vat, Stop, Done, Gives, Act, ◌>>=◌, ◌>>◌, and_then, each, give, stop, look, tell, spend, spent, enqueue, send_out, draws, draw, with_change, alter, come, begun, for_some}
 use Rattle.def_machine.specs.Refs as refs
-use Rattle.def_machine.specs.Refs.{Place, Near, Mine, Away, Gone, entry_of}
+use Rattle.def_machine.specs.Refs.{Place, Mine, Away, entry_of}
 use Rattle.def_machine.specs.Arrive as arrive
 use Rattle.law_machine.specs.Steps.{After}
 use Rattle.law_machine.proofs.Keeps.{Keeps}

@@ -3,7 +3,7 @@ use Rattle.std.proofs.Common.{◌≡◌, ℕ, zero, suc, Bool, true, false, List
 use Rattle.std.specs.Prelude.{slice_get, codes, ◌==◌, if◌then◌else◌}
 use Rattle.std.proofs.lemmas.Bool.{eq-eqb}
 use Rattle.def_machine.specs.Values.{Words, Value, Broken, Naming}
-use Rattle.def_machine.specs.State.{Message, Standing, Unsettled, WaitsOn, Viewed, Settled, Known, Change, Hold, Wait, WaitOn, ToTell, Settle, GiftEntry, Settles, Vat, Done, Gives, Throws, Ejects, Stops, Act, ◌>>=◌, ◌>>◌, and_then, each, give, look, tell, enqueue, mark, alter, is_in, with_change, changed, changed_to, unless_settled}
+use Rattle.def_machine.specs.State.{Message, Standing, Viewed, Settled, Known, Change, Hold, Wait, WaitOn, ToTell, Settle, GiftEntry, Settles, Vat, Done, Gives, Act, ◌>>=◌, ◌>>◌, and_then, each, give, look, tell, enqueue, mark, alter, is_in, with_change, changed, changed_to, unless_settled}
 use Rattle.def_machine.specs.Refs as refs
 use Rattle.def_machine.specs.Refs.{entry_of, standing_of, standing_in}
 use Rattle.def_machine.specs.Arrive as arrive

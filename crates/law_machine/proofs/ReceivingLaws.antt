@@ -1,7 +1,7 @@
 -- What receiving a note keeps, and when it is the arrival.
 use Rattle.std.proofs.Common.{◌≡◌, ℕ, Bool, true, false, refl, ap, ◌∙◌}
 use Rattle.def_machine.specs.Values.{Naming}
-use Rattle.def_machine.specs.State.{Note, Vat, Done, Gives, Throws, Ejects, Stops, ◌>>=◌, and_then, look, give}
+use Rattle.def_machine.specs.State.{Note, Vat, Done, Gives, ◌>>=◌, and_then, look, give}
 use Rattle.def_machine.specs.Arrive.{Incoming, arrive}
 use Rattle.def_machine.specs.Receive.{Sight, tells_nothing, leads_back, break_back, receive_by, receive}
 use Rattle.law_machine.specs.Steps.{After}

@@ -3,7 +3,7 @@ use Rattle.std.proofs.Common.{ℕ, List, Option}
 use Rattle.def_machine.specs.Values.{Words, Value, Naming}
 use Rattle.def_machine.specs.State.{Message, Standing, Known, Passeds, Vat, Act, Settle, Settles}
 use Rattle.def_machine.specs.Refs as refs
-use Rattle.def_machine.specs.Refs.{Place, Near, Mine, Away, Gone}
+use Rattle.def_machine.specs.Refs.{Place}
 use Rattle.law_machine.proofs.Walks.{InRefs, InRefsUnder, InSettling, InSending}
 use Rattle.law_machine.proofs.Blocks.{refs_of, refs_under_of, settling_of, sending_of}
 use Rattle.law_machine.proofs.RefsWalk.{refs_walks, walk_pass_all, walk_address_all, walk_pass_on, walk_inform_of, walk_send_on, walk_inform, walk_settle_at, walk_settle, walk_resolve, walk_send, walk_send_only, walk_react, walk_settle_known, walk_settle_standing, walk_settle_entry, walk_settle_one}

@@ -1,8 +1,7 @@
 -- Everything that a vat does with references gives or stops.
 use Rattle.std.proofs.Common.{ℕ, List}
-use Rattle.def_machine.specs.Values.{Words, Value, Prim, Naming}
+use Rattle.def_machine.specs.Values.{Words, Value, Naming}
 use Rattle.def_machine.specs.Refs as refs
-use Rattle.def_machine.specs.Refs.{Place, Near, Mine, Away, Gone}
 use Rattle.law_machine.proofs.RefsWalk.{walk_pass_all, walk_settle, walk_resolve, walk_send, walk_send_only, walk_react}
 use Rattle.law_machine.proofs.Quiet.{Quiet, QuietBy, quiet_closed, quiet_in_refs, quiet_in_refs_under, quiet_settling, quiet_sending}
 

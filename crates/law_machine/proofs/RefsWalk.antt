@@ -1,10 +1,10 @@
 -- All that a vat does with references has what each change and block of it has.
 use Rattle.std.proofs.Common.{ℕ, zero, suc, true, false, List, [], ◌∷◌, Option, Some, None}
-use Rattle.def_machine.specs.Values.{Words, Value, Prim, Naming, Coming}
-use Rattle.def_machine.specs.State.{Message, Note, Hold, Wait, WaitOn, React, ToTell, Settle, Settles, ListCame, Sends, Reacts, Waits, Lost, Posted, Standing, Settled, Known, Passed, Passeds, Delivery, Deliver, Open, SettledTo, Elsewhere, Plain, AGift, Many, NoMore, More, Act, ◌>>◌, tell, spend, enqueue, send_out, alter, come, new_message, new_lone_message, draw}
+use Rattle.def_machine.specs.Values.{Words, Value, Naming, Coming}
+use Rattle.def_machine.specs.State.{Message, Hold, Wait, WaitOn, React, ToTell, Settle, Settles, Sends, Reacts, Waits, Lost, Posted, Standing, Settled, Known, Passed, Passeds, Delivery, Deliver, Open, SettledTo, Elsewhere, Plain, AGift, Many, NoMore, More, Act, ◌>>◌, tell, spend, enqueue, send_out, alter, come, new_message, new_lone_message, draw}
 use Rattle.def_machine.specs.Refs as refs
-use Rattle.def_machine.specs.Refs.{Place, Near, Mine, Away, Gone}
-use Rattle.law_machine.proofs.Walks.{Property, Holds, IsClosed, InRefs, InRefsUnder, InSettling, InSending, IsOfRefs, IsMild, walk}
+use Rattle.def_machine.specs.Refs.{Place, Mine, Away}
+use Rattle.law_machine.proofs.Walks.{Property, Holds, IsClosed, InRefs, InRefsUnder, InSettling, InSending, walk}
 
 module _ {N : Type 0} (P : Property N) (law : InRefs P) where
   pub refs_waits : (p q : N) → Holds P (tell (Waits p q))

@@ -2,7 +2,7 @@
 use Rattle.std.proofs.Common.{◌≡◌, ℕ, zero, suc, Bool, true, false, List, [], ◌∷◌, ◌++◌, Option, Some, None, refl, sym, ap, ◌∙◌, append_assoc, append-nil, arith, length, ◌==◌}
 use Rattle.std.specs.Prelude.{slice_get}
 use Rattle.def_machine.specs.Values.{Words, Value, Broken, Ref, Naming}
-use Rattle.def_machine.specs.State.{Binding, Cell, View, Thing, Made, Ejector, Audition, Resolver, Known, Standing, Unsettled, WaitsOn, Viewed, Settled, Change, Vat, Done, Gives, Throws, Ejects, Stops, change, dead, holding, is_in, with_change, changed, changed_to, Hold, Wait, WaitOn, See, React, ToTell, Settle, unless_settled}
+use Rattle.def_machine.specs.State.{Binding, Cell, View, Thing, Made, Ejector, Audition, Resolver, Known, Standing, Unsettled, Settled, Change, Vat, Done, Gives, Throws, Ejects, Stops, change, dead, holding, is_in, with_change, changed, changed_to, Hold, unless_settled}
 use Rattle.def_machine.specs.Refs as refs
 use Rattle.def_machine.specs.Refs.{entry_of, standing_of, standing_in, follow, follow_at}
 use Rattle.law_machine.specs.Steps.{Step, Opens, Takes, Receives, Notices, does, After}

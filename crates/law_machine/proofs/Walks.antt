@@ -1,7 +1,7 @@
 -- What is to be shown of a predicate of acts, that it holds of all that a vat does.
 use Rattle.std.proofs.Common.{ℕ, Bool, true, false, List, [], ◌∷◌, Option, Some, None, if◌then◌else◌}
 use Rattle.def_machine.specs.Values.{Words, Value, Broken, Naming, Coming, Mailing}
-use Rattle.def_machine.specs.State.{Thing, Made, Ejector, Audition, Resolver, View, Message, Note, Deliver, Open, Ask, SettledTo, Elsewhere, Shorten, Happened, Took, Called, Back, Thrown, Left, Got, SlotMade, SlotRead, SlotWrote, ListMade, ListCame, EjectorMade, AuditionMade, PromiseMade, ObjectMade, Sends, Reacts, Finished, Threw, Settles, Waits, Views, Lost, Posted, Change, Hold, Wait, WaitOn, See, React, ToTell, Settle, Vat, Stop, Act, ◌>>=◌, ◌>>◌, WhereSome, for_some, ending, each, give, throw, stop, eject, look, tell, spend, new_activation, new_thing, new_slot, write_slot, new_list, enqueue, send_out, new_gift, open_gift, mark, alter, come, mail, new_promise, new_message, new_lone_message, draw}
+use Rattle.def_machine.specs.State.{Thing, Ejector, Audition, View, Message, Note, Ask, Shorten, Happened, Called, Got, SlotMade, SlotRead, SlotWrote, ListMade, EjectorMade, AuditionMade, PromiseMade, ObjectMade, Sends, Reacts, Finished, Threw, Waits, Views, Lost, Posted, Change, See, Settle, Vat, Stop, Act, ◌>>=◌, ◌>>◌, WhereSome, for_some, ending, each, give, throw, stop, eject, look, tell, spend, new_activation, new_thing, new_slot, write_slot, new_list, enqueue, send_out, new_gift, open_gift, mark, alter, come, mail, new_promise, new_message, new_lone_message, draw}
 use Rattle.def_machine.specs.Refs.{settle_at, settle_one, settle, resolve, send, send_only, react, standing_of}
 use Rattle.def_machine.specs.Arrive.{make_list}
 use Rattle.def_machine.specs.Scopes.{ended}

@@ -2,10 +2,10 @@
 use Rattle.std.proofs.Common.{◌≡◌, ℕ, ◌≤◌, ◌<◌, zero, suc, Bool, true, false, List, [], ◌∷◌, ◌++◌, Option, Some, None, refl, sym, ap, ◌⊎◌, inl, inr, length, ◌==◌, arith}
 use Rattle.std.specs.Prelude.{slice_get}
 use Rattle.std.proofs.lemmas.Bool.{eq-eqb}
-use Rattle.def_machine.specs.Values.{Name, Root, Object, Promise, Answer, Gift, Sent, word_of}
+use Rattle.def_machine.specs.Values.{Name, Promise, Answer, Gift, Sent, word_of}
 use Rattle.def_machine.specs.State.{Known, Vat, drawn_at}
 use Rattle.def_run.specs.World.{put_at}
-use Rattle.law_name.specs.Names.{Bit, Named, Mail, Drew, At, Off, Entered, Owns, Gave, AllOf, IsAmong, promises_of, messages_of, WasDrawn, WasMade, IsMessageMade, IsMade, names_in, IsPlain, PlainOnce}
+use Rattle.law_name.specs.Names.{Bit, Named, Mail, Drew, Entered, Owns, Gave, AllOf, IsAmong, promises_of, messages_of, WasDrawn, WasMade, IsMessageMade, IsMade, names_in, IsPlain, PlainOnce}
 
 pub among_more : {A : Type 0} (x : A) (xs : List A) (y : A) → IsAmong x xs → IsAmong x (xs ++ y ∷ [])
 among_more x [] y h = absurd h

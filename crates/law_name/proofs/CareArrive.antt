@@ -2,7 +2,7 @@
 use Rattle.std.proofs.Common.{◌≡◌, ℕ, Bool, true, false, List, [], ◌∷◌, ◌++◌, Option, Some, None, if◌then◌else◌, codes, refl, subst, length, ◌==◌}
 use Rattle.std.proofs.lemmas.Bool.{eqb-true}
 use Rattle.def_machine.specs.Values.{Words, Value, Broken, Ref, Naming, IsGift}
-use Rattle.def_machine.specs.State.{Standing, Unsettled, WaitsOn, Viewed, Settled, Known, Ask, GiftEntry, Vat, ◌>>=◌, ◌>>◌, and_then, give, look, come, new_gift, open_gift, is_gift, is_in, begun}
+use Rattle.def_machine.specs.State.{Standing, Viewed, Settled, Known, Ask, GiftEntry, Vat, ◌>>=◌, ◌>>◌, and_then, give, look, come, new_gift, open_gift, is_gift, is_in, begun}
 use Rattle.def_machine.specs.Refs as refs
 use Rattle.def_machine.specs.Refs.{Place, Away}
 use Rattle.def_machine.specs.Arrive as arrive

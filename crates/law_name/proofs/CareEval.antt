@@ -2,22 +2,22 @@
 use Rattle.std.proofs.Common.{◌≡◌, ℕ, zero, suc, Bool, true, false, List, [], ◌∷◌, ◌++◌, Option, Some, None, refl, length, map}
 use Rattle.std.specs.Prelude.{slice_get}
 use Rattle.def_machine.specs.Values.{Words, Value, Null, Flag, Text, Prim, Broken, Items, Ref, Naming, Spot, Own}
-use Rattle.def_machine.specs.State.{Bound, Fixed, Slot, Scope, Binding, Cell, View, Thing, Made, Ejector, Audition, Resolver, Message, Took, Standing, Unsettled, WaitsOn, Viewed, Settled, Vat, Act, ◌>>=◌, ◌>>◌, and_then, new_thing, give, look, throw, eject, for_some, WhereSome}
+use Rattle.def_machine.specs.State.{Bound, Fixed, Slot, Scope, Binding, Cell, View, Thing, Made, Ejector, Audition, Resolver, Message, Took, Standing, Unsettled, Vat, Act, ◌>>=◌, ◌>>◌, and_then, new_thing, give, look, throw, eject, for_some, WhereSome}
 use Rattle.def_machine.specs.Refs as refs
 use Rattle.def_machine.specs.Refs.{Place, Near}
 use Rattle.def_machine.specs.Form.{Item, Begin, End, Word, Fact as Fixing, literal_value}
 use Rattle.def_machine.specs.Free.{BoundNoun}
-use Rattle.def_machine.specs.Native.{Reply, Says, Writes, Lists as Listed, Iterates, Fails, Guard, Asked, MakesList, Ranges, Same, Compares, Loops, SendsTo, CallsTo, MakesPromise, Breaks, Tells, Whens, ThrowsIt, IsStamped, Coerces, AddsNull, NoMethod}
+use Rattle.def_machine.specs.Native.{Reply, Says, Writes, Lists as Listed, Iterates, Fails, Guard, Asked, MakesList, Loops, SendsTo, CallsTo, MakesPromise, Breaks, Tells, Whens, IsStamped, Coerces, AddsNull, NoMethod}
 use Rattle.def_machine.specs.Scopes as scopes
 use Rattle.def_machine.specs.Perform as perform
 use Rattle.def_machine.specs.Calls as calls
 use Rattle.def_machine.specs.Eval as eval
-use Rattle.def_machine.specs.Scopes.{meets, any_guard, frozen_guard, freezes, Answer, Answers, Evaluator, Caller, Body, Case, AuditionAsk, GetsForm, GetsGuard, Asks, NoAuditionAsk, ResolverAsk, Resolves, Smashes, NoResolverAsk}
+use Rattle.def_machine.specs.Scopes.{Answer, Evaluator, Caller, Body, Case, AuditionAsk, GetsForm, GetsGuard, Asks, NoAuditionAsk, ResolverAsk, Resolves, Smashes, NoResolverAsk}
 use Rattle.def_kernel.specs.declared.node.Node.{Node}
-use Rattle.def_kernel.specs.declared.node.Node.TheVariants.{Lit, Noun, Set, Def, Call, Sequence, If, Escape, Try, Finally, Hide, MatchBind, Object, Final, Var, Any, ListPattern, Via}
+use Rattle.def_kernel.specs.declared.node.Node.TheVariants.{Lit, Any}
 use Rattle.law_name.specs.Names.{AllOf, ValuesOk, NounOk}
 use Rattle.law_name.proofs.Facts.{Holds, Fact, Also, IsName, IsValue, AreValues, AreLists, IsBound, AreNouns, IsMessage, IsThing, IsView, IsPlace, MayValue, MayBound, MayCell, MayThing, IsReply, IsAsked, IsAuditionAsk, IsResolverAsk, scope, answer, answers, nothing, MayName}
-use Rattle.law_name.proofs.Care.{Care, Under, Makes, Sound, Gets, Ends, Fine, got, got_left, got_null, got_text, got_ejector, got_audition, got_resolver, widen, rise, thing_comes, told_ejector_made, told_object_made, less_ends, fine_bind, fine_ending, fine_left, fine_give, fine_throw, fine_eject, fine_stop, fine_spend, fine_activation, fine_tell, bind_number, bind_name, bind_values, bind_answer, then_unit}
+use Rattle.law_name.proofs.Care.{Care, Under, Makes, Sound, Gets, Ends, Fine, got, got_left, got_null, got_text, got_ejector, got_audition, got_resolver, widen, rise, thing_comes, told_ejector_made, told_object_made, less_ends, fine_bind, fine_ending, fine_left, fine_give, fine_throw, fine_eject, fine_stop, fine_spend, fine_activation, fine_tell, bind_number, bind_name, bind_values, then_unit}
 use Rattle.law_name.proofs.Looks.{looks, look_place, look_place_of}
 use Rattle.law_name.proofs.Serves.{Serves, Closing, served, served_by, closing_by, closing_some, below_end, serve_promise, serve_break, serve_close, serve_thing, bind_object}
 use Rattle.law_name.proofs.EvalFacts.{knows, got_noun, got_named, got_captures, got_view, got_item, got_lists, got_literal}
@@ -90,9 +90,8 @@ module _ {N W : Type 0} (K : Naming N W) (S : Care N) (serves : Serves K S) (tre
 
   pub fine_coerce : {C : Fact N} → (again : Caller N) → GoodCaller S again → (act : ℕ) → (g : Value N) → Gets S C (IsValue g) → (j : Value N) → Gets S C (IsValue j) → (x : Value N) → Gets S C (IsValue x) → Fine S C (perform.coerce K tree again act g j x) IsValue
   unfolding perform.coerce
-  fine_coerce {C = C} again h1 act (Prim n) g0 j g1 x g2 = search (served, looks, place_here, place_of_here, knows, fine_coerce_native) depth 30
-  fine_coerce {C = C} again h1 act (Ref n) g0 j g1 x g2 = search (served, looks, place_here, place_of_here, knows, fine_coerce_near) depth 30
-  fine_coerce {C = C} again h1 act _ g0 j g1 x g2 = search (served, looks, place_here, place_of_here, knows) depth 30
+  fine_coerce {C = C} again h1 act (Prim n) g0 j g1 x g2 = search (served, looks, place_here, place_of_here, knows, fine_coerce_native, fine_coerce_near) depth 30
+  fine_coerce {C = C} again h1 act other g0 j g1 x g2 = search (served, looks, place_here, place_of_here, knows, fine_coerce_native, fine_coerce_near) depth 30
 
   pub fine_store : {C : Fact N} → (x1 : ℕ) → (x2 : List (Value N)) → Gets S C (AreValues x2) → Fine S C (perform.store K tree x1 x2) IsValue
   unfolding perform.store
@@ -165,8 +164,7 @@ module _ {N W : Type 0} (K : Naming N W) (S : Care N) (serves : Serves K S) (tre
   pub fine_after_turn : {C : Fact N} → (x1 : Act N (Value N)) → Fine S C x1 IsValue → (x2 : Value N) → Gets S C (IsValue x2) → Fine S C (perform.after_turn K tree x1 x2) IsValue
   unfolding perform.after_turn
   fine_after_turn {C = C} more h1 (Flag true) g1 = search (served, looks, place_here, place_of_here, knows) depth 30
-  fine_after_turn {C = C} more h1 (Flag false) g1 = search (served, looks, place_here, place_of_here, knows) depth 30
-  fine_after_turn {C = C} more h1 _ g1 = search (served, looks, place_here, place_of_here, knows) depth 30
+  fine_after_turn {C = C} more h1 other g1 = search (served, looks, place_here, place_of_here, knows) depth 30
 
   pub fine_turns : {C : Fact N} → (x1 : ℕ) → (x2 : Act N (Value N)) → Fine S C x2 IsValue → Fine S C (perform.turns K tree x1 x2) IsValue
   unfolding perform.turns
@@ -208,9 +206,8 @@ module _ {N W : Type 0} (K : Naming N W) (S : Care N) (serves : Serves K S) (tre
 
   pub fine_verdict : {C : Fact N} → (again : Caller N) → GoodCaller S again → (act : ℕ) → (view : View N) → Gets S C (IsView view) → (a : Value N) → Gets S C (IsValue a) → (y : Value N) → Gets S C (IsValue y) → Fine S C (calls.verdict K tree again act view a y) nothing
   unfolding calls.verdict
-  fine_verdict {C = C} again h1 act view g1 a g2 (Prim n) g3 = search (served, looks, place_here, place_of_here, knows) depth 30
-  fine_verdict {C = C} again h1 act view g1 a g2 (Ref n) g3 = search (served, looks, place_here, place_of_here, knows, fine_audit) depth 30
-  fine_verdict {C = C} again h1 act view g1 a g2 _ g3 = search (served, looks, place_here, place_of_here, knows) depth 30
+  fine_verdict {C = C} again h1 act view g1 a g2 (Prim n) g3 = search (served, looks, place_here, place_of_here, knows, fine_audit) depth 30
+  fine_verdict {C = C} again h1 act view g1 a g2 other g3 = search (served, looks, place_here, place_of_here, knows, fine_audit) depth 30
 
   pub fine_ask_all : {C : Fact N} → (again : Caller N) → GoodCaller S again → (act : ℕ) → (view : View N) → Gets S C (IsView view) → (xs : List (Value N)) → Gets S C (AreValues xs) → Fine S C (calls.ask_all K tree again act view xs) AreValues
   unfolding calls.ask_all
@@ -281,6 +278,9 @@ module _ {N W : Type 0} (K : Naming N W) (S : Care N) (serves : Serves K S) (tre
   unfolding calls.new_ejector
   fine_new_ejector {C = C} act = bind_object K S serves (serve_thing K S serves (Ejector true) (got_ejector S C true)) (λ j. then_unit S (told_ejector_made S act (K.object j)) (fine_give S j (got S C (IsName (K.object j)))))
 
+  bind_ejector : {B : Type 0} {C : Fact N} {f : ℕ → Act N B} {H : B → Fact N} (act : ℕ) → ((j : ℕ) → Fine S (Also C (IsName (K.object j))) (f j) H) → Fine S C (calls.new_ejector K tree act >>= f) H
+  bind_ejector act k = bind_object K S serves (fine_new_ejector act) k
+
   pub fine_hand_over : {C : Fact N} → (x1 : ℕ) → (x2 : ℕ) → (x3 : Act N (Value N)) → Fine S C x3 IsValue → (x4 : ℕ) → (x5 : Value N) → Gets S C (IsValue x5) → Fine S C (calls.hand_over K tree x1 x2 x3 x4 x5) IsValue
   unfolding calls.hand_over
   fine_hand_over {C = C} act j next h3 n v g1 = search (served, looks, place_here, place_of_here, knows) depth 30
@@ -328,10 +328,8 @@ module _ {N W : Type 0} (K : Naming N W) (S : Care N) (serves : Serves K S) (tre
 
   pub fine_call_value : {C : Fact N} → (x1 : Evaluator N) → GoodEvaluator S x1 → (x2 : Caller N) → GoodCaller S x2 → (x3 : ℕ) → (x4 : Value N) → Gets S C (IsValue x4) → (x5 : Value N) → Gets S C (IsValue x5) → (x6 : Words) → (x7 : List (Value N)) → Gets S C (AreValues x7) → Fine S C (calls.call_value K tree x1 x2 x3 x4 x5 x6 x7) IsValue
   unfolding calls.call_value
-  fine_call_value {C = C} rec good again h2 act x g1 (Ref n) g2 verb args g3 = search (served, looks, place_here, place_of_here, knows, fine_call_spot) depth 30
-  fine_call_value {C = C} rec good again h2 act x g1 (Broken p) g2 verb args g3 = search (served, looks, place_here, place_of_here, knows) depth 30
-  fine_call_value {C = C} rec good again h2 act x g1 (Prim n) g2 verb args g3 = search (served, looks, place_here, place_of_here, knows, fine_perform) depth 30
-  fine_call_value {C = C} rec good again h2 act x g1 y g2 verb args g3 = search (served, looks, place_here, place_of_here, knows, fine_with_lines, fine_data_answer) depth 30
+  fine_call_value {C = C} rec good again h2 act x g1 (Ref n) g2 verb args g3 = search (served, looks, place_here, place_of_here, knows, fine_call_spot, fine_perform, fine_with_lines, fine_data_answer) depth 30
+  fine_call_value {C = C} rec good again h2 act x g1 other g2 verb args g3 = search (served, looks, place_here, place_of_here, knows, fine_call_spot, fine_perform, fine_with_lines, fine_data_answer) depth 30
 
   pub fine_call_one : {C : Fact N} → (x1 : Evaluator N) → GoodEvaluator S x1 → (x2 : Caller N) → GoodCaller S x2 → (x3 : ℕ) → (x4 : Value N) → Gets S C (IsValue x4) → (x5 : Words) → (x6 : List (Value N)) → Gets S C (AreValues x6) → Fine S C (calls.call_one K tree x1 x2 x3 x4 x5 x6) IsValue
   unfolding calls.call_one
@@ -359,10 +357,8 @@ module _ {N W : Type 0} (K : Naming N W) (S : Care N) (serves : Serves K S) (tre
 
   pub fine_turn_value : {C : Fact N} → (x1 : Evaluator N) → GoodEvaluator S x1 → (x2 : ℕ) → (x3 : Value N) → Gets S C (IsValue x3) → (x4 : Words) → (x5 : List (Value N)) → Gets S C (AreValues x5) → Fine S C (calls.turn_value K tree x1 x2 x3 x4 x5) IsValue
   unfolding calls.turn_value
-  fine_turn_value {C = C} rec good act (Ref n) g1 verb args g2 = search (served, looks, place_here, place_of_here, knows, fine_turn_spot) depth 30
-  fine_turn_value {C = C} rec good act (Broken p) g1 verb args g2 = search (served, looks, place_here, place_of_here, knows) depth 30
-  fine_turn_value {C = C} rec good act (Prim n) g1 verb args g2 = search (served, looks, place_here, place_of_here, knows, fine_perform, fine_call) depth 30
-  fine_turn_value {C = C} rec good act y g1 verb args g2 = search (served, looks, place_here, place_of_here, knows, fine_data_answer, fine_call) depth 30
+  fine_turn_value {C = C} rec good act (Ref n) g1 verb args g2 = search (served, looks, place_here, place_of_here, knows, fine_turn_spot, fine_perform, fine_call, fine_data_answer) depth 30
+  fine_turn_value {C = C} rec good act other g1 verb args g2 = search (served, looks, place_here, place_of_here, knows, fine_turn_spot, fine_perform, fine_call, fine_data_answer) depth 30
 
   -- ---- making objects
 
@@ -427,8 +423,7 @@ module _ {N W : Type 0} (K : Naming N W) (S : Care N) (serves : Serves K S) (tre
   pub fine_choose : {C : Fact N} → (x1 : Evaluator N) → GoodEvaluator S x1 → (x2 : ℕ) → (x3 : ℕ) → (x4 : Scope N) → Gets S C (AreNouns x4.nouns) → (x5 : Scope N) → Gets S C (AreNouns x5.nouns) → (x6 : Value N) → Gets S C (IsValue x6) → Fine S C (eval.choose K tree x1 x2 x3 x4 x5 x6) answer
   unfolding eval.choose
   fine_choose {C = C} rec good a b here g1 inner g2 (Flag true) g3 = search (served, looks, place_here, place_of_here, knows, fine_answered, good.expression) depth 30
-  fine_choose {C = C} rec good a b here g1 inner g2 (Flag false) g3 = search (served, looks, place_here, place_of_here, knows, fine_answered, good.expression) depth 30
-  fine_choose {C = C} rec good a b here g1 inner g2 _ g3 = search (served, looks, place_here, place_of_here, knows) depth 30
+  fine_choose {C = C} rec good a b here g1 inner g2 other g3 = search (served, looks, place_here, place_of_here, knows, fine_answered, good.expression) depth 30
 
   pub fine_unmatched_noun : {C : Fact N} → (x1 : ℕ) → (x2 : Bool) → Fine S C (eval.unmatched_noun K tree x1 x2) IsBound
   unfolding eval.unmatched_noun
@@ -458,23 +453,6 @@ module _ {N W : Type 0} (K : Naming N W) (S : Care N) (serves : Serves K S) (tre
   fine_write_bound {C = C} rec good act (Some (Slot k)) g1 v g2 = search (served, looks, place_here, place_of_here, knows, fine_write_cell) depth 30
   fine_write_bound {C = C} rec good act _ g1 v g2 = search (served, looks, place_here, place_of_here, knows) depth 30
 
-  pub fine_step : {C : Fact N} → (x1 : Evaluator N) → GoodEvaluator S x1 → (x2 : ℕ) → (x3 : Node) → (x4 : Scope N) → Gets S C (AreNouns x4.nouns) → Fine S C (eval.step K tree x1 x2 x3 x4) answer
-  unfolding eval.step
-  fine_step {C = C} rec good id (Lit l) here g1 = search (served, looks, place_here, place_of_here, knows, fine_answered) depth 30
-  fine_step {C = C} rec good id (Noun x) here g1 = search (served, looks, place_here, place_of_here, knows, fine_read_bound, fine_answered) depth 30
-  fine_step {C = C} rec good id (Set x e) here g1 = search (served, looks, place_here, place_of_here, knows, fine_write_bound, fine_answered, good.expression) depth 30
-  fine_step {C = C} rec good id (Def p exit e) here g1 = search (served, looks, place_here, place_of_here, knows, fine_exit_of, fine_answered, good.expression, good.pattern) depth 30
-  fine_step {C = C} rec good id (Call r verb args) here g1 = search (served, looks, place_here, place_of_here, knows, fine_all_of, fine_call, fine_answered, good.expression) depth 30
-  fine_step {C = C} rec good id (Sequence es) here g1 = search (served, looks, place_here, place_of_here, knows, fine_last_of) depth 30
-  fine_step {C = C} rec good id (If t a b) here g1 = search (served, looks, place_here, place_of_here, knows, fine_choose, good.expression) depth 30
-  fine_step {C = C} rec good id (Escape p body c) here g1 = bind_object K S serves (fine_new_ejector here.act) (λ j. search (served, looks, place_here, place_of_here, knows, fine_escaped, good.expression, good.pattern) depth 30)
-  fine_step {C = C} rec good id (Try body p h) here g1 = search (served, looks, place_here, place_of_here, knows, fine_tried, good.expression) depth 30
-  fine_step {C = C} rec good id (Finally a b) here g1 = search (served, looks, place_here, place_of_here, knows, fine_at_last, good.expression) depth 30
-  fine_step {C = C} rec good id (Hide e) here g1 = search (served, looks, place_here, place_of_here, knows, fine_answered, good.expression) depth 30
-  fine_step {C = C} rec good id (MatchBind e p) here g1 = bind_answer S (good.expression C e here g1) (λ x. bind_object K S serves (fine_new_ejector here.act) (λ j. search (served, looks, place_here, place_of_here, knows, fine_match_ended, good.pattern) depth 30))
-  fine_step {C = C} rec good id (Object p auditors members) here g1 = search (served, looks, place_here, place_of_here, knows, fine_all_of, fine_make_object, fine_call) depth 30
-  fine_step {C = C} rec good id _ here g1 = search (served, looks, place_here, place_of_here, knows) depth 30
-
   pub fine_guard_of : {C : Fact N} → (x1 : Evaluator N) → GoodEvaluator S x1 → (x2 : Option ℕ) → (x3 : Scope N) → Gets S C (AreNouns x3.nouns) → Fine S C (eval.guard_of K tree x1 x2 x3) answer
   unfolding eval.guard_of
   fine_guard_of {C = C} rec good None here g1 = search (served, looks, place_here, place_of_here, knows, fine_answered) depth 30
@@ -489,14 +467,18 @@ module _ {N W : Type 0} (K : Naming N W) (S : Care N) (serves : Serves K S) (tre
   fine_bind_items {C = C} rec good ps j g1 here g2 (Items k) g3 = search (served, looks, place_here, place_of_here, knows, fine_bind_list) depth 30
   fine_bind_items {C = C} rec good ps j g1 here g2 _ g3 = search (served, looks, place_here, place_of_here, knows, fine_failed, fine_call) depth 30
 
+  -- what the nodes of the language are put together from: a node that is put together so too is no more text here
+  ruleset nodes = (bind_ejector, served, looks, place_here, place_of_here, knows, fine_answered, fine_read_bound, fine_write_bound, fine_failed, fine_handed, fine_coerce, fine_make_list, fine_leave, fine_bind_all, fine_call, fine_make_object, fine_all_of, fine_last_of, fine_exit_of, fine_caught_by, fine_escaped, fine_handles, fine_tried, fine_at_last, fine_choose, fine_unmatched, fine_not_matched, fine_match_ended, fine_guard_of, fine_bind_list, fine_bind_items)
+
+  pub fine_step : {C : Fact N} → (x1 : Evaluator N) → GoodEvaluator S x1 → (x2 : ℕ) → (x3 : Node) → (x4 : Scope N) → Gets S C (AreNouns x4.nouns) → Fine S C (eval.step K tree x1 x2 x3 x4) answer
+  unfolding eval.step
+  fine_step {C = C} rec good id (Lit l) here g1 = search (nodes, good.expression, good.pattern) depth 30
+  fine_step {C = C} rec good id other here g1 = search (nodes, good.expression, good.pattern) depth 30
+
   pub fine_bind_step : {C : Fact N} → (rec : Evaluator N) → GoodEvaluator S rec → (n : Node) → (v : Value N) → Gets S C (IsValue v) → (j : Value N) → Gets S C (IsValue j) → (here : Scope N) → Gets S C (AreNouns here.nouns) → Fine S C (eval.bind_step K tree rec n v j here) scope
   unfolding eval.bind_step scopes.with_noun
-  fine_bind_step {C = C} rec good (Final x g) v g1 j g2 here g3 = search (served, looks, place_here, place_of_here, knows, fine_guard_of, fine_coerce, fine_call) depth 30
-  fine_bind_step {C = C} rec good (Var x g) v g1 j g2 here g3 = search (served, looks, place_here, place_of_here, knows, fine_guard_of, fine_coerce, fine_call) depth 30
-  fine_bind_step {C = C} rec good (Any g) v g1 j g2 here g3 = search (served, looks, place_here, place_of_here, knows, fine_guard_of, fine_coerce, fine_call) depth 30
-  fine_bind_step {C = C} rec good (ListPattern ps) v g1 j g2 here g3 = search (served, looks, place_here, place_of_here, knows, fine_bind_items) depth 30
-  fine_bind_step {C = C} rec good (Via e p) v g1 j g2 here g3 = search (served, looks, place_here, place_of_here, knows, fine_handed, fine_call, good.expression, good.pattern) depth 30
-  fine_bind_step {C = C} rec good _ v g1 j g2 here g3 = fine_stop S _
+  fine_bind_step {C = C} rec good (Any g) v g1 j g2 here g3 = search (nodes, good.expression, good.pattern) depth 30
+  fine_bind_step {C = C} rec good other v g1 j g2 here g3 = search (nodes, good.expression, good.pattern) depth 30
 
   pub fine_bind_found : {C : Fact N} → (rec : Evaluator N) → GoodEvaluator S rec → (o : Option Node) → (v : Value N) → Gets S C (IsValue v) → (j : Value N) → Gets S C (IsValue j) → (here : Scope N) → Gets S C (AreNouns here.nouns) → Fine S C (eval.bind_found K tree rec o v j here) scope
   unfolding eval.bind_found

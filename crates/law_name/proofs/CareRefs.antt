@@ -1,9 +1,9 @@
 -- What a vat does with references, from a sound state, ends in a sound state.
 use Rattle.std.proofs.Common.{ℕ, zero, suc, true, false, List, [], ◌∷◌, Option, Some, None}
-use Rattle.def_machine.specs.Values.{Words, Value, Prim, Ref, Naming, Null}
+use Rattle.def_machine.specs.Values.{Words, Value, Ref, Naming, Null}
 use Rattle.def_machine.specs.State.{Settles, Sends, Reacts, ◌>>=◌, ◌>>◌, tell, give, look, Message, Standing, Settled, Known, Passed, Passeds, Plain, AGift, Many, NoMore, More, Act}
 use Rattle.def_machine.specs.Refs as refs
-use Rattle.def_machine.specs.Refs.{Place, Near, Mine, Away, Gone}
+use Rattle.def_machine.specs.Refs.{Place, Mine, Away}
 use Rattle.law_name.proofs.Facts.{Fact, Also, IsName, IsMail, IsVat, IsOff, IsEntry, AreTold, MayEntry, IsValue, AreValues, IsMessage, IsKnown, IsPlace, DoesPass, DoAllPass, nothing, MayName}
 use Rattle.law_name.proofs.Care.{Care, Under, Makes, Gets, Fine, fine, fine_bind, fine_give, fine_new_message, bind_value, bind_place, fine_tell, fine_enqueue, fine_settles, bind_vat, bind_names, then_unit, got, got_left, got_right, got_itself, got_settle, got_message, got_more, got_none, got_ref, got_some, fine_lone_message}
 use Rattle.law_name.proofs.Looks.{looks, look_number, look_target, look_entry, each_message, each_entry, each_told, got_answer_host, look_follow, look_place, look_place_of}

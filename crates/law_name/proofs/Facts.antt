@@ -1,12 +1,12 @@
 -- Facts on the names that occur in what a vat has.
 use Rattle.std.proofs.Common.{ℕ, List, [], ◌∷◌, ◌++◌, Option, Some, None}
-use Rattle.def_machine.specs.Values.{Value, Null, Flag, Number, Letter, Text, Prim, Broken, Items, Ref, Coming, IsRoot, IsOwn, IsAnswer, IsGift, IsLearnt}
-use Rattle.def_machine.specs.State.{Bound, Fixed, Slot, Binding, Scope, Cell, Freedom, IsSafe, IsItself, IsFinal, IsVar, View, Thing, Made, Ejector, Audition, Resolver, Message, Standing, Unsettled, WaitsOn, Viewed, Settled, Known, Change, Hold, Wait, WaitOn, See, React, ToTell, Settle, Passed, Passeds, Plain, AGift, Many, NoMore, More, Note, Deliver, Open, Ask, SettledTo, Elsewhere, Shorten, Put, GiftEntry, WhereSome}
+use Rattle.def_machine.specs.Values.{Value, Ref, Coming, IsAnswer, IsGift}
+use Rattle.def_machine.specs.State.{Bound, Fixed, Slot, Binding, Scope, Cell, Freedom, IsFinal, View, Thing, Made, Ejector, Audition, Resolver, Message, Standing, Unsettled, WaitsOn, Viewed, Settled, Known, Change, Hold, Wait, WaitOn, See, React, ToTell, Settle, Passed, Passeds, Plain, AGift, Many, NoMore, More, Note, Deliver, Open, Ask, SettledTo, Elsewhere, Shorten, Put, GiftEntry, WhereSome}
 use Rattle.law_natives.specs.Natives.{ReplyHas, AskedHas}
 use Rattle.law_name.specs.Names.{Bit, Named, Mail, Drew, At, Off, Entered, Owns, Gave, AllOf, ValueOk, ValuesOk, NameOk, EntryOk, MessageOk, StandingOk, KnownOk, CellOk, FreedomOk, ViewOk, BoundOk, NounOk, ThingOk, PassedOk, PassedsOk, NoteOk, GoesOk, PutOk, GiftOk}
-use Rattle.def_machine.specs.Refs.{Place, Near, Mine, Away, Gone, Parcel}
-use Rattle.def_machine.specs.Native.{Reply, Says, Writes, Lists as Listed, Iterates, Fails, Asked, MakesList, Ranges, Same, Compares, Loops, SendsTo, CallsTo, MakesPromise, Breaks, Tells, Whens, ThrowsIt, IsStamped, Coerces, AddsNull, NoMethod}
-use Rattle.def_machine.specs.Scopes.{Answer, Answers, AuditionAsk, GetsForm, GetsGuard, Asks, NoAuditionAsk, ResolverAsk, Resolves, Smashes, NoResolverAsk}
+use Rattle.def_machine.specs.Refs.{Place, Mine, Away, Parcel}
+use Rattle.def_machine.specs.Native.{Reply, Says, Lists as Listed, Iterates, Asked, MakesList, Loops, SendsTo, CallsTo, Breaks, Tells, Whens, Coerces, AddsNull}
+use Rattle.def_machine.specs.Scopes.{Answer, Answers, AuditionAsk, GetsGuard, Asks, ResolverAsk, Resolves, Smashes, NoResolverAsk}
 
 abbrev pub MayBe : {A : Type 0} → (A → Type 0) → Option A → Type 0
 MayBe P (Some x) = P x

@@ -5,7 +5,7 @@ use Rattle.std.proofs.lemmas.Bool.{eqb-true, eq-eqb}
 use Rattle.def_machine.specs.Values.{Value, Null, Flag, Number, Letter, Text, Prim, Broken, Items, Ref, Name, Root, Object, Promise, Answer, Gift, Sent, host_of, naming, name_of, mail_of, IsGift}
 use Rattle.def_machine.specs.State.{Known, Passed, Passeds, Plain, AGift, Many, NoMore, More, Note, Deliver, Open, Ask, SettledTo, Elsewhere, Shorten, Vat, Done, Gives, Throws, Ejects, Stops, Act, ◌>>=◌, ◌>>◌, and_then, give, come, mail, begun}
 use Rattle.def_machine.specs.Arrive as arrive
-use Rattle.def_machine.specs.Arrive.{Incoming, Old, New}
+use Rattle.def_machine.specs.Arrive.{Old, New}
 use Rattle.def_run.specs.World as world
 use Rattle.def_run.specs.World.{put_at, is_old, read_name, known_after}
 use Rattle.law_name.specs.Names.{IsEventual, IsMessageName, Bit, Named, Mail, Drew, At, Gave, bare, IsAmong, promises_of, WasDrawn, WasMade, IsMessageMade, IsMade, ValueOk, PassedOk, PassedsOk, NoteOk, names_in, IsKnownIn, IsPlain, KnownOk, Parts}

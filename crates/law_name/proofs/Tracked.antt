@@ -5,9 +5,9 @@ use Rattle.std.proofs.lemmas.Bool.{eq-eqb}
 use Rattle.def_machine.specs.Refs as refs
 use Rattle.def_machine.specs.Refs.{Mine, Away}
 use Rattle.def_machine.specs.Values.{Name, Root, Object, Promise, Answer, Gift, Sent, Msg, Own, Foreign, NoObject, same_reference, spot_of, host_of, Naming, naming, name_of, answer_of, mail_of, key}
-use Rattle.def_machine.specs.State.{Known, Standing, Unsettled, WaitsOn, Viewed, Settled, Change, Hold, Wait, WaitOn, See, React, ToTell, Settle, Vat, with_change, changed, changed_to, unless_settled, begun}
+use Rattle.def_machine.specs.State.{Known, Standing, Unsettled, Settled, Change, Hold, Vat, with_change, changed, changed_to, unless_settled, begun}
 use Rattle.def_run.specs.World.{put_at}
-use Rattle.law_name.specs.Names.{Bit, Named, Mail, Drew, At, Off, Entered, Owns, Gave, bare, AllOf, IsAmong, promises_of, messages_of, WasDrawn, IsMade, names_in, IsKnownIn, IsHad, HostIsTrue, IsEventual, IsMessageName, IsPlain, PlainOnce}
+use Rattle.law_name.specs.Names.{Bit, Named, Mail, Drew, At, Off, Entered, Owns, bare, AllOf, IsAmong, promises_of, messages_of, WasDrawn, IsMade, names_in, IsKnownIn, IsHad, HostIsTrue, IsEventual, IsMessageName, IsPlain, PlainOnce}
 use Rattle.def_machine.proofs.Keys.{word_key}
 use Rattle.law_name.proofs.Facts.{all_end, PlaceOk}
 use Rattle.law_name.proofs.Care.{ViewsNone, Care, Alike, Spots, Under, Giving, Makes}

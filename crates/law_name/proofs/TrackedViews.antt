@@ -3,7 +3,7 @@ use Rattle.std.proofs.Common.{◌≡◌, ℕ, Bool, true, false, List, [], ◌�
 use Rattle.std.specs.Prelude.{slice_get}
 use Rattle.std.proofs.lemmas.Bool.{eqb-true}
 use Rattle.def_machine.specs.Values.{Name, Gift, IsGift, naming, name_of, key, word_of, under}
-use Rattle.def_machine.specs.State.{Known, See, Wait, Shorten, Ask, Views, GiftEntry, Vat, Done, Gives, Throws, Ejects, Stops, ◌>>=◌, ◌>>◌, and_then, give, look, tell, send_out, come, new_gift, alter, draw, draws, drawn_at, with_change, is_gift, begun}
+use Rattle.def_machine.specs.State.{Known, See, Wait, Shorten, Ask, Views, GiftEntry, Vat, Done, Gives, Stops, ◌>>=◌, ◌>>◌, and_then, give, look, tell, send_out, come, new_gift, alter, draw, draws, drawn_at, with_change, is_gift, begun}
 use Rattle.def_machine.specs.Refs.{host_at}
 use Rattle.def_machine.specs.Arrive as arrive
 use Rattle.law_name.specs.Names.{Named, Drew, At, Gave, AllOf, IsAmong, WasDrawn, names_in, KnownOk, GiftOk}

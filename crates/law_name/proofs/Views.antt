@@ -1,7 +1,7 @@
 -- The view of a name comes later among the names known than the name does.
 use Rattle.std.proofs.Common.{◌≡◌, Bool, true, false, List, [], ◌∷◌, ◌++◌, refl, sym, ◌∙◌, inl, inr, ◌⊎◌, subst}
 use Rattle.def_machine.specs.Values.{Name, Naming}
-use Rattle.def_machine.specs.State.{Known, Standing, Unsettled, WaitsOn, Viewed, Settled, Change, Hold, Wait, WaitOn, See, React, ToTell, Settle, with_change, changed, changed_to, unless_settled}
+use Rattle.def_machine.specs.State.{Known, Standing, Unsettled, Viewed, Settled, Change, WaitOn, See, Settle, with_change, changed, changed_to, unless_settled}
 use Rattle.law_name.specs.Names.{IsAmong, names_in}
 use Rattle.law_name.proofs.Care.{ViewsNone}
 use Rattle.law_name.proofs.Among.{among_more, among_last, among_or, names_end}

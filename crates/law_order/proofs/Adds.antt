@@ -1,7 +1,7 @@
 -- A vat that is ready stays so, and the ways only grow, as it only adds.
 use Rattle.std.proofs.Common.{arith, ◌≡◌, ℕ, suc, ◌≤◌, Bool, true, false, List, [], ◌∷◌, ◌++◌, Option, Some, None, length, refl, sym, ap, subst, ◌∙◌, inl, inr}
-use Rattle.def_machine.specs.Values.{Value, Null, Flag, Number, Letter, Text, Prim, Broken, Items, Ref, Name, Naming, Promise, Answer}
-use Rattle.def_machine.specs.State.{Message, Standing, Unsettled, WaitsOn, Viewed, Settled, Known, Note, Deliver, Open, Ask, SettledTo, Elsewhere, Shorten, Put, Vat, Change, Hold, Wait, WaitOn, See, React, ToTell, Settle}
+use Rattle.def_machine.specs.Values.{Value, Ref, Name, Naming, Promise, Answer}
+use Rattle.def_machine.specs.State.{Message, Standing, Settled, Known, Note, Open, Shorten, Put, Vat, Change, Hold, Wait, WaitOn, See, React, ToTell, Settle}
 use Rattle.def_machine.specs.State as state
 use Rattle.def_machine.specs.Refs as refs
 use Rattle.def_run.specs.World.{Script, Link, World, names}

@@ -1,7 +1,7 @@
 -- In the middle of a step, what only adds makes the ways grow.
 use Rattle.std.proofs.Common.{◌≡◌, ℕ, zero, suc, Bool, true, false, List, [], ◌∷◌, Option, Some, None, refl, sym, ap, subst, ◌∙◌, ◌⊎◌, inl, inr}
 use Rattle.std.specs.Prelude.{slice_get, not, ◌==◌, ◌&&◌}
-use Rattle.def_machine.specs.Values.{Value, Ref, Name, Root, Object, Promise, Answer, Gift, Sent}
+use Rattle.def_machine.specs.Values.{Value, Ref, Name, Gift}
 use Rattle.def_machine.specs.State.{Standing, Unsettled, WaitsOn, Viewed, Settled, Known, Message, Vat, GiftEntry}
 use Rattle.def_machine.specs.Refs as refs
 use Rattle.def_run.specs.World.{Script, Link, World, names}

@@ -2,7 +2,7 @@
 use Rattle.std.proofs.Common.{◌≡◌, ℕ, suc, Bool, true, false, List, [], ◌∷◌, ◌++◌, Option, Some, None, length, refl, sym, ap, subst, ◌∙◌, ◌⊎◌, inl, inr}
 use Rattle.std.specs.Prelude.{slice_get}
 use Rattle.def_machine.specs.Values.{Words, Value, Null, Flag, Number, Letter, Text, Prim, Broken, Items, Ref, Name, Root, Object, Promise, Answer, Gift, Sent, Naming}
-use Rattle.def_machine.specs.State.{Message, Standing, Unsettled, WaitsOn, Viewed, Settled, Known, Hold, Wait, React, ToTell, Passeds, Delivery, Note, Deliver, Put, Vat}
+use Rattle.def_machine.specs.State.{Message, Standing, Settled, Known, Hold, Passeds, Delivery, Note, Deliver, Put, Vat}
 use Rattle.def_machine.specs.State as state
 use Rattle.def_machine.specs.Refs.{Settler, Near, Mine, Away, Gone}
 use Rattle.def_machine.specs.Refs as refs

@@ -3,7 +3,7 @@ use Rattle.std.proofs.Common.{◌≡◌, ℕ, zero, suc, Bool, true, false, List
 use Rattle.std.proofs.lemmas.Bool.{ne_eqb, eq-eqb}
 use Rattle.std.specs.Prelude.{◌==◌, ◌&&◌, ◌||◌}
 use Rattle.def_machine.specs.Values.{Name, key, word_of}
-use Rattle.def_machine.specs.State.{Note, Deliver, Open, Ask, SettledTo, Elsewhere, Shorten, is_in, drawn_at}
+use Rattle.def_machine.specs.State.{Note, Open, Shorten, is_in, drawn_at}
 use Rattle.def_machine.proofs.Keys.{word_key}
 use Rattle.def_run.specs.World.{Link}
 use Rattle.def_run.specs.World as world

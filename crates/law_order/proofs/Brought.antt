@@ -5,7 +5,7 @@ use Rattle.std.specs.Prelude.{codes, ◌==◌, ◌&&◌}
 use Rattle.def_machine.specs.Values.{Broken, Ref, Name, Root, Object, Promise, Answer, Gift, Sent, Naming, Own, Foreign, NoObject, host_of, spot_of, naming}
 use Rattle.def_machine.specs.State.{Known, Vat, is_in}
 use Rattle.def_machine.specs.Refs as refs
-use Rattle.def_machine.specs.Refs.{Mine, Away, Gone}
+use Rattle.def_machine.specs.Refs.{Mine, Away}
 use Rattle.def_run.specs.World.{Script, Link, World, names}
 use Rattle.def_run.specs.World as world
 use Rattle.law_order.specs.Ways.{Held, Way, Item, Place, Nowhere, Free, End, Mid, Ways, nowhere, by_end, by_mid, Ahead, doomed_there, in_end, in_mid, past_end, past_mid}

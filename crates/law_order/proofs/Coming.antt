@@ -1,10 +1,10 @@
 -- As a name comes to be known the ways only grow.
 use Rattle.std.proofs.Common.{◌≡◌, ℕ, zero, suc, Bool, true, false, List, [], ◌∷◌, ◌++◌, Option, Some, None, length, refl, sym, ap, subst, ◌∙◌, ◌⊎◌, inl, inr, eqb-true}
 use Rattle.std.specs.Prelude.{codes, ◌==◌, ◌&&◌}
-use Rattle.def_machine.specs.Values.{Value, Null, Flag, Number, Letter, Text, Prim, Broken, Items, Ref, Name, Root, Object, Promise, Answer, Gift, Sent, Naming, Spot, Own, Foreign, NoObject, host_of, spot_of, naming, same_name, same_reference}
+use Rattle.def_machine.specs.Values.{Value, Null, Flag, Number, Letter, Text, Prim, Broken, Items, Ref, Name, Root, Object, Promise, Answer, Gift, Naming, Spot, Own, Foreign, NoObject, host_of, spot_of, naming, same_name, same_reference}
 use Rattle.def_machine.specs.State.{Standing, Unsettled, WaitsOn, Viewed, Settled, Known, Vat, is_in, begun}
 use Rattle.def_machine.specs.Refs as refs
-use Rattle.def_machine.specs.Refs.{Near, Mine, Away, Gone}
+use Rattle.def_machine.specs.Refs.{Mine, Away}
 use Rattle.def_run.specs.World.{Script, World, names}
 use Rattle.def_run.specs.World as world
 use Rattle.law_order.specs.Ways.{Nowhere, End, Held, Way, IsIn}

@@ -1,18 +1,18 @@
 -- A message that is sent, and one that arrives, comes to stand last.
 use Rattle.std.proofs.Common.{◌≡◌, ℕ, zero, suc, ◌-◌, Bool, true, false, List, [], ◌∷◌, ◌++◌, Option, Some, None, length, refl, sym, ap, subst, ◌∙◌, ◌⊎◌, inl, inr}
 use Rattle.std.specs.Prelude.{slice_get, ◌&&◌}
-use Rattle.def_machine.specs.Values.{Words, Value, Null, Flag, Number, Letter, Text, Prim, Broken, Items, Ref, Name, Answer, Sent, Naming, naming, name_of, mail_of, answer_of, key}
-use Rattle.def_machine.specs.State.{Message, Standing, Unsettled, WaitsOn, Viewed, Settled, Known, Hold, Change, Passed, Passeds, Plain, AGift, Many, NoMore, More, Delivery, Note, Deliver, Open, Ask, SettledTo, Elsewhere, Shorten, Put, Vat, Done, Gives, Throws, Ejects, Stops, Act, Posted, Sends, ◌>>=◌, ◌>>◌, and_then, give, look, tell, send_out, new_message, new_lone_message, draw, draws, drawn_at, alter, ToTell, begun}
+use Rattle.def_machine.specs.Values.{Words, Value, Null, Ref, Name, Answer, Sent, Naming, naming, name_of, mail_of, answer_of, key}
+use Rattle.def_machine.specs.State.{Message, Known, Hold, Change, Passed, Passeds, AGift, Delivery, Note, Deliver, Open, Vat, Done, Gives, Posted, Sends, ◌>>=◌, ◌>>◌, and_then, give, look, tell, send_out, new_message, new_lone_message, draw, draws, drawn_at, alter, ToTell, begun}
 use Rattle.def_machine.specs.State as state
 use Rattle.def_machine.specs.Refs.{Place, Near, Mine, Away, Gone, Settler}
 use Rattle.def_machine.specs.Refs as refs
 use Rattle.def_run.specs.World.{Script, Link, World, names}
 use Rattle.def_run.specs.World as world
 use Rattle.law_machine.specs.Steps.{After}
-use Rattle.law_order.specs.Ways.{Lane, Queue, Held, Way, Item, Nowhere, Free, End, Mid, Ways, Doom, nowhere, by_end}
+use Rattle.law_order.specs.Ways.{Lane, Queue, Held, Way, Item, Nowhere, Free, End, Ways, Doom, nowhere, by_end}
 use Rattle.law_order.specs.Ways as lanes
 use Rattle.law_order.specs.Places as places
-use Rattle.law_order.specs.Places.{item, queued, held_on, held_in, delivered, is_honest, aimed, stands_at, over, onward_at, ways_of, ways, amid}
+use Rattle.law_order.specs.Places.{item, queued, held_on, delivered, is_honest, aimed, stands_at, over, onward_at, ways_of, ways, amid}
 use Rattle.law_order.specs.Changes.{Grows, GoesOneWay}
 use Rattle.law_order.specs.Worlds.{IfGives, IsWaiting}
 use Rattle.law_order.specs.Steps.{StaysReady, LeadsAmid, Ready, IsHeld}

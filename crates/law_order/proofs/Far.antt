@@ -4,10 +4,10 @@ use Rattle.std.proofs.lemmas.Bool.{ne_eqb}
 use Rattle.std.proofs.lemmas.List.{append-nil, append_assoc}
 use Rattle.std.specs.Prelude.{slice_get, codes, ◌==◌, ◌&&◌}
 use Rattle.def_machine.specs.Values.{Broken, Ref, Name, Promise, Answer, Naming, Foreign, naming, name_of, answer_of, same_reference, same_name, host_of, IsAnswer}
-use Rattle.def_machine.specs.State.{Message, Known, Passeds, Put, Deliver, Posted, Waits, Settles, Settle, Vat, Done, Gives, Throws, Ejects, Stops, Act, WhereSome, ◌>>=◌, ◌>>◌, and_then, tell, send_out, give, look, each, for_some, come, alter, begun}
+use Rattle.def_machine.specs.State.{Message, Known, Passeds, Deliver, Posted, Waits, Vat, Done, Gives, WhereSome, ◌>>=◌, ◌>>◌, and_then, tell, send_out, give, look, each, for_some, come, alter, begun}
 use Rattle.def_machine.specs.State as state
 use Rattle.def_machine.specs.Refs as refs
-use Rattle.def_machine.specs.Refs.{Settler, Near, Mine, Away, Gone}
+use Rattle.def_machine.specs.Refs.{Settler, Away}
 use Rattle.def_run.specs.World.{Script, World, names}
 use Rattle.law_machine.specs.Steps.{After}
 use Rattle.law_order.specs.Ways.{Held, Way, Item, Free, End, Ways}

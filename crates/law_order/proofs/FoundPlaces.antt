@@ -5,7 +5,7 @@ use Rattle.std.specs.Prelude.{slice_get, ◌==◌}
 use Rattle.def_machine.specs.Values.{Value, Null, Flag, Number, Letter, Text, Prim, Broken, Items, Ref, Name, Root, Object, Promise, Answer, Gift, Sent, host_of}
 use Rattle.def_machine.specs.State.{Known, Vat, is_in}
 use Rattle.def_machine.specs.Refs as refs
-use Rattle.def_machine.specs.Refs.{Near, Mine, Away, Gone}
+use Rattle.def_machine.specs.Refs.{Near}
 use Rattle.def_run.specs.World.{Script, World, names}
 use Rattle.law_order.specs.Ways.{Lane, Queue, Held, Way, Item, Place, Nowhere, Free, End, Mid, Ways, IsIn, one_way, Doom, by_end, by_mid, Ahead, doomed_there, in_end, in_mid, past_end, past_mid}
 use Rattle.law_order.specs.Places.{item, ways, ways_of, onward_at, aimed, by_host, by_follow, of_name, leads_in, leads_at, leads, amid}

@@ -7,7 +7,7 @@ use Rattle.def_machine.specs.State.{Message, Passeds, Delivery, Note, Deliver, V
 use Rattle.def_machine.specs.Refs as refs
 use Rattle.def_run.specs.World.{Script, Link, World, names}
 use Rattle.def_run.specs.World as world
-use Rattle.law_order.specs.Ways.{Lane, Queue, Held, Way, Item, Place, Nowhere, Free, End, Mid, Ways, IsIn}
+use Rattle.law_order.specs.Ways.{Lane, Queue, Held, Way, Item, Place, End, Mid, Ways, IsIn}
 use Rattle.law_order.specs.Changes.{Beheads, stays, nearer, Lacks}
 use Rattle.law_order.specs.Places.{item, queued, held_in, delivered, is_honest, stands_at, ways_of, ways, amid}
 use Rattle.law_order.specs.Messages.{More, StandsAt, StandsOnce, stands_not}

@@ -4,7 +4,6 @@ use Rattle.std.specs.Prelude.{codes, slice_get, ◌==◌}
 use Rattle.def_machine.specs.Values.{Value, Null, Flag, Number, Letter, Text, Prim, Broken, Items, Ref, Name, Root, Object, Promise, Answer, Gift, Sent, Naming, Spot, Own, Foreign, NoObject, host_of}
 use Rattle.def_machine.specs.State.{Standing, Unsettled, WaitsOn, Viewed, Settled, Known, Vat, GiftEntry, is_in}
 use Rattle.def_machine.specs.Refs as refs
-use Rattle.def_machine.specs.Refs.{Near, Mine, Away, Gone}
 use Rattle.def_run.specs.World.{Script, Link, World, names}
 use Rattle.def_run.specs.World as world
 use Rattle.law_order.specs.Ways.{Lane, Queue, Held, Way, Item, Place, Nowhere, Free, End, IsIn, IsOneWay}

@@ -1,8 +1,8 @@
 -- What a name held is sent on as it settles, by the machine.
 use Rattle.std.proofs.Common.{◌≡◌, ℕ, Bool, true, false, List, [], ◌∷◌, ◌++◌, Some, None, length, refl, sym, ap, subst, ◌∙◌, ◌⊎◌, inl, inr}
 use Rattle.std.specs.Prelude.{slice_get}
-use Rattle.def_machine.specs.Values.{Value, Null, Flag, Number, Letter, Text, Prim, Broken, Items, Ref, Name, Naming, Spot, Own, Foreign, NoObject}
-use Rattle.def_machine.specs.State.{Message, Known, Vat, Done, Gives, Settle}
+use Rattle.def_machine.specs.Values.{Value, Broken, Ref, Name, Naming, Spot, Own}
+use Rattle.def_machine.specs.State.{Message, Known, Vat, Gives}
 use Rattle.def_machine.specs.State as state
 use Rattle.def_machine.specs.Refs as refs
 use Rattle.def_machine.specs.Refs.{Settler, Near}

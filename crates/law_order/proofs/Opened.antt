@@ -1,7 +1,7 @@
 -- A note that lets a gift go acts.
 use Rattle.std.proofs.Common.{◌≡◌, ℕ, suc, Bool, true, false, List, [], ◌∷◌, Option, Some, None, length, refl, sym, ap, subst, ◌∙◌, ◌⊎◌, inl, inr, eqb-true, eq-eqb}
 use Rattle.std.specs.Prelude.{slice_get, not, ◌==◌, ◌&&◌, ◌||◌}
-use Rattle.def_machine.specs.Values.{Value, Null, Flag, Number, Letter, Text, Prim, Broken, Items, Ref, Name, Root, Object, Promise, Answer, Gift, Sent, Naming, Spot, Own, Foreign, NoObject, same_name, host_of}
+use Rattle.def_machine.specs.Values.{Value, Null, Flag, Number, Letter, Text, Prim, Broken, Items, Ref, Name, Root, Object, Promise, Answer, Gift, Sent, Naming, Spot, Own, same_name, host_of}
 use Rattle.def_machine.specs.State.{NoMore, Standing, Unsettled, WaitsOn, Viewed, Settled, Known, Note, Open, GiftEntry, Vat, is_gift, with_opened}
 use Rattle.def_machine.specs.Arrive.{gift_at}
 use Rattle.def_machine.specs.Refs as refs

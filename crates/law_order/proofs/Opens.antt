@@ -2,8 +2,8 @@
 use Rattle.std.proofs.Common.{arith, ◌≡◌, ℕ, suc, Bool, true, false, List, [], Option, Some, None, refl, sym, ap, subst, ◌∙◌, ◌⊎◌, inl, inr, eqb-true}
 use Rattle.std.proofs.lemmas.Bool.{ne_eqb}
 use Rattle.std.specs.Prelude.{slice_get, not, ◌==◌, ◌&&◌}
-use Rattle.def_machine.specs.Values.{Ref, Name, Root, Object, Promise, Answer, Gift, Sent}
-use Rattle.def_machine.specs.State.{Standing, Unsettled, WaitsOn, Viewed, Settled, Vat, GiftEntry, Note}
+use Rattle.def_machine.specs.Values.{Ref, Name, Gift}
+use Rattle.def_machine.specs.State.{Standing, Unsettled, Vat, GiftEntry, Note}
 use Rattle.def_machine.specs.Refs as refs
 use Rattle.def_run.specs.World.{Script, Link, names}
 use Rattle.def_run.specs.World as world

@@ -1,10 +1,10 @@
 -- A note that is kept in front of its link: what stands and where lanes lead as it leaves.
 use Rattle.std.proofs.Common.{◌≡◌, ℕ, Bool, true, false, List, [], ◌∷◌, ◌++◌, Option, Some, None, refl, sym, ap, subst, ◌∙◌, ◌⊎◌, inl, inr}
 use Rattle.std.specs.Prelude.{slice_get, not, ◌==◌, ◌&&◌, ◌||◌}
-use Rattle.def_machine.specs.Values.{Words, Value, Ref, Name, Root, Object, Promise, Answer, Gift, Sent}
-use Rattle.def_machine.specs.State.{Standing, Unsettled, WaitsOn, Viewed, Settled, Passeds, Delivery, Note, Deliver, Open, Ask, SettledTo, Elsewhere, Shorten, Put, Vat, GiftEntry}
+use Rattle.def_machine.specs.Values.{Words, Value, Ref, Name, Gift}
+use Rattle.def_machine.specs.State.{Standing, Unsettled, WaitsOn, Viewed, Settled, Passeds, Delivery, Note, Deliver, Ask, SettledTo, Elsewhere, Put, Vat, GiftEntry}
 use Rattle.def_machine.specs.Refs as refs
-use Rattle.def_run.specs.World.{Script, Link, World, names}
+use Rattle.def_run.specs.World.{Script, Link, names}
 use Rattle.def_run.specs.World as world
 use Rattle.law_order.specs.Ways.{Lane, Queue, Held, Way, Item, Place, Nowhere, Free, IsIn}
 use Rattle.law_order.specs.Changes.{Beheads, stays, nearer}

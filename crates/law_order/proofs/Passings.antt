@@ -3,7 +3,7 @@ use Rattle.std.proofs.Common.{ℕ, List, [], ◌∷◌}
 use Rattle.def_machine.specs.Values.{Value, Name, Naming}
 use Rattle.def_machine.specs.State.{Passed, Passeds, Plain, AGift, Many, NoMore, More, Open, ToTell, Vat, ◌>>=◌, ◌>>◌, give, draw, send_out, alter}
 use Rattle.def_machine.specs.Refs as refs
-use Rattle.def_machine.specs.Refs.{Place, Near, Mine, Away, Gone}
+use Rattle.def_machine.specs.Refs.{Place, Mine, Away}
 use Rattle.law_order.proofs.Moves.{Keeps, IsKept, keeps_bind, keeps_then, keeps_look, keeps_give, keeps_spend, keeps_if}
 
 module _ (K : Naming Name Name) (R : Vat Name → Vat Name → Type 0) (law : IsKept R) (tells_to : (h : ℕ) (n : Name) → Keeps R (alter K (ToTell h) n)) (lets_go : (h : ℕ) (n : Name) → Keeps {N = Name} {A = Passed Name} R (draw K >>= (λ i. send_out h (Open i n) >> give (AGift h i)))) where

@@ -1,11 +1,11 @@
 -- What is ahead stays ahead as a name is resolved.
 use Rattle.std.proofs.Common.{◌≡◌, ℕ, suc, Bool, true, false, Some, length, subst}
 use Rattle.std.specs.Prelude.{slice_get, codes, if◌then◌else◌}
-use Rattle.def_machine.specs.Values.{Value, Prim, Broken, Name, Naming}
-use Rattle.def_machine.specs.State.{Standing, Unsettled, WaitsOn, Viewed, Settled, Known, Vat, Change, Hold, Wait, WaitOn, See, React, ToTell, Settle, Waits}
+use Rattle.def_machine.specs.Values.{Value, Broken, Name, Naming}
+use Rattle.def_machine.specs.State.{Vat, Wait, WaitOn, Waits}
 use Rattle.def_machine.specs.State as state
 use Rattle.def_machine.specs.Refs as refs
-use Rattle.def_machine.specs.Refs.{Near, Mine, Away, Gone}
+use Rattle.def_machine.specs.Refs.{Mine, Away}
 use Rattle.def_run.specs.World.{Script, World, names}
 use Rattle.law_order.specs.Worlds.{IfGives}
 use Rattle.law_order.specs.Settlings.{with_line}

@@ -1,7 +1,7 @@
 -- What a vat does with references, but for settlings, keeps it ready, and the ways only grow; so a whole turn goes by such changes and by settlings.
-use Rattle.std.proofs.Common.{◌≡◌, ℕ, zero, suc, ◌-◌, Bool, true, false, List, [], ◌∷◌, ◌++◌, Option, Some, None, length, refl, sym, subst}
+use Rattle.std.proofs.Common.{◌≡◌, ℕ, zero, suc, ◌-◌, Bool, false, List, [], ◌∷◌, ◌++◌, Option, Some, None, length, refl, sym, subst}
 use Rattle.def_machine.specs.Values.{Words, Value, Null, Broken, Ref, Name, Naming, IsOwn, naming, name_of, mail_of, answer_of}
-use Rattle.def_machine.specs.State.{Message, Passed, Passeds, Plain, AGift, Many, NoMore, More, Delivery, Note, Deliver, Open, Change, Hold, React, ToTell, Vat, Done, Gives, Throws, Ejects, Stops, Act, ◌>>=◌, ◌>>◌, and_then, give, draw, draws, send_out, enqueue, alter, for_some, new_message, new_lone_message, drawn_at, look, tell, Sends}
+use Rattle.def_machine.specs.State.{Message, Passed, Passeds, AGift, Delivery, Deliver, Open, Change, Hold, React, ToTell, Vat, Done, Gives, Throws, Ejects, Stops, Act, ◌>>=◌, ◌>>◌, and_then, give, draw, draws, send_out, enqueue, alter, for_some, new_message, new_lone_message, drawn_at, look, tell, Sends}
 use Rattle.def_machine.specs.State as state
 use Rattle.def_machine.specs.Refs as refs
 use Rattle.def_machine.specs.Refs.{Place, Near, Mine, Away, Gone}

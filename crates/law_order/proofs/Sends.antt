@@ -1,14 +1,14 @@
 -- Where a message is sent to a place, it is ahead of that place from then on.
 use Rattle.std.proofs.Common.{◌≡◌, ℕ, zero, suc, length, Bool, true, false, List, [], ◌∷◌, ◌++◌, Option, Some, None, refl, sym, ap, subst, ◌∙◌, inl, inr, eqb-true}
 use Rattle.std.specs.Prelude.{slice_get, ◌==◌, is_some}
-use Rattle.def_machine.specs.Values.{Words, Value, Null, Flag, Number, Letter, Text, Prim, Broken, Items, Ref, Name, Naming, IsAnswer}
-use Rattle.def_machine.specs.State.{Message, Standing, Unsettled, WaitsOn, Viewed, Settled, Known, Hold, Passeds, Delivery, Note, Deliver, Open, Ask, SettledTo, Elsewhere, Shorten, Put, Vat, Done, Act, Gives, Throws, Ejects, Stops, Posted, Waits, Lost, WaitOn, Wait}
+use Rattle.def_machine.specs.Values.{Words, Value, Ref, Name, Naming, IsAnswer}
+use Rattle.def_machine.specs.State.{Message, Standing, Viewed, Settled, Known, Hold, Passeds, Delivery, Note, Deliver, Open, Ask, SettledTo, Elsewhere, Shorten, Put, Vat, Done, Act, Gives, Posted}
 use Rattle.def_machine.specs.State as state
 use Rattle.def_machine.specs.Refs.{Place, Near, Mine, Away, Gone, Settler}
 use Rattle.def_machine.specs.Refs as refs
 use Rattle.def_run.specs.World.{Script, Link, World, names}
 use Rattle.def_run.specs.World as world
-use Rattle.law_order.specs.Ways.{Lane, Queue, Held, Way, Item, Nowhere, Free, End, Mid, Ways, IsIn, Doom, nowhere, by_end, by_mid, Follows, alike, Ahead, doomed_there, in_end}
+use Rattle.law_order.specs.Ways.{Queue, Held, Way, Item, Nowhere, Free, End, Ways, IsIn, Doom, nowhere, by_end, alike, Ahead, doomed_there, in_end}
 use Rattle.law_order.specs.Ways as lanes
 use Rattle.law_order.specs.Places as places
 use Rattle.law_order.specs.Places.{item, queued, held_on, held_in, delivered, is_honest, aimed, stands_at, over, onward_at, ways_of, ways, amid}

@@ -1,8 +1,8 @@
 -- After a whole send the new message is ahead of the place to which the value led.
 use Rattle.std.proofs.Common.{◌≡◌, ℕ, suc, Bool, true, false, List, [], ◌∷◌, ◌++◌, Option, Some, None, length, refl, sym, ap, subst, ◌∙◌, ◌⊎◌, inl, inr}
 use Rattle.std.specs.Prelude.{slice_get, codes, ◌==◌}
-use Rattle.def_machine.specs.Values.{Words, Value, Null, Flag, Number, Letter, Text, Prim, Broken, Items, Ref, Name, Root, Object, Promise, Answer, Gift, Sent, Naming, Spot, Own, Foreign, NoObject, naming, name_of, mail_of, answer_of, spot_of}
-use Rattle.def_machine.specs.State.{Message, Known, Passeds, Put, Deliver, Posted, Sends, Vat, Done, Gives, Throws, Ejects, Stops, ◌>>=◌, ◌>>◌, and_then, give, look, tell, send_out, new_message, new_lone_message, is_in, begun}
+use Rattle.def_machine.specs.Values.{Words, Value, Null, Broken, Ref, Name, Root, Object, Answer, Sent, Naming, Spot, Own, Foreign, NoObject, naming, name_of, mail_of, answer_of, spot_of}
+use Rattle.def_machine.specs.State.{Message, Known, Passeds, Put, Deliver, Posted, Sends, Vat, Done, Gives, ◌>>=◌, ◌>>◌, and_then, give, look, tell, send_out, new_message, new_lone_message, is_in, begun}
 use Rattle.def_machine.specs.State as state
 use Rattle.def_machine.specs.Refs as refs
 use Rattle.def_machine.specs.Refs.{Place, Near, Mine, Away, Gone}

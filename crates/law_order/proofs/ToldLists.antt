@@ -1,7 +1,7 @@
 -- As a vat is told of a list, the ways only grow, and names are followed as they were.
 use Rattle.std.proofs.Common.{◌≡◌, ℕ, zero, Bool, true, false, [], ◌∷◌, ◌++◌, if◌then◌else◌, Option, Some, None, length, refl, sym, ap, subst, ◌∙◌}
 use Rattle.def_machine.specs.Values.{Value, Items, Ref, Name, Naming, key}
-use Rattle.def_machine.specs.State.{Passed, AGift, Open, ToTell, SettledTo, Put, Vat, Act, Done, Gives, Throws, Ejects, Stops, ◌>>=◌, ◌>>◌, and_then, give, look, draw, draws, drawn_at, send_out, alter, is_in}
+use Rattle.def_machine.specs.State.{Passed, AGift, Open, ToTell, SettledTo, Put, Vat, Done, Gives, ◌>>=◌, ◌>>◌, and_then, give, look, draw, draws, drawn_at, send_out, alter, is_in}
 use Rattle.def_machine.specs.State as state
 use Rattle.def_machine.specs.Refs as refs
 use Rattle.def_machine.specs.Refs.{Near}

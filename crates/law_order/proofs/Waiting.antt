@@ -1,10 +1,9 @@
 -- As a name waits of which nothing was said the ways only grow, and the vat stays ready.
 use Rattle.std.proofs.Common.{◌≡◌, ℕ, suc, Bool, Option, Some, None, length, refl, sym, ap, subst, ◌∙◌, ◌⊎◌, inl, inr}
-use Rattle.def_machine.specs.Values.{Value, Null, Flag, Number, Letter, Text, Prim, Broken, Items, Ref, Name, Promise, Answer, Naming}
-use Rattle.def_machine.specs.State.{Standing, Unsettled, WaitsOn, Viewed, Settled, Known, Vat, Change, Hold, Wait, WaitOn, See, React, ToTell, Settle, Waits}
+use Rattle.def_machine.specs.Values.{Value, Ref, Name, Promise, Answer, Naming}
+use Rattle.def_machine.specs.State.{Standing, Unsettled, WaitsOn, Settled, Known, Vat, Wait, WaitOn, Waits}
 use Rattle.def_machine.specs.State as state
 use Rattle.def_machine.specs.Refs as refs
-use Rattle.def_machine.specs.Refs.{Near, Mine, Away, Gone}
 use Rattle.def_run.specs.World.{Script, World, names}
 use Rattle.law_order.specs.Worlds.{IsWaiting, IsFixed, AddsOnly}
 use Rattle.law_order.specs.Settlings.{with_line, IsLoose}

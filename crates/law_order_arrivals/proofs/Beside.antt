@@ -4,7 +4,7 @@ use Rattle.std.specs.Prelude.{slice_get, ◌==◌}
 use Rattle.std.proofs.lemmas.Bool.{eqb-false}
 use Rattle.def_machine.specs.Values.{Value, Ref, Name, host_of}
 use Rattle.def_machine.specs.State.{Vat}
-use Rattle.def_run.specs.World.{Script, Link, World, names}
+use Rattle.def_run.specs.World.{Script, Link, World}
 use Rattle.def_run.specs.World as world
 use Rattle.law_order.specs.Ways.{Lane, Queue, Held, Way, Item, Place, Nowhere, Free, End, Mid, Ways, IsIn, Doom, nowhere, by_end, by_mid, Follows, doomed, one_way, alike, beside, Ahead, doomed_there, in_mid, past_mid}
 use Rattle.law_order.specs.Turns.{Reroutes}

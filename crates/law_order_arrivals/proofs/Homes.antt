@@ -1,7 +1,7 @@
 -- Objects lead to the queue of their vat, at home; and where a link leads by each name.
 use Rattle.std.proofs.Common.{◌≡◌, ℕ, suc, Bool, true, false, List, [], Option, Some, None, length, refl, sym, ap, subst, ◌∙◌, ◌⊎◌, inl, inr, eq-eqb}
 use Rattle.std.specs.Prelude.{◌==◌}
-use Rattle.def_machine.specs.Values.{Ref, Name, Root, Object, Promise, Answer, Gift, Sent, Naming, Own, Foreign, host_of, spot_of, naming}
+use Rattle.def_machine.specs.Values.{Ref, Name, Object, Naming, Own, Foreign, host_of, spot_of, naming}
 use Rattle.def_machine.specs.State.{Vat}
 use Rattle.def_machine.specs.Refs as refs
 use Rattle.def_machine.specs.Refs.{Near}

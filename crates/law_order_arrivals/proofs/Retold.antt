@@ -1,7 +1,7 @@
 -- Ways that turn at all names by which something comes to a lane.
 use Rattle.std.proofs.Common.{◌≡◌, Bool, true, false, refl, sym, ap, subst, ◌∙◌}
 use Rattle.def_machine.specs.Values.{Name}
-use Rattle.law_order.specs.Ways.{Lane, Queue, Held, Way, Item, Place, Free, End, Mid, Ways, IsIn, Follows, doomed, one_way, alike, beside}
+use Rattle.law_order.specs.Ways.{Lane, Way, Item, Place, Free, End, Mid, Ways, IsIn, Follows, doomed, one_way, alike, beside}
 use Rattle.law_order.specs.Turns.{Comes, is_there, on_end, on_mid, Reroutes, stays_so, said_now, ends_now, renamed_so, behind_all, gone_on, IsDefinite, IsTurned}
 use Rattle.law_order.specs.Messages.{StaysBehind}
 use Rattle.law_order.specs.Arrivals.{IsGoodPlace, Agree}

@@ -7,7 +7,7 @@ use Rattle.def_machine.specs.State.{Known, Vat, is_in}
 use Rattle.def_machine.specs.Refs as refs
 use Rattle.def_run.specs.World.{Script, Link, World, names}
 use Rattle.def_run.specs.World as world
-use Rattle.law_order.specs.Ways.{Lane, Queue, Held, Way, Item, Place, Nowhere, Free, End, Mid, Ways, Doom, nowhere, by_end, Follows, doomed, one_way, alike, beside}
+use Rattle.law_order.specs.Ways.{Lane, Queue, Way, Item, Place, Nowhere, End, Mid, Ways, Doom, nowhere, by_end, Follows, doomed, one_way, alike, beside}
 use Rattle.law_order.specs.Turns.{Within, Comes, Reroutes, ends_now, renamed_so, behind_all, IsDefinite}
 use Rattle.law_order.specs.Places.{leads_in, leads_at, leads, by_host, by_follow, of_name, onward_at, amid}
 use Rattle.law_order.specs.Worlds.{IsObject}

@@ -1,7 +1,7 @@
 -- Order is kept through a whole settling of a name of another vat.
 use Rattle.std.proofs.Common.{◌≡◌, ℕ, suc, Bool, true, List, [], ◌∷◌, ◌++◌, Some, length, refl, sym, ap, subst, ◌∙◌, inl, inr, eq-eqb}
 use Rattle.std.specs.Prelude.{slice_get, codes, if◌then◌else◌}
-use Rattle.def_machine.specs.Values.{Value, Null, Flag, Number, Letter, Text, Prim, Broken, Items, Ref, Name, Naming, host_of}
+use Rattle.def_machine.specs.Values.{Value, Null, Broken, Ref, Name, Naming, host_of}
 use Rattle.def_machine.specs.State.{Message, Known, Settles, Vat, Done}
 use Rattle.def_machine.specs.State as state
 use Rattle.def_machine.specs.Refs as refs

@@ -1,7 +1,7 @@
 -- A note that asks for a gift is carried in a world, and order is kept.
 use Rattle.std.proofs.Common.{◌≡◌, ℕ, Bool, true, false, List, ◌∷◌, refl, subst, ◌∙◌, ◌⊎◌, inl, inr}
 use Rattle.def_machine.specs.Values.{Name}
-use Rattle.def_machine.specs.State.{Note, Ask, Vat, is_in, Done, Gives, Throws, Ejects, Stops}
+use Rattle.def_machine.specs.State.{Note, Ask, Vat, is_in, Done, Gives}
 use Rattle.def_machine.specs.Arrive as arrive
 use Rattle.law_machine.specs.Steps.{After}
 use Rattle.def_run.specs.World.{Script, World, names, read_note, readied}

@@ -1,10 +1,9 @@
 -- As a vat is asked for a gift the ways only grow, where it did not notice the provider.
-use Rattle.std.proofs.Common.{◌≡◌, ℕ, Bool, true, false, [], ◌∷◌, ◌++◌, Option, Some, None, if◌then◌else◌, refl, sym, ap, subst, ◌∙◌}
-use Rattle.def_machine.specs.Values.{Value, Name, Root, Promise, Answer, Gift, Sent, Msg, Naming, naming, name_of, host_of}
-use Rattle.def_machine.specs.State.{Standing, Unsettled, WaitsOn, Viewed, Settled, GiftEntry, Note, SettledTo, Elsewhere, ToTell, Put, Vat, Done, Gives, Throws, Ejects, Stops, Act, ◌>>=◌, ◌>>◌, and_then, give, look, send_out, new_gift, come, alter, begun, is_in}
+use Rattle.std.proofs.Common.{◌≡◌, ℕ, Bool, false, [], ◌∷◌, ◌++◌, Option, Some, None, if◌then◌else◌, refl, sym, ap, subst, ◌∙◌}
+use Rattle.def_machine.specs.Values.{Name, Root, Promise, Answer, Gift, Sent, Msg, Naming, naming, name_of, host_of}
+use Rattle.def_machine.specs.State.{Standing, Settled, GiftEntry, Note, ToTell, Vat, Done, Gives, Act, ◌>>=◌, ◌>>◌, and_then, give, look, send_out, new_gift, come, alter, begun, is_in}
 use Rattle.def_machine.specs.State as state
 use Rattle.def_machine.specs.Refs as refs
-use Rattle.def_machine.specs.Refs.{Place, Near, Mine, Away, Gone}
 use Rattle.def_machine.specs.Arrive as arrive
 use Rattle.def_machine.specs.Arrive.{gift_at}
 use Rattle.law_machine.specs.Steps.{After}
@@ -12,7 +11,7 @@ use Rattle.def_run.specs.World.{Script, World, names}
 use Rattle.law_order.specs.Worlds.{LetsNothingGo}
 use Rattle.law_order.specs.Steps.{StaysReady}
 use Rattle.law_order.proofs.Adds.{adds_note, change_adds, stays_quiet}
-use Rattle.law_order.proofs.Moves.{Keeps, keeps_bind, keeps_if, keeps_look, keeps_give, widen}
+use Rattle.law_order.proofs.Moves.{Keeps, keeps_bind, keeps_look, widen}
 use Rattle.law_order.proofs.News.{stays_self, stays_then}
 use Rattle.law_order.proofs.Sendings.{stays, stays_pass}
 use Rattle.law_order_carries.proofs.Informing.{informs}

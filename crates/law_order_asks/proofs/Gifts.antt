@@ -2,8 +2,8 @@
 use Rattle.std.proofs.Common.{◌≡◌, ℕ, Bool, true, false, List, [], ◌∷◌, ◌++◌, Some, refl, sym, ap, ◌⊎◌, inl}
 use Rattle.std.proofs.lemmas.List.{append-nil}
 use Rattle.std.specs.Prelude.{not, ◌==◌, ◌&&◌, ◌||◌}
-use Rattle.def_machine.specs.Values.{Value, Name, Root, Object, Promise, Answer, Gift, Sent, same_name}
-use Rattle.def_machine.specs.State.{Standing, Unsettled, WaitsOn, Viewed, Settled, GiftEntry, Vat}
+use Rattle.def_machine.specs.Values.{Value, Name, Gift, same_name}
+use Rattle.def_machine.specs.State.{Standing, Unsettled, GiftEntry, Vat}
 use Rattle.def_machine.specs.Refs as refs
 use Rattle.def_machine.specs.Refs.{entry_of, standing_of}
 use Rattle.def_run.specs.World as world

@@ -4,7 +4,7 @@ use Rattle.std.specs.Prelude.{◌==◌, ◌&&◌, ◌||◌}
 use Rattle.def_machine.specs.Values.{Ref, Name}
 use Rattle.def_machine.specs.State.{Note, Open, Shorten, Vat}
 use Rattle.def_run.specs.World as world
-use Rattle.def_run.specs.World.{Script, Link, World, names}
+use Rattle.def_run.specs.World.{Script, Link, World}
 use Rattle.law_order.specs.Ways.{Lane, Way, Item, Place, Nowhere, End, Mid, Ways, IsIn, Doom, nowhere}
 use Rattle.law_order.specs.Messages.{More}
 use Rattle.law_order.specs.Turns.{Reroutes, stays_so, ends_now, IsTurned}

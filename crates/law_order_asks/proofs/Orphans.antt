@@ -2,7 +2,7 @@
 use Rattle.std.proofs.Common.{◌≡◌, ℕ, Bool, true, false, List, [], ◌∷◌, ◌++◌, Option, Some, None, if◌then◌else◌, refl, sym, ap, subst, ◌∙◌, ◌⊎◌, inl, inr, codes, eq-eqb}
 use Rattle.std.specs.Prelude.{slice_get, ◌==◌}
 use Rattle.def_machine.specs.Values.{Value, Broken, Name, Gift, Naming, naming, name_of, host_of}
-use Rattle.def_machine.specs.State.{Standing, Unsettled, Settled, GiftEntry, Vat, Done, Gives, Throws, Ejects, Stops, Act, ◌>>=◌, ◌>>◌, and_then, give, look, each, new_gift, come, begun, is_gift, is_in}
+use Rattle.def_machine.specs.State.{Unsettled, Settled, GiftEntry, Vat, Done, Gives, Act, ◌>>=◌, ◌>>◌, and_then, give, look, each, new_gift, come, begun, is_gift, is_in}
 use Rattle.def_machine.specs.Refs as refs
 use Rattle.def_machine.specs.Refs.{entry_of, standing_of, standing_in}
 use Rattle.def_machine.specs.Arrive as arrive

@@ -1,7 +1,7 @@
 -- As a note by which the provider of a gift is asked to open it is carried in a run, order is kept.
 use Rattle.std.proofs.Common.{◌≡◌, ℕ, zero, suc, ◌≤◌, Bool, true, false, List, Some, None, length, refl, sym, ap, subst, ◌∙◌, inl, inr, arith}
 use Rattle.std.specs.Prelude.{codes, ◌==◌}
-use Rattle.def_machine.specs.Values.{Broken, Ref, Name, Root, Object, Promise, Answer, Gift, Sent, Naming, Own, Foreign, naming, spot_of, host_of}
+use Rattle.def_machine.specs.Values.{Broken, Ref, Name, Object, Naming, Own, Foreign, naming, spot_of, host_of}
 use Rattle.def_machine.specs.State.{Settled, Shorten, Vat, is_in}
 use Rattle.def_machine.specs.Refs.{Away, entry_of, standing_of, standing_in, led, follow_at, follow, severed, severed_at, severed_by, place, spotted}
 use Rattle.def_run.specs.World.{Script, Carry, Entry, World, Goes, begins, open_from, steps_from, names, readied, step}

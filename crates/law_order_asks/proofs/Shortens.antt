@@ -2,9 +2,9 @@
 use Rattle.std.proofs.Common.{◌≡◌, ℕ, zero, Bool, true, false, Option, Some, None, inl, inr, List, [], ◌∷◌, ◌++◌, refl, sym, ap, subst, ◌∙◌, le_refl}
 use Rattle.std.proofs.lemmas.List.{append-nil}
 use Rattle.def_machine.specs.Values.{Value, Ref, Name, Answer, Msg, Naming, naming, name_of, host_of}
-use Rattle.def_machine.specs.State.{Note, Open, Shorten, Vat, Done, Gives, Throws, Ejects, Stops, ◌>>=◌, and_then, give, look, come, send_out}
+use Rattle.def_machine.specs.State.{Note, Open, Shorten, Vat, Done, Gives, ◌>>=◌, and_then, give, look, come, send_out}
 use Rattle.def_machine.specs.Refs as refs
-use Rattle.def_machine.specs.Refs.{Near, Mine, Away, Gone}
+use Rattle.def_machine.specs.Refs.{Away}
 use Rattle.def_machine.specs.Arrive as arrive
 use Rattle.def_machine.specs.Arrive.{Old, New}
 use Rattle.def_run.specs.World as world

@@ -3,7 +3,7 @@ use Rattle.std.proofs.Common.{◌≡◌, ℕ, zero, suc, Bool, true, false, List
 use Rattle.std.proofs.lemmas.List.{append-nil}
 use Rattle.std.specs.Prelude.{slice_get, ◌&&◌}
 use Rattle.def_machine.specs.Values.{Value, Name}
-use Rattle.def_machine.specs.State.{Note, Vat, Done, Gives, Throws, Ejects, Stops}
+use Rattle.def_machine.specs.State.{Note, Vat, Done, Gives}
 use Rattle.def_machine.specs.Arrive as arrive
 use Rattle.def_machine.specs.Refs as refs
 use Rattle.def_run.specs.World as world

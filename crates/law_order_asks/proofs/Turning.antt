@@ -1,8 +1,8 @@
 -- Where what waits for each gift turns, so does what each vat holds.
 use Rattle.std.proofs.Common.{ℕ, Bool, true, false, List, Option, Some, None}
 use Rattle.std.specs.Prelude.{slice_get, not, ◌==◌, ◌&&◌}
-use Rattle.def_machine.specs.Values.{Name, Root, Object, Promise, Answer, Gift, Sent}
-use Rattle.def_machine.specs.State.{Standing, Unsettled, WaitsOn, Viewed, Settled, GiftEntry, Vat}
+use Rattle.def_machine.specs.Values.{Name, Gift}
+use Rattle.def_machine.specs.State.{Standing, Unsettled, GiftEntry, Vat}
 use Rattle.def_machine.specs.Refs.{standing_of}
 use Rattle.def_run.specs.World.{Script, Link, names}
 use Rattle.law_order.specs.Ways.{Lane, Queue, Held, Way, Free, Ways, IsOneWay}

@@ -2,9 +2,9 @@
 use Rattle.std.proofs.Common.{◌≡◌, ℕ, ◌≤◌, Bool, true, false, List, [], ◌∷◌, ◌++◌, Option, Some, None, refl, sym, ◌∙◌, ◌⊎◌, inl, if◌then◌else◌, arith, eq-eqb}
 use Rattle.std.specs.Prelude.{codes, ◌==◌}
 use Rattle.def_machine.specs.Values.{Broken, Ref, Name, Naming, IsGift, naming, name_of, under, word_of}
-use Rattle.def_machine.specs.State.{Note, Deliver, Open, Ask, SettledTo, Elsewhere, Shorten, Put, GiftEntry, Vat, Gives, Act, ◌>>=◌, ◌>>◌, and_then, give, look, tell, alter, come, draw, draws, send_out, new_gift, begun, is_in}
+use Rattle.def_machine.specs.State.{Note, Open, Ask, Shorten, Put, GiftEntry, Vat, Gives, Act, ◌>>=◌, ◌>>◌, and_then, give, look, tell, alter, come, draw, draws, send_out, new_gift, begun, is_in}
 use Rattle.def_machine.specs.Refs as refs
-use Rattle.def_machine.specs.Refs.{Near, Mine, Away, Gone, settle, host_at}
+use Rattle.def_machine.specs.Refs.{Away, settle, host_at}
 use Rattle.def_machine.specs.Arrive as arrive
 use Rattle.def_machine.specs.Arrive.{Incoming, Old, New}
 use Rattle.law_machine.specs.Steps.{After}

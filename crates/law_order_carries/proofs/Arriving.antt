@@ -2,10 +2,10 @@
 use Rattle.std.proofs.Common.{◌≡◌, ℕ, Bool, true, false, Option, Some, None, refl, sym, ap, subst, ◌∙◌, ◌⊎◌, inl, inr}
 use Rattle.std.specs.Prelude.{◌==◌}
 use Rattle.std.proofs.lemmas.Bool.{eq-eqb}
-use Rattle.def_machine.specs.Values.{Value, Null, Flag, Number, Letter, Text, Prim, Broken, Items, Ref, Name, Root, Object, Promise, Answer, Gift, Sent, Naming, Own, Foreign, NoObject, spot_of, naming}
+use Rattle.def_machine.specs.Values.{Value, Ref, Name, Root, Object, Promise, Answer, Gift, Sent, Naming, Own, Foreign, NoObject, spot_of, naming}
 use Rattle.def_machine.specs.State.{Known, Vat}
 use Rattle.def_machine.specs.Refs as refs
-use Rattle.def_machine.specs.Refs.{Near, Mine, Away, Gone, Settler}
+use Rattle.def_machine.specs.Refs.{Near, Mine, Away, Gone}
 use Rattle.def_run.specs.World.{Script, names}
 use Rattle.law_order.specs.Ways.{Lane, Queue, Held, Way, Nowhere, End}
 use Rattle.law_order.specs.Places.{aimed}

@@ -1,23 +1,23 @@
 -- A name breaks that came to be in this step: nothing else is followed to it, it holds nothing, and nothing waits for it.
-use Rattle.std.proofs.Common.{◌≡◌, ℕ, suc, Bool, true, false, List, [], ◌∷◌, ◌++◌, Option, Some, length, refl, sym, ap, subst, ◌∙◌, ◌⊎◌, inl, inr}
+use Rattle.std.proofs.Common.{◌≡◌, ℕ, suc, Bool, true, false, List, [], Some, length, refl, sym, ap, subst, ◌∙◌, ◌⊎◌, inl, inr}
 use Rattle.std.specs.Prelude.{slice_get}
 use Rattle.def_machine.specs.Values.{Words, Value, Broken, Name, Naming, NoObject, naming}
-use Rattle.def_machine.specs.State.{Message, Standing, Unsettled, Settled, Known, Settle, Settles, Vat, Done, Act, ◌>>=◌, ◌>>◌, and_then, give, look, tell, alter, each, enqueue, changed, is_in}
+use Rattle.def_machine.specs.State.{Message, Unsettled, Settled, Known, Settle, Settles, Vat, Done, ◌>>=◌, ◌>>◌, and_then, give, look, tell, alter, each, enqueue, changed, is_in}
 use Rattle.def_machine.specs.Refs as refs
 use Rattle.def_machine.specs.Refs.{Settler, entry_of}
-use Rattle.def_run.specs.World.{Script, Link, World, names}
+use Rattle.def_run.specs.World.{Script, World, names}
 use Rattle.def_run.specs.World as world
 use Rattle.law_name.specs.Names.{IsEventual}
 use Rattle.law_name.proofs.SameNames.{eventual_spot}
-use Rattle.law_order.specs.Ways.{Lane, Queue, Held, Way, Place, Nowhere, Mid, Ways, IsOneWay, Doom, nowhere}
+use Rattle.law_order.specs.Ways.{Lane, Way, Place, Nowhere, Mid, Ways, IsOneWay, Doom, nowhere}
 use Rattle.law_order.specs.Messages.{More, StaysBehind}
-use Rattle.law_order.specs.Places.{aimed, leads_in, leads, released_at, amid}
-use Rattle.law_order.specs.Settle.{passed_by, OnlySettles, SettlesHere, aimed_at, led_to, settled_to}
+use Rattle.law_order.specs.Places.{aimed, leads_in, amid}
+use Rattle.law_order.specs.Settle.{passed_by, SettlesHere, aimed_at, led_to, settled_to}
 use Rattle.law_order.specs.Settlings.{with_line}
 use Rattle.law_order.specs.Steps.{WaysAmid, LeadsAmid, Ready, Grown, KeepsOrder}
-use Rattle.law_order.specs.Turns.{Within, Reroutes, stays_so, ends_now, IsTurned}
+use Rattle.law_order.specs.Turns.{Reroutes, stays_so, ends_now, IsTurned}
 use Rattle.law_order.specs.Worlds.{IsWaiting, IsObject, FollowsEnd, StandsAlike}
-use Rattle.law_order.proofs.Adds.{grown_adds, stays_quiet}
+use Rattle.law_order.proofs.Adds.{stays_quiet}
 use Rattle.law_order.proofs.Amid.{entry_self}
 use Rattle.law_order.proofs.Changes.{growing_keeps}
 use Rattle.law_order.proofs.Named.{passes_nowhere}

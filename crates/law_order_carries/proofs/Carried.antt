@@ -2,17 +2,17 @@
 use Rattle.std.proofs.Common.{◌≡◌, ℕ, suc, ◌≤◌, Bool, true, false, List, [], ◌∷◌, ◌++◌, Option, Some, None, refl, sym, ap, subst, ◌∙◌, ◌⊎◌, inl, inr, if◌then◌else◌}
 use Rattle.std.specs.Prelude.{slice_get}
 use Rattle.def_machine.specs.Values.{Words, Value, Ref, Name, Root, Object, Promise, Answer, Gift, Sent, Msg, Naming, host_of, naming, name_of, answer_of, same_name, same_reference}
-use Rattle.def_machine.specs.State.{Message, Known, ToTell, Passeds, Delivery, Note, Deliver, Happened, Lost, Vat, Done, Gives, Throws, Ejects, Stops, Unsettled, Act, ◌>>=◌, ◌>>◌, and_then, give, look, alter, come, begun}
+use Rattle.def_machine.specs.State.{Message, Known, ToTell, Passeds, Delivery, Deliver, Vat, Done, Gives, Act, ◌>>=◌, ◌>>◌, and_then, look, alter, come, begun}
 use Rattle.def_machine.specs.State as state
 use Rattle.def_machine.specs.Refs as refs
 use Rattle.def_machine.specs.Arrive as arrive
 use Rattle.def_machine.specs.Arrive.{New}
-use Rattle.def_run.specs.World.{Script, Carry, Event, Here, Carried, Link, World, Run, Goes, Stopped, names, names_of, read_note, readied}
+use Rattle.def_run.specs.World.{Script, Link, World, names, read_note}
 use Rattle.def_run.specs.World as world
 use Rattle.law_name.specs.Names.{IsAmong, IsEventual, names_in}
 use Rattle.law_name.proofs.Among.{among_last}
 use Rattle.law_name.proofs.SameNames.{reference_self}
-use Rattle.law_order.specs.Ways.{Way, Nowhere, End}
+use Rattle.law_order.specs.Ways.{Way, End}
 use Rattle.law_order.specs.Worlds.{IfGives, AddsOnly}
 use Rattle.law_order.specs.Steps.{Ready, Grown, StaysReady}
 use Rattle.law_order.specs.Arrivals.{IsOpenWay, IsLearnt}

@@ -1,9 +1,9 @@
 -- What is kept as vats are told what a name settled to: whatever is kept as a value passes, and as a note is put that lets no gift go.
-use Rattle.std.proofs.Common.{ℕ, true, false, List, [], ◌∷◌}
+use Rattle.std.proofs.Common.{ℕ, true, List, [], ◌∷◌}
 use Rattle.def_machine.specs.Values.{Value, Name, Naming}
-use Rattle.def_machine.specs.State.{Note, SettledTo, Elsewhere, Vat, ◌>>=◌, ◌>>◌, each, look, send_out}
+use Rattle.def_machine.specs.State.{Note, SettledTo, Elsewhere, Vat, ◌>>=◌, ◌>>◌, each, send_out}
 use Rattle.def_machine.specs.Refs as refs
-use Rattle.def_machine.specs.Refs.{Place, Near, Mine, Away, Gone}
+use Rattle.def_machine.specs.Refs.{Place, Away}
 use Rattle.law_order.specs.Worlds.{LetsNothingGo}
 use Rattle.law_order.proofs.Moves.{Keeps, IsKept, keeps_bind, keeps_then, keeps_if, keeps_look, keeps_give}
 

@@ -1,11 +1,11 @@
 -- A vat learns the names in a note: it stays ready, and the ways only grow.
 use Rattle.std.proofs.Common.{◌≡◌, ℕ, ◌≤◌, Bool, true, false, List, [], ◌∷◌, ◌++◌, Option, Some, None, length, refl, sym, ap, subst, ◌∙◌, ◌⊎◌, inl, inr, if◌then◌else◌}
 use Rattle.std.specs.Prelude.{codes}
-use Rattle.def_machine.specs.Values.{Value, Null, Flag, Number, Letter, Text, Prim, Broken, Items, Ref, Name, Root, Object, Promise, Answer, Gift, Sent, Msg, Naming, NoObject, host_of, spot_of, naming, name_of, mail_of, same_reference}
-use Rattle.def_machine.specs.State.{Known, Settled, Settle, Passed, Passeds, Plain, AGift, Many, NoMore, More, Ask, Put, ListCame, Vat, Act, Done, Gives, Throws, Ejects, Stops, ◌>>=◌, ◌>>◌, and_then, give, look, tell, each, changed, new_list, come, mail, send_out, begun, is_in}
+use Rattle.def_machine.specs.Values.{Value, Broken, Ref, Name, Object, Promise, Answer, Gift, Sent, Msg, Naming, host_of, spot_of, naming, name_of, mail_of, same_reference}
+use Rattle.def_machine.specs.State.{Known, Settled, Settle, Passed, Passeds, Plain, AGift, Many, NoMore, More, Ask, Put, ListCame, Vat, Act, Done, Gives, ◌>>=◌, ◌>>◌, and_then, give, look, tell, each, changed, new_list, come, mail, send_out, begun, is_in}
 use Rattle.def_machine.specs.Refs as refs
 use Rattle.def_machine.specs.Arrive as arrive
-use Rattle.def_machine.specs.Arrive.{Incoming, Old, New}
+use Rattle.def_machine.specs.Arrive.{Old, New}
 use Rattle.def_run.specs.World.{Script, World, names}
 use Rattle.def_run.specs.World as world
 use Rattle.law_name.specs.Names.{IsAmong, IsEventual, names_in}

@@ -1,8 +1,8 @@
 -- A message that arrives goes on to where it is sent, and order is kept.
 use Rattle.std.proofs.Common.{◌≡◌, ℕ, zero, suc, ◌-◌, Bool, true, false, List, [], ◌∷◌, ◌++◌, Option, Some, None, length, refl, sym, ap, subst, ◌∙◌, ◌⊎◌, inl, inr, ◌≤◌, arith}
 use Rattle.std.specs.Prelude.{slice_get}
-use Rattle.def_machine.specs.Values.{Words, Value, Prim, Broken, Ref, Name, Root, Promise, Answer, Sent, Msg, Naming, key, IsAnswer, naming, name_of, answer_of, host_of}
-use Rattle.def_machine.specs.State.{Message, Standing, Unsettled, Known, Change, Hold, Wait, WaitOn, Waits, ToTell, begun, come, Passed, Passeds, AGift, Delivery, Note, Deliver, Open, Put, Happened, Lost, Posted, Settles, Vat, Done, Gives, Throws, Ejects, Stops, Act, ◌>>=◌, ◌>>◌, and_then, give, look, tell, send_out, enqueue, alter, draw, draws, drawn_at, each, for_some}
+use Rattle.def_machine.specs.Values.{Words, Value, Broken, Ref, Name, Root, Promise, Answer, Sent, Msg, Naming, key, IsAnswer, naming, name_of, answer_of, host_of}
+use Rattle.def_machine.specs.State.{Message, Unsettled, Known, Hold, Wait, WaitOn, Waits, ToTell, begun, come, Passed, Passeds, AGift, Delivery, Note, Deliver, Open, Put, Happened, Lost, Posted, Settles, Vat, Done, Gives, ◌>>=◌, ◌>>◌, and_then, give, look, tell, send_out, enqueue, alter, draw, draws, drawn_at, each, for_some}
 use Rattle.def_machine.specs.State as state
 use Rattle.def_machine.specs.Refs as refs
 use Rattle.def_machine.specs.Refs.{Near, Mine, Away, Gone, Settler}

@@ -3,10 +3,10 @@ use Rattle.std.proofs.Common.{◌≡◌, ℕ, zero, suc, Bool, true, false, List
 use Rattle.std.specs.Prelude.{slice_get}
 use Rattle.std.proofs.lemmas.List.{append-nil}
 use Rattle.def_machine.specs.Values.{Words, Value, Ref, Name}
-use Rattle.def_machine.specs.State.{Passeds, Delivery, Note, Deliver, Happened, Lost, Posted, Vat, Done, Gives, Throws, Ejects, Stops}
+use Rattle.def_machine.specs.State.{Passeds, Delivery, Note, Deliver, Happened, Lost, Posted, Vat, Done, Gives}
 use Rattle.def_machine.specs.Refs as refs
 use Rattle.def_machine.specs.Arrive as arrive
-use Rattle.def_run.specs.World.{Script, Carry, Event, Here, LostCut, Carried, Link, World, Run, Goes, Stopped, names, names_of, read_note, readied}
+use Rattle.def_run.specs.World.{Script, Carry, Event, Here, LostCut, Carried, Link, World, Goes, names, names_of, read_note, readied}
 use Rattle.def_run.specs.World as world
 use Rattle.law_name.specs.Names.{IsAmong, names_in}
 use Rattle.law_order.specs.Ways.{Lane, Queue, Held, Way, Item, Mid, Ways}

@@ -2,8 +2,8 @@
 use Rattle.std.proofs.Common.{◌≡◌, ℕ, true, false, refl, ap, arith}
 use Rattle.std.specs.Prelude.{◌==◌}
 use Rattle.def_machine.specs.Values.{Name, Naming}
-use Rattle.def_machine.specs.State.{Note, Deliver, Open, Ask, SettledTo, Elsewhere, Shorten, Vat, Done, Gives, Throws, Ejects, Stops, Act, ◌>>=◌, and_then, give, look, send_out}
-use Rattle.def_machine.specs.Refs.{Place, Near, Mine, Away, Gone}
+use Rattle.def_machine.specs.State.{Note, Deliver, Open, Ask, SettledTo, Elsewhere, Shorten, Vat, Done, Gives, Act, ◌>>=◌, and_then, give, look, send_out}
+use Rattle.def_machine.specs.Refs.{Place, Away}
 use Rattle.def_machine.specs.Arrive as arrive
 use Rattle.def_machine.specs.Arrive.{Incoming}
 use Rattle.law_machine.specs.Steps.{After}

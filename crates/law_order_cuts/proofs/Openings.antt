@@ -1,7 +1,7 @@
 -- How many notes open a gift, or ask its provider to, as links change.
 use Rattle.std.proofs.Common.{◌≡◌, ℕ, ◌+◌, ◌≤◌, Bool, true, false, List, [], ◌∷◌, ◌++◌, Some, refl, sym, ap, subst, arith}
 use Rattle.def_machine.specs.Values.{Name}
-use Rattle.def_machine.specs.State.{Note, Deliver, Open, Ask, SettledTo, Elsewhere, Shorten, Put}
+use Rattle.def_machine.specs.State.{Note, Open, Shorten, Put}
 use Rattle.def_run.specs.World as world
 use Rattle.def_run.specs.World.{Link}
 use Rattle.law_order.proofs.Sends.{pushed_shut, pushed_open}

@@ -5,7 +5,7 @@ use Rattle.std.specs.Prelude.{◌==◌}
 use Rattle.def_machine.specs.Values.{Value, Name, Naming, Coming, Mailing, key, word_of, under}
 use Rattle.def_machine.specs.State.{Message, Change, Passed, AGift, Note, Deliver, Open, Ask, SettledTo, Elsewhere, Shorten, Vat, Act, ◌>>=◌, ◌>>◌, and_then, give, enqueue, send_out, new_gift, open_gift, mark, alter, come, mail, new_message, new_lone_message, draw, draws, drawn_at, is_in}
 use Rattle.def_machine.specs.Refs as refs
-use Rattle.def_machine.specs.Refs.{Place, Near, Mine, Away, Gone}
+use Rattle.def_machine.specs.Refs.{Place, Away}
 use Rattle.def_machine.proofs.Keys.{word_key, word_under_key}
 use Rattle.law_machine.specs.Steps.{After}
 use Rattle.law_order.specs.Worlds.{LetsNothingGo}

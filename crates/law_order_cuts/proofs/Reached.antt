@@ -1,7 +1,7 @@
 -- In every world of a run at most one note under way lets the gift under a key go, at most one was put that opens it, and each note under way was logged.
 use Rattle.std.proofs.Common.{◌≡◌, ℕ, zero, ◌+◌, ◌≤◌, Bool, List, [], ◌∷◌, Some, refl, sym, ap, subst, ◌∙◌, arith}
 use Rattle.def_machine.specs.Values.{Name}
-use Rattle.def_machine.specs.State.{Note, Deliver, Open, Ask, SettledTo, Elsewhere, Shorten, Vat, Gives, Done}
+use Rattle.def_machine.specs.State.{Note, Deliver, Vat, Gives, Done}
 use Rattle.def_run.specs.World as world
 use Rattle.def_run.specs.World.{Script, Event, CutLink, Link, World, Goes, names, names_of, read_note, readied}
 use Rattle.law_machine.specs.Steps.{Step, Opens, Takes, Receives, Notices, does, After}

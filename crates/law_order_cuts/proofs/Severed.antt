@@ -1,11 +1,11 @@
 -- One link is cut: lanes are shut off.
 use Rattle.std.proofs.Common.{◌≡◌, ℕ, zero, suc, ◌≤◌, Bool, true, false, List, [], ◌∷◌, ◌++◌, Option, Some, None, refl, sym, ap, subst, ◌∙◌, ◌⊎◌, inl, inr, arith}
 use Rattle.std.specs.Prelude.{slice_get, not, ◌==◌, ◌&&◌, ◌||◌}
-use Rattle.def_machine.specs.Values.{Ref, Name, Root, Object, Promise, Answer, Gift, Sent}
-use Rattle.def_machine.specs.State.{Standing, Unsettled, WaitsOn, Viewed, Settled, GiftEntry, Vat}
+use Rattle.def_machine.specs.Values.{Ref, Name, Gift}
+use Rattle.def_machine.specs.State.{Standing, Unsettled, GiftEntry, Vat}
 use Rattle.def_machine.specs.Refs as refs
 use Rattle.def_run.specs.World as world
-use Rattle.def_run.specs.World.{Script, CutLink, Link, World, Goes, names}
+use Rattle.def_run.specs.World.{Script, Link, World, Goes, names}
 use Rattle.law_order.specs.Ways.{Lane, Queue, Held, Way, Item, Place, Nowhere, Free, Mid, Ways, IsIn, Doom, nowhere, by_mid}
 use Rattle.law_order.specs.Messages.{StandsAt, StaysBehind}
 use Rattle.law_order.specs.Places.{delivered, opens, shortens, note_place, any_note, first_place, opened_there, is_honest, open_place, shorten_place, was_put, or_never, gift_place, leads, unsettled, released, released_at, stands_at, over, onward_at, ways_of, ways}

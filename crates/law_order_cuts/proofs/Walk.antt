@@ -1,7 +1,7 @@
 -- What a vat does keeps what single changes and blocks keep, where a note that lets a gift go is put with a draw, and where a vat is told of a name that it may be told of.
 use Rattle.std.proofs.Common.{◌≡◌, ℕ, suc, List, [], ◌∷◌, ◌++◌, Some, refl, length}
 use Rattle.def_machine.specs.Values.{Words, Value, Name, Naming, Coming, Mailing, IsOwn, under}
-use Rattle.def_machine.specs.State.{Binding, Message, Standing, Unsettled, WaitsOn, Viewed, Settled, Known, Change, ToTell, Settle, Settles, Passed, Passeds, AGift, Delivery, Note, Deliver, Open, Ask, SettledTo, Elsewhere, Shorten, Vat, Done, Gives, Throws, Ejects, Stops, Act, ◌>>=◌, ◌>>◌, and_then, give, look, tell, each, enqueue, send_out, new_gift, open_gift, mark, alter, with_change, come, mail, new_message, new_lone_message, draw, begun}
+use Rattle.def_machine.specs.State.{Binding, Message, Standing, Settled, Known, Change, ToTell, Settle, Settles, Passed, Passeds, AGift, Delivery, Note, Deliver, Open, Ask, SettledTo, Elsewhere, Shorten, Vat, Done, Gives, Act, ◌>>=◌, ◌>>◌, and_then, give, look, tell, each, enqueue, send_out, new_gift, open_gift, mark, alter, with_change, come, mail, new_message, new_lone_message, draw, begun}
 use Rattle.def_machine.specs.Refs as refs
 use Rattle.def_machine.specs.Arrive as arrive
 use Rattle.def_machine.specs.Arrive.{Incoming}

@@ -1,6 +1,6 @@
 -- What a vat does keeps what single changes and blocks keep, where a settling, with all that it tells, is one block, and a note that lets a gift go is put with a draw.
 use Rattle.std.proofs.Common.{◌≡◌, ℕ, zero, suc, Bool, true, false, List, [], ◌∷◌, ◌++◌, Option, Some, None, refl, sym, ◌∙◌, length}
-use Rattle.def_machine.specs.Values.{Words, Value, Null, Flag, Number, Letter, Text, Prim, Broken, Items, Ref, Name, Naming, Coming, Mailing, IsOwn, under}
+use Rattle.def_machine.specs.Values.{Words, Value, Broken, Ref, Name, Naming, Coming, Mailing, IsOwn, under}
 use Rattle.def_machine.specs.State.{Binding, Message, Standing, Unsettled, WaitsOn, Viewed, Settled, Known, Change, ToTell, Passed, Passeds, Plain, AGift, Many, NoMore, More, Delivery, Note, Deliver, Open, Ask, SettledTo, Elsewhere, Shorten, GiftEntry, Vat, Act, ◌>>=◌, ◌>>◌, and_then, give, look, each, for_some, enqueue, send_out, new_gift, open_gift, mark, alter, come, mail, new_message, new_lone_message, draw, begun}
 use Rattle.def_machine.specs.Refs as refs
 use Rattle.def_machine.specs.Refs.{Place, Near, Mine, Away, Gone}

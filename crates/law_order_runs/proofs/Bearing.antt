@@ -1,6 +1,6 @@
 -- In every run the first note of a link that bears a message names nothing that its receiver makes as it takes it, and its receiver is ready.
 use Rattle.std.proofs.Common.{◌≡◌, ℕ, zero, suc, ◌+◌, ◌≤◌, Bool, true, false, List, ◌∷◌, refl, sym, ap, subst, ◌∙◌, ◌⊎◌, inl, inr, arith}
-use Rattle.def_machine.specs.Values.{Words, Value, Null, Flag, Number, Letter, Text, Prim, Broken, Items, Ref, Name, Root, Object, Promise, Answer, Gift, Sent, Msg, Naming}
+use Rattle.def_machine.specs.Values.{Words, Value, Ref, Name, Answer, Sent, Msg, Naming}
 use Rattle.def_machine.specs.State.{Passed, Passeds, Plain, AGift, Many, NoMore, More, Delivery, Note, Deliver, Vat}
 use Rattle.def_run.specs.World.{Script, Entry, World, Goes, begins, open_from, steps_from, names, read_passed}
 use Rattle.law_run.proofs.Honest.{honest_reached}

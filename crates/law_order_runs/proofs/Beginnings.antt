@@ -1,13 +1,13 @@
 -- A vat is ready for each step, as laws of names and references have it.
 use Rattle.std.proofs.Common.{◌≡◌, ℕ, zero, suc, ◌≤◌, ◌<◌, Bool, true, false, List, [], ◌∷◌, Option, Some, None, length, refl, sym, ap, subst, ◌∙◌, ◌⊎◌, inl, inr, arith}
 use Rattle.std.specs.Prelude.{slice_get}
-use Rattle.def_machine.specs.Values.{Value, Null, Flag, Number, Letter, Text, Prim, Broken, Items, Ref, Name, Root, Object, Promise, Answer, Gift, Sent, Naming, naming, host_of, word_of}
-use Rattle.def_machine.specs.State.{Message, Standing, Unsettled, WaitsOn, Viewed, Settled, Known, Note, Deliver, Open, Ask, SettledTo, Elsewhere, Shorten, Vat}
+use Rattle.def_machine.specs.Values.{Value, Ref, Name, Object, Promise, Answer, Naming, naming, host_of, word_of}
+use Rattle.def_machine.specs.State.{Message, Standing, Unsettled, WaitsOn, Viewed, Settled, Known, Note, Open, Shorten, Vat}
 use Rattle.def_machine.specs.Refs as refs
 use Rattle.def_machine.specs.Refs.{entry_of, standing_of, standing_in, follow_at}
 use Rattle.def_run.specs.Draws.{draw_word}
 use Rattle.def_run.specs.World as world
-use Rattle.def_run.specs.World.{Script, Program, Entry, Link, World, Run, Goes, Stopped, begins, open_from, steps_from, names, readied}
+use Rattle.def_run.specs.World.{Script, Link, World, Run, Goes, Stopped, names, readied}
 use Rattle.law_machine.specs.Breaks.{still_waits}
 use Rattle.law_name.specs.Names.{AllOf, IsAmong, IsEventual, IsMade, KnownOk, WasMade, messages_of, promises_of, names_in}
 use Rattle.law_name.proofs.Laws.{names_made, names_apart, hosts_true}

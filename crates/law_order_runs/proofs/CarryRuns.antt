@@ -2,7 +2,7 @@
 use Rattle.std.proofs.Common.{◌≡◌, ℕ, suc, ◌+◌, ◌≤◌, List, [], ◌∷◌, ◌++◌, subst, inl, inr, arith}
 use Rattle.def_machine.specs.Values.{Name}
 use Rattle.def_run.specs.World as world
-use Rattle.def_run.specs.World.{Script, Carry, Entry, World, Run, Goes, Stopped, begins, open_from, steps_from, step}
+use Rattle.def_run.specs.World.{Script, Carry, Entry, World, Run, Goes, Stopped, steps_from, step}
 use Rattle.law_fate.specs.Fate.{places, sent, fates}
 use Rattle.law_fate.proofs.RunFates.{places_and_fates}
 use Rattle.law_order.specs.Places.{item}

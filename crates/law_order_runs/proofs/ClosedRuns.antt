@@ -2,15 +2,15 @@
 use Rattle.std.proofs.Common.{◌≡◌, ℕ, ◌<◌, Bool, true, false, [], Option, Some, None, length, refl, sym, ap, subst, ◌∙◌, ◌⊎◌, inl, inr, ◌==◌, append-nil}
 use Rattle.std.specs.Prelude.{slice_get}
 use Rattle.std.proofs.lemmas.Bool.{eq-eqb}
-use Rattle.def_machine.specs.Values.{Value, Null, Flag, Number, Letter, Text, Prim, Broken, Items, Ref, Words, Name, Root, Object, Promise, Answer, Gift, Sent, Own, Foreign, NoObject, naming, host_of, spot_of}
+use Rattle.def_machine.specs.Values.{Value, Ref, Words, Name, Root, Object, Promise, Answer, Gift, Sent, Own, Foreign, NoObject, naming, host_of, spot_of}
 use Rattle.def_machine.specs.State.{Passeds, Delivery, Deliver, Known, Vat, is_in}
 use Rattle.def_machine.specs.Refs as refs
-use Rattle.def_machine.specs.Refs.{Near, Mine, Away, Gone, entry_of, follow, place}
+use Rattle.def_machine.specs.Refs.{Near, Mine, Away, entry_of, follow, place}
 use Rattle.def_run.specs.Draws.{draw_word}
 use Rattle.def_run.specs.World.{Script, Link, World, link_at, names}
 use Rattle.law_run.specs.Moves.{IsReached}
 use Rattle.law_run.proofs.Honest.{honest_reached}
-use Rattle.law_name.specs.Names.{Bit, Named, Mail, Drew, At, Off, Entered, Owns, Gave, bare, AllOf, IsAmong, KnownOk, NoteOk, ValueOk}
+use Rattle.law_name.specs.Names.{Bit, Mail, Drew, At, Off, Gave, bare, AllOf, IsAmong, KnownOk, NoteOk, ValueOk}
 use Rattle.law_name.proofs.Among.{all_among}
 use Rattle.law_name.proofs.Facts.{all_map, known_up}
 use Rattle.law_name.proofs.Looks.{follow_ok}

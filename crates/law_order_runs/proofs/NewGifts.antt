@@ -1,9 +1,9 @@
 -- In every run the gifts in the first note of a link are of another vat than its receiver, and none of them is known as it is read.
-use Rattle.std.proofs.Common.{◌≡◌, ℕ, zero, suc, ◌+◌, ◌≤◌, ◌==◌, Bool, true, false, List, [], ◌∷◌, ◌++◌, Some, refl, sym, ap, subst, ◌∙◌, ◌⊎◌, inl, inr, eq-eqb, arith}
+use Rattle.std.proofs.Common.{◌≡◌, ℕ, zero, ◌+◌, ◌≤◌, ◌==◌, Bool, true, false, List, [], ◌∷◌, ◌++◌, Some, refl, sym, subst, ◌⊎◌, inl, inr, eq-eqb, arith}
 use Rattle.std.specs.Prelude.{slice_get}
-use Rattle.def_machine.specs.Values.{Words, Value, Null, Flag, Number, Letter, Text, Prim, Broken, Items, Ref, Name, Root, Object, Promise, Answer, Gift, Sent, word_of}
+use Rattle.def_machine.specs.Values.{Words, Value, Ref, Name, Gift, word_of}
 use Rattle.def_machine.specs.State.{Passed, Passeds, Plain, AGift, Many, NoMore, More, Delivery, Note, Deliver, Vat, is_in}
-use Rattle.def_run.specs.World.{Script, Entry, Link, World, Goes, begins, open_from, steps_from, link_at, is_old, has_name, known_after, read_value, read_passed, read_all, plain_read, many_read, more_read}
+use Rattle.def_run.specs.World.{Script, Entry, Link, World, Goes, begins, open_from, steps_from, link_at, is_old, known_after, read_value, read_passed, read_all, plain_read, many_read, more_read}
 use Rattle.law_name.specs.Names.{AllOf, IsAmong, ValueOk, PassedOk, PassedsOk, NoteOk, names_in}
 use Rattle.law_name.specs.Runs.{KnowsOnce}
 use Rattle.law_name.proofs.Among.{among_or}

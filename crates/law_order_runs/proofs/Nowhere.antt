@@ -1,14 +1,14 @@
 -- A message that was lost, or that came to a queue on data, stands nowhere.
 use Rattle.std.proofs.Common.{◌≡◌, ℕ, ◌+◌, ◌≤◌, Bool, true, false, List, [], ◌∷◌, ◌++◌, Option, Some, None, refl, sym, ap, subst, ◌∙◌, inl, inr, arith}
 use Rattle.std.specs.Prelude.{slice_get, ◌==◌, ◌&&◌, not}
-use Rattle.def_machine.specs.Values.{Value, Null, Flag, Number, Letter, Text, Prim, Broken, Items, Ref, Name, Root, Object, Promise, Answer, Gift, Sent}
+use Rattle.def_machine.specs.Values.{Value, Ref, Name, Gift}
 use Rattle.def_machine.specs.State.{Message, Standing, Unsettled, WaitsOn, Viewed, Settled, Note, GiftEntry, Lost, Vat, WhereSome}
 use Rattle.def_machine.specs.Refs as refs
 use Rattle.def_run.specs.World as world
 use Rattle.def_run.specs.World.{Script, Event, Here, LostCut, Link, World, names}
 use Rattle.law_name.specs.Names.{IsAmong}
 use Rattle.law_fate.specs.Fate as fate
-use Rattle.law_fate.specs.Fate.{one, total, among, at_names, at_vat, of_note, on_link, places, fates}
+use Rattle.law_fate.specs.Fate.{one, total, among, at_vat, of_note, on_link, places, fates}
 use Rattle.law_order.specs.Ways.{Lane, Queue, Held, Way, Item, Place, Nowhere, Free}
 use Rattle.law_order.specs.Changes.{Lacks}
 use Rattle.law_order.specs.Messages.{LacksAt, IsNowhere}

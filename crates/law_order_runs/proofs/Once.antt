@@ -6,7 +6,7 @@ use Rattle.def_machine.specs.Values.{Value, Ref, Name, Naming}
 use Rattle.def_machine.specs.State.{Message, Known, Note, Deliver, Open, Ask, SettledTo, Elsewhere, Shorten, Vat}
 use Rattle.def_machine.specs.Refs as refs
 use Rattle.def_run.specs.World as world
-use Rattle.def_run.specs.World.{Script, Link, World, Run, Goes, names}
+use Rattle.def_run.specs.World.{Script, Link, World, names}
 use Rattle.law_fate.specs.Fate as fate
 use Rattle.law_fate.specs.Fate.{one, total, among, at_names, at_vat, in_note, of_note, on_link, places}
 use Rattle.law_fate.proofs.RunFates.{places_and_fates}

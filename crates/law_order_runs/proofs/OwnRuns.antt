@@ -1,8 +1,8 @@
 -- What a vat hosts: its names end with it, its unopened gifts are shut, and the next answers of what it holds are new.
 use Rattle.std.proofs.Common.{◌≡◌, ℕ, zero, suc, ◌+◌, ◌≤◌, Bool, true, false, List, [], ◌∷◌, Option, Some, None, length, refl, sym, ap, subst, ◌∙◌, ◌⊎◌, inl, inr, arith}
 use Rattle.std.specs.Prelude.{slice_get, ◌&&◌}
-use Rattle.def_machine.specs.Values.{Value, Null, Flag, Number, Letter, Text, Prim, Broken, Items, Ref, Name, Root, Object, Promise, Answer, Gift, Sent, Msg, Naming, host_of, same_name, word_of}
-use Rattle.def_machine.specs.State.{Message, Standing, Unsettled, WaitsOn, Viewed, Settled, Known, GiftEntry, Vat, WhereSome, is_gift}
+use Rattle.def_machine.specs.Values.{Value, Null, Flag, Number, Letter, Text, Prim, Broken, Items, Ref, Name, Answer, Gift, Sent, Msg, Naming, host_of, same_name, word_of}
+use Rattle.def_machine.specs.State.{Message, Standing, Unsettled, Viewed, Settled, Known, GiftEntry, Vat, WhereSome, is_gift}
 use Rattle.def_machine.specs.Refs as refs
 use Rattle.def_machine.specs.Refs.{entry_of, standing_of, standing_in, follow_at}
 use Rattle.def_machine.specs.Arrive.{gift_at}

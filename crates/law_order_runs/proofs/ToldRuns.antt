@@ -1,14 +1,14 @@
 -- In every world of a run notes tell truly where names settled.
 use Rattle.std.proofs.Common.{◌≡◌, ℕ, zero, suc, Bool, true, false, List, [], ◌∷◌, ◌++◌, Option, Some, None, refl, sym, ap, subst, ◌∙◌, ◌⊎◌, inl, inr}
 use Rattle.std.specs.Prelude.{slice_get, ◌==◌}
-use Rattle.def_machine.specs.Values.{Value, Null, Flag, Number, Letter, Text, Prim, Broken, Items, Ref, Name, Root, Object, Promise, Answer, Gift, Sent, Own, Foreign, NoObject, naming, spot_of, host_of}
+use Rattle.def_machine.specs.Values.{Value, Ref, Name, Object, Own, Foreign, NoObject, naming, spot_of, host_of}
 use Rattle.def_machine.specs.State.{Settled, Known, Note, Deliver, Open, Ask, SettledTo, Elsewhere, Shorten, Put, Vat, Done, Gives}
-use Rattle.def_machine.specs.Refs.{Place, Near, Mine, Away, Gone, entry_of, standing_of, standing_in}
+use Rattle.def_machine.specs.Refs.{Place, Away, entry_of, standing_of, standing_in}
 use Rattle.def_machine.specs.Arrive as arrive
 use Rattle.def_machine.specs.Arrive.{Incoming}
 use Rattle.def_run.specs.Draws.{draw_word}
 use Rattle.def_run.specs.World as world
-use Rattle.def_run.specs.World.{Script, Program, Event, CutLink, Link, World, Goes, names, names_of, read_note, readied}
+use Rattle.def_run.specs.World.{Script, Program, CutLink, Link, World, Goes, names, names_of, read_note, readied}
 use Rattle.law_machine.specs.Steps.{Step, Opens, Takes, Receives, Notices, does, After}
 use Rattle.law_run.specs.Moves.{Moved, Still, Severs, Drops, Steps, Arrives, Hears, Tells as Says, Nobody, AnyNotice, IsReached, Does, Begins, went}
 use Rattle.law_run.proofs.Told.{moves_told}

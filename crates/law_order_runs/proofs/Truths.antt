@@ -2,7 +2,7 @@
 use Rattle.std.proofs.Common.{◌≡◌, ℕ, zero, suc, Bool, true, false, List, [], ◌∷◌, ◌++◌, Option, Some, None, length, refl, sym, ap, subst, ◌∙◌, if◌then◌else◌}
 use Rattle.std.specs.Prelude.{◌==◌, codes}
 use Rattle.def_machine.specs.Values.{Words, Value, Null, Flag, Number, Letter, Text, Prim, Broken, Items, Ref, Name, Naming, Spot, Own, Foreign, NoObject, Coming, Mailing, under}
-use Rattle.def_machine.specs.State.{Message, Standing, Unsettled, WaitsOn, Viewed, Settled, Known, Change, Settle, ToTell, Passed, AGift, Note, Deliver, Open, Ask, SettledTo, Elsewhere, Shorten, Put, Vat, Done, Gives, Throws, Ejects, Stops, Act, ◌>>=◌, ◌>>◌, and_then, give, look, enqueue, send_out, new_gift, open_gift, mark, alter, with_change, changed, changed_to, unless_settled, come, mail, new_message, new_lone_message, draw, draws, is_in}
+use Rattle.def_machine.specs.State.{Message, Standing, Settled, Known, Change, Settle, ToTell, Passed, AGift, Note, Deliver, Open, Ask, SettledTo, Elsewhere, Shorten, Put, Vat, Done, Gives, Act, ◌>>=◌, ◌>>◌, and_then, give, look, enqueue, send_out, new_gift, open_gift, mark, alter, with_change, changed, changed_to, unless_settled, come, mail, new_message, new_lone_message, draw, draws, is_in}
 use Rattle.def_machine.specs.Refs as refs
 use Rattle.def_machine.specs.Refs.{Place, Near, Mine, Away, Gone, entry_of, standing_of, standing_in, follow_at}
 use Rattle.def_run.specs.World.{Script, names}

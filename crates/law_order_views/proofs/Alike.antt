@@ -1,7 +1,7 @@
 -- Where each reference of a vat leads where it led, the ways lead where they led, but what its names hold may go elsewhere.
 use Rattle.std.proofs.Common.{◌≡◌, ℕ, Bool, true, false, List, [], ◌∷◌, ◌++◌, Option, Some, None, refl, sym, ap, subst, ◌∙◌, ◌⊎◌, inl, inr}
 use Rattle.std.specs.Prelude.{slice_get}
-use Rattle.def_machine.specs.Values.{Value, Ref, Name, Root, Object, Promise, Answer, Gift, Sent}
+use Rattle.def_machine.specs.Values.{Value, Ref, Name, Gift}
 use Rattle.def_machine.specs.State.{Standing, Unsettled, WaitsOn, Viewed, Settled, GiftEntry, Vat}
 use Rattle.def_machine.specs.Refs.{standing_of}
 use Rattle.def_run.specs.World as world

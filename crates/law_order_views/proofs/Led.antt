@@ -1,8 +1,8 @@
 -- A name with a view was followed to what that view settled to: so nothing leads elsewhere as it settles there.
 use Rattle.std.proofs.Common.{◌≡◌, ℕ, zero, suc, Bool, List, Option, Some, None, length, refl, sym, ap, subst, ◌∙◌, ◌⊎◌, inl, inr}
 use Rattle.std.specs.Prelude.{slice_get}
-use Rattle.def_machine.specs.Values.{Value, Null, Flag, Number, Letter, Text, Prim, Broken, Items, Ref, Name, Root, Object, Promise, Answer, Gift, Sent, Naming}
-use Rattle.def_machine.specs.State.{Standing, Unsettled, WaitsOn, Viewed, Settled, Known, Vat}
+use Rattle.def_machine.specs.Values.{Value, Ref, Name, Root, Promise, Answer, Gift, Sent, Naming}
+use Rattle.def_machine.specs.State.{Standing, Unsettled, Viewed, Settled, Known, Vat}
 use Rattle.def_machine.specs.Refs as refs
 use Rattle.def_machine.specs.Refs.{entry_of, standing_of, standing_in, follow_at}
 use Rattle.def_run.specs.World as world

@@ -1,7 +1,7 @@
 -- The machine has a name settle to what its view settled to.
 use Rattle.std.proofs.Common.{◌≡◌, ℕ, zero, suc, List, [], Option, Some, None, refl, sym, ap, subst, ◌∙◌}
-use Rattle.def_machine.specs.Values.{Value, Null, Flag, Number, Letter, Text, Prim, Broken, Items, Ref, Name, Naming}
-use Rattle.def_machine.specs.State.{Standing, Unsettled, WaitsOn, Viewed, Settled, Known, Vat, Settle, changed, changed_to, unless_settled, with_change}
+use Rattle.def_machine.specs.Values.{Value, Ref, Name, Naming}
+use Rattle.def_machine.specs.State.{Standing, Settled, Known, Vat, Settle, changed, changed_to, unless_settled, with_change}
 use Rattle.def_machine.specs.Refs as refs
 use Rattle.def_machine.specs.Refs.{entry_of, standing_of, standing_in, follow_at}
 use Rattle.def_run.specs.World.{Script, names}

@@ -1,12 +1,12 @@
 -- A name breaks that nothing else is followed to: all is followed to an end still. Where its host was noticed, each reference to it was broken already.
 use Rattle.std.proofs.Common.{◌≡◌, ℕ, zero, suc, Bool, true, false, List, [], ◌∷◌, ◌++◌, Option, Some, None, length, refl, sym, ap, subst, ◌∙◌, ◌⊎◌, inl, inr, codes, eqb-true}
 use Rattle.std.specs.Prelude.{slice_get, not, ◌==◌, ◌&&◌}
-use Rattle.def_machine.specs.Values.{Words, Value, Null, Flag, Number, Letter, Text, Prim, Broken, Items, Ref, Name, Root, Object, Promise, Answer, Gift, Sent, Naming, naming, host_of}
-use Rattle.def_machine.specs.State.{Standing, Unsettled, WaitsOn, Viewed, Settled, Known, GiftEntry, Vat, begun, is_in}
+use Rattle.def_machine.specs.Values.{Words, Value, Broken, Ref, Name, Gift, Naming, naming, host_of}
+use Rattle.def_machine.specs.State.{Standing, Unsettled, Viewed, Settled, Known, GiftEntry, Vat, begun, is_in}
 use Rattle.def_machine.specs.Refs as refs
 use Rattle.def_machine.specs.Refs.{entry_of, standing_of, standing_in, follow_at}
 use Rattle.def_run.specs.World as world
-use Rattle.def_run.specs.World.{Script, Link, World, names}
+use Rattle.def_run.specs.World.{Script, Link, names}
 use Rattle.law_order.specs.Ways.{Place, Nowhere, Free}
 use Rattle.law_order.specs.Places.{aimed, by_follow, leads_in, gift_place, opened_there, leads_at, leads, unsettled, released, released_at}
 use Rattle.law_order.specs.Worlds.{IsObject, IsFixed, FollowsEnd, StandsAlike, RefersAlike}

@@ -1,10 +1,10 @@
 -- What arrives and what is noticed takes no room of a name, where the name is not the one that settles or waits by it, or did neither settle nor wait.
 use Rattle.std.proofs.Common.{◌≡◌, ℕ, ◌+◌, ◌*◌, Bool, true, false, List, [], ◌∷◌, ◌++◌, Option, Some, None, refl, sym, ap, subst, ◌∙◌, ◌⊎◌, inl, inr, arith, ◌==◌, if◌then◌else◌}
 use Rattle.std.proofs.lemmas.Bool.{eqb-true}
-use Rattle.def_machine.specs.Values.{Words, Value, Null, Flag, Number, Letter, Text, Prim, Broken, Items, Ref, Name, Answer, Gift, Sent, Msg, Naming, naming, Coming, IsGift, IsLearnt, name_of, answer_of, mail_of, under}
-use Rattle.def_machine.specs.State.{Standing, Unsettled, WaitsOn, Viewed, Settled, Known, See, ToTell, Passed, Passeds, Plain, AGift, Many, NoMore, More, Delivery, Note, Deliver, Open, Ask, SettledTo, Elsewhere, Shorten, GiftEntry, Vat, Done, Gives, Throws, Ejects, Stops, Act, ◌>>=◌, ◌>>◌, and_then, give, look, tell, each, send_out, new_gift, open_gift, with_opened, mark, draws, draw, alter, come, mail, begun, changed_to, WhereSome, is_in}
+use Rattle.def_machine.specs.Values.{Words, Value, Broken, Ref, Name, Answer, Gift, Sent, Msg, Naming, naming, Coming, IsGift, IsLearnt, name_of, answer_of, mail_of, under}
+use Rattle.def_machine.specs.State.{Standing, Unsettled, Viewed, Settled, Known, See, ToTell, Passed, Passeds, Plain, AGift, Many, NoMore, More, Delivery, Note, Deliver, Open, Ask, SettledTo, Elsewhere, Shorten, GiftEntry, Vat, Done, Gives, Throws, Ejects, Stops, Act, ◌>>=◌, ◌>>◌, and_then, give, look, tell, each, send_out, new_gift, open_gift, with_opened, mark, draws, draw, alter, come, mail, begun, changed_to, WhereSome, is_in}
 use Rattle.def_machine.specs.Refs as refs
-use Rattle.def_machine.specs.Refs.{Place, Near, Mine, Away, Gone, entry_of, standing_of, host_at}
+use Rattle.def_machine.specs.Refs.{Place, Away, entry_of, standing_of, host_at}
 use Rattle.def_machine.specs.Arrive as arrive
 use Rattle.def_machine.specs.Arrive.{Incoming, Old, New, gift_at}
 use Rattle.law_machine.specs.Steps.{After}
@@ -19,9 +19,9 @@ use Rattle.law_reference.specs.ListRingless.{IsNamed, told_name}
 use Rattle.law_reference.proofs.Following.{standing_found}
 use Rattle.law_order_waits.specs.Answers.{answered_by, answers}
 use Rattle.law_order_waits.proofs.Counts.{comes_stands}
-use Rattle.law_order_waits.proofs.Room.{share, share_most}
+use Rattle.law_order_waits.proofs.Room.{share}
 use Rattle.law_order_waits.proofs.Room as room
-use Rattle.law_order_waits.proofs.Costs.{Ends, ends_map}
+use Rattle.law_order_waits.proofs.Costs.{Ends}
 use Rattle.law_order_waits.proofs.Costs as costs
 use Rattle.law_order_waits.proofs.Settling as settling
 use Rattle.law_order_waits.proofs.Settling.{moves}

@@ -1,7 +1,7 @@
 -- For which names there is room at a vat: its root, and answers that it hosts.
 use Rattle.std.proofs.Common.{◌≡◌, ℕ, Bool, true, false, refl, sym, ap, ◌∙◌, ◌⊎◌, inl, inr, ◌==◌, ◌≤◌, arith}
 use Rattle.std.proofs.lemmas.Bool.{eqb-true, eq-eqb}
-use Rattle.def_machine.specs.Values.{Name, Root, Object, Promise, Answer, Gift, Sent, Msg, same_name, host_of}
+use Rattle.def_machine.specs.Values.{Name, Root, Answer, Gift, Msg, same_name, host_of}
 use Rattle.law_name.specs.Names.{IsEventual}
 use Rattle.law_fate.specs.Fate.{once, one}
 use Rattle.law_order_waits.proofs.Room.{share}

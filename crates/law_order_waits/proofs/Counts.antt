@@ -1,7 +1,7 @@
 -- How a change of what is known of a name changes sums over all that is known, and how a name stands.
 use Rattle.std.proofs.Common.{◌≡◌, ℕ, ◌+◌, ◌≤◌, Bool, true, false, List, [], ◌∷◌, ◌++◌, Option, Some, None, refl, sym, ap, subst, ◌∙◌, ◌⊎◌, inl, inr, arith}
 use Rattle.def_machine.specs.Values.{Value, Name, Naming, naming}
-use Rattle.def_machine.specs.State.{Unsettled, Known, Change, Hold, Wait, WaitOn, See, React, ToTell, Settle, changed, changed_to, with_change, begun}
+use Rattle.def_machine.specs.State.{Unsettled, Known, Change, Hold, Wait, WaitOn, See, React, Settle, changed, changed_to, with_change, begun}
 use Rattle.def_machine.specs.Refs.{entry_of, standing_of, standing_in}
 use Rattle.law_name.proofs.SameNames.{same_self}
 use Rattle.law_fate.specs.Fate.{once, one, total}

@@ -2,7 +2,7 @@
 use Rattle.std.proofs.Common.{◌≡◌, ℕ, zero, suc, ◌+◌, ◌*◌, ◌≤◌, Bool, true, false, List, [], ◌∷◌, ◌++◌, Option, Some, refl, sym, ap, subst, ◌∙◌, ◌⊎◌, inl, inr, arith, map, if◌then◌else◌, eq-eqb, ◌==◌}
 use Rattle.std.specs.Prelude.{slice_get}
 use Rattle.def_machine.specs.Values.{Value, Name, Root, Promise, Gift, Sent, Naming, naming, same_reference, host_of}
-use Rattle.def_machine.specs.State.{Message, Standing, Unsettled, Settled, Known, Note, Deliver, Open, Ask, SettledTo, Elsewhere, Shorten, GiftEntry, Vat, Done, Gives, ◌>>=◌, ◌>>◌, and_then, give, look, mark, WhereSome, is_in, is_gift, begun}
+use Rattle.def_machine.specs.State.{Message, Standing, Unsettled, Settled, Known, Note, Deliver, Open, SettledTo, Elsewhere, GiftEntry, Vat, Done, Gives, ◌>>=◌, ◌>>◌, and_then, give, look, mark, WhereSome, is_in, is_gift, begun}
 use Rattle.def_machine.specs.Refs.{entry_of, standing_of, standing_in}
 use Rattle.def_machine.specs.Arrive as arrive
 use Rattle.def_machine.specs.Arrive.{Incoming, Old, New, gift_at}
@@ -10,7 +10,7 @@ use Rattle.def_kernel.specs.declared.node.Node.{Node}
 use Rattle.law_machine.specs.Steps.{Opens as Starts, Takes, Receives, Notices, does}
 use Rattle.def_run.specs.Draws.{draw_word}
 use Rattle.def_run.specs.World as world
-use Rattle.def_run.specs.World.{Script, Program, Link, World, link_at, with_link, with_notes, put_at, names_of, read_note, read_name, is_old, readied}
+use Rattle.def_run.specs.World.{Script, Program, Link, World, link_at, put_at, names_of, read_note, read_name, is_old, readied}
 use Rattle.law_run.specs.Moves.{went}
 use Rattle.law_name.specs.Names.{AllOf, IsAmong, NoteOk, Everywhere, IsHad, IsKnownIn, GiftOk, names_in, HostIsTrue, IsEventual}
 use Rattle.law_name.proofs.Facts.{MayBe, all_map}

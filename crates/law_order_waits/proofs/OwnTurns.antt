@@ -2,7 +2,7 @@
 use Rattle.std.proofs.Common.{◌≡◌, ℕ, ◌+◌, ◌*◌, ◌≤◌, Bool, true, false, List, [], ◌∷◌, ◌++◌, Option, Some, None, refl, sym, ap, subst, ◌∙◌, ◌⊎◌, inl, inr, arith}
 use Rattle.std.specs.Prelude.{slice_get}
 use Rattle.def_machine.specs.Values.{Value, Broken, Name, Root, Object, Promise, Answer, Gift, Sent, Naming, naming, same_name}
-use Rattle.def_machine.specs.State.{Message, Unsettled, Vat, Done, Gives, Throws, Ejects, Stops, Act, new_promise, WhereSome}
+use Rattle.def_machine.specs.State.{Message, Unsettled, Vat, Done, Stops, Act, new_promise, WhereSome}
 use Rattle.def_machine.specs.Refs.{standing_of, settle, resolve, send, send_only, react}
 use Rattle.def_machine.specs.Eval.{opening, taking}
 use Rattle.law_machine.specs.Steps.{does}

@@ -1,7 +1,7 @@
 -- What is kept of one name at a vat: that there is room for the messages of which it is the answer and for one wait, and that what it waits on is where it waits.
-use Rattle.std.proofs.Common.{◌≡◌, ℕ, zero, suc, ◌+◌, ◌≤◌, Bool, true, false, List, [], ◌∷◌, ◌++◌, Option, Some, refl, sym, ap, subst, ◌∙◌, ◌⊎◌, inl, inr, arith}
-use Rattle.def_machine.specs.Values.{Value, Name, Root, Object, Promise, Answer, Gift, Sent, Naming, naming, same_reference, same_name}
-use Rattle.def_machine.specs.State.{Standing, Unsettled, WaitsOn, Viewed, Settled, Known, Change, Hold, Wait, WaitOn, See, React, ToTell, Settle, changed, changed_to, with_change, begun}
+use Rattle.std.proofs.Common.{◌≡◌, ℕ, suc, ◌+◌, ◌≤◌, Bool, true, false, List, [], ◌∷◌, ◌++◌, Option, Some, refl, sym, ap, subst, ◌∙◌, ◌⊎◌, inl, inr, arith}
+use Rattle.def_machine.specs.Values.{Value, Name, Object, Sent, Naming, naming, same_reference, same_name}
+use Rattle.def_machine.specs.State.{Standing, Unsettled, Settled, Known, Change, Hold, Wait, WaitOn, See, React, ToTell, Settle, changed, changed_to, with_change, begun}
 use Rattle.def_machine.specs.Refs.{entry_of, standing_of}
 use Rattle.law_machine.proofs.StepLaws.{changed_head}
 use Rattle.law_name.specs.Names.{AllOf, IsAmong, names_in, IsKnownIn, IsEventual}

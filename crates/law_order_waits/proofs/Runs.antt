@@ -6,7 +6,7 @@ use Rattle.def_machine.specs.State.{Unsettled, Settled, Note, Elsewhere, Open, V
 use Rattle.def_machine.specs.Refs.{standing_of}
 use Rattle.def_run.specs.Draws.{draw_word}
 use Rattle.def_run.specs.World as world
-use Rattle.def_run.specs.World.{Script, Program, Entry, Link, World, Goes as Going, link_at}
+use Rattle.def_run.specs.World.{Script, Program, Entry, World, Goes as Going}
 use Rattle.law_name.specs.Names.{AllOf, IsAmong, Once, names_in, IsEventual}
 use Rattle.law_name.specs.Runs.{KnowsOnce}
 use Rattle.law_name.proofs.Laws.{names_known, hosts_true, names_apart}

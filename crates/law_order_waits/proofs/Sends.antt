@@ -1,7 +1,7 @@
 -- Sends and reactions take no room of a name: the answer of a new message comes to be known with it.
 use Rattle.std.proofs.Common.{◌≡◌, ℕ, suc, ◌+◌, ◌*◌, ◌≤◌, Bool, true, false, List, [], ◌∷◌, ◌++◌, Some, None, refl, sym, ap, subst, arith}
 use Rattle.def_machine.specs.Values.{Words, Value, Null, Ref, Name, Answer, Gift, Sent, Msg, Naming, naming, name_of, answer_of, mail_of}
-use Rattle.def_machine.specs.State.{Message, Sends, Reacts, Vat, Done, Gives, Throws, Ejects, Stops, Act, ◌>>=◌, ◌>>◌, and_then, give, look, tell, new_message, new_lone_message, begun}
+use Rattle.def_machine.specs.State.{Message, Sends, Reacts, Vat, Done, Gives, Act, ◌>>=◌, ◌>>◌, and_then, give, look, tell, new_message, new_lone_message, begun}
 use Rattle.def_machine.specs.Refs as refs
 use Rattle.def_machine.specs.Refs.{Place, Near, Mine, Away, Gone}
 use Rattle.law_name.specs.Names.{IsEventual}

@@ -10,7 +10,7 @@ use Rattle.law_order.proofs.Moves.{Keeps, IsKept, keeps_bind, keeps_then, keeps_
 use Rattle.law_order.proofs.Passings.{keeps_pass, keeps_pass_all}
 use Rattle.law_order_waits.specs.Answers.{answered_by, answers, asked_at, waits_at}
 use Rattle.law_order_waits.proofs.Room.{share, share_most, share_sum}
-use Rattle.law_order_waits.proofs.Costs.{Ends, ends_map}
+use Rattle.law_order_waits.proofs.Costs.{Ends}
 use Rattle.law_order_waits.proofs.Costs as costs
 
 pub ruleset moves = (keeps_bind, keeps_then, keeps_if, keeps_give, keeps_stop, keeps_look, keeps_tell, keeps_spend, keeps_list)

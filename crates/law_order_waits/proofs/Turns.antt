@@ -16,7 +16,7 @@ use Rattle.law_frozen.proofs.Reach.{global_spots}
 use Rattle.law_order.proofs.Moves.{IsKept, keeps_give, keeps_stop, keeps_tell}
 use Rattle.law_order_waits.specs.Answers.{answered_by, answers}
 use Rattle.law_order_waits.proofs.Room.{share, share_most}
-use Rattle.law_order_waits.proofs.Costs.{Ends, ends_map}
+use Rattle.law_order_waits.proofs.Costs.{Ends}
 use Rattle.law_order_waits.proofs.Costs as costs
 use Rattle.law_order_waits.proofs.Settling as settling
 use Rattle.law_order_waits.proofs.Sends.{IsFit}

@@ -4,11 +4,11 @@ use Rattle.std.specs.Prelude.{slice_get, option_map}
 use Rattle.std.proofs.Math.Path.{fun_ext}
 use Rattle.std.proofs.lemmas.Cmp.{nat_eq_equiv}
 use Rattle.def_machine.specs.State as machine
-use Rattle.def_machine.specs.Values.{Words, Local, Obj, Prom, Far, Mess, same_local}
+use Rattle.def_machine.specs.Values.{Words, Local, Obj, Prom, same_local}
 use Rattle.def_run.specs.Connections.{Sight}
 use Rattle.def_local.specs.Vats as local
 use Rattle.def_local.specs.Vats.{answer_in, host_in, is_hosted, sight_for}
-use Rattle.ev_pass.specs.Notes.{Noted, Deliver, Open, Ask, Settled, Elsewhere, Shorten}
+use Rattle.ev_pass.specs.Notes.{Noted, Deliver}
 use Rattle.ev_pass.specs.Reading.{note_by}
 use Rattle.ev_pass.specs.declared.interior.Interior.{Interior}
 use Rattle.ev_refs.specs.Follow.{host_found, host_of, hosted, place_of}

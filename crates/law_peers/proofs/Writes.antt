@@ -5,12 +5,11 @@ use Rattle.ev_base.specs.declared.values.Value.{Value}
 use Rattle.ev_base.specs.declared.values.Value.TheVariants as held
 use Rattle.def_op.specs.Frames.{Operation}
 use Rattle.def_machine.specs.State as machine
-use Rattle.def_machine.specs.State.{Put}
 use Rattle.def_machine.specs.Values.{Words, Local, Prom, Name}
 use Rattle.def_run.specs.Connections as theirs
 use Rattle.def_run.specs.Connections.{Connection, Sight, asked_in}
 use Rattle.def_local.specs.Numbers as local
-use Rattle.def_local.specs.Numbers.{Addressed as Framed, frames_of, written_on}
+use Rattle.def_local.specs.Numbers.{frames_of, written_on}
 use Rattle.def_local.specs.Vats.{answer_in as told_answer, sight_for, unconnected}
 use Rattle.ev_pass.specs.Notes.{Parcel, Parcels, Plain, Gift, Many, NoMore, More, Noted, Deliver, Open, Ask, Settled, Elsewhere, Shorten, Sent}
 use Rattle.ev_pass.specs.Reading.{note_by, put_by}

@@ -12,7 +12,7 @@ use Rattle.law_text_runs.specs.Laws.{IsEntryOf as IsOfThese, IsShort, IsOfVats}
 use Rattle.law_text_runs.proofs.Runs.{tell_runs}
 use Rattle.ev_script.specs.Rules.{IsEntryOf, IsAdmitted}
 use Rattle.ev_script.specs.declared.script.Entry.{Entry}
-use Rattle.ev_script.specs.declared.script.Entry.TheVariants.{Turn, Carry, Cut, Notice}
+use Rattle.ev_script.specs.declared.script.Entry.TheVariants.{Turn}
 use Rattle.ev_script.specs.declared.script.Script.{Script}
 use Rattle.ev_script.specs.declared.script.VatScript.{VatScript}
 use Rattle.ev_script.proofs.Admitted.{read_admitted}

@@ -1,8 +1,6 @@
 -- What is asked of a script by the laws on writing and on hearing, each script that is read has.
-use Rattle.std.proofs.Common.{◌≡◌, ℕ, List, [], Ok, subst}
-use Rattle.def_kernel.specs.declared.node.Node.{Node}
+use Rattle.std.proofs.Common.{[], subst}
 use Rattle.def_run.specs.World as world
-use Rattle.ev_script.specs.Script.{read}
 use Rattle.ev_script.specs.declared.script.Script.{Script}
 use Rattle.law_reference.specs.Cuts.{NoticesFollowCuts}
 use Rattle.law_reference.proofs.AskHolds.{notices_front}

@@ -1,5 +1,5 @@
 -- What fits is shown by events whose lines are read again.
-use Rattle.std.proofs.Common.{◌≡◌, ◌+◌, ◌-◌, ◌<◌, ◌^◌, ◌&&◌, ◌||◌, ℕ, pos, negsuc, zero, suc, Bool as Bools, true, false, cond, eqb, ltb, List, [], ◌∷◌, Option, Some, None, inl, inr, length, map, filter, refl, ◌∙◌, ap, arith}
+use Rattle.std.proofs.Common.{◌≡◌, ◌+◌, ◌-◌, ◌<◌, ◌^◌, ◌&&◌, ◌||◌, ℕ, pos, zero, suc, Bool as Bools, true, false, cond, eqb, ltb, List, [], ◌∷◌, Option, Some, None, inl, inr, length, map, filter, refl, ◌∙◌, ap, arith}
 use Rattle.std.specs.Str.{IsUtf8}
 use Rattle.std.proofs.lemmas.Bool.{ltb-true}
 use Rattle.std.proofs.lemmas.Bool.Decides.{nat_tests}
@@ -11,9 +11,9 @@ use Rattle.def_event.specs.declared.shown.Shown.TheBlock.{hidden-the_row-Shown-0
 use denote.Hole.Carrier.{roll, hidden}
 use Rattle.def_event.specs.declared.event.Event.{Event as ShownEvent}
 use Rattle.def_event.specs.Lines.{is_no_frame, members}
-use Rattle.def_machine.specs.Values.{Words, Value, Null, Flag, Number, Letter, Text, Prim, Broken, Items, Ref, Name}
-use Rattle.def_machine.specs.State.{Bound, Fixed, Slot, Message, Passed, Passeds, Plain, AGift, Many, NoMore, More, Note, Deliver, Open, Ask, SettledTo, Elsewhere, Shorten, Happened, Took, Called, Back, Thrown, Left, Got, SlotMade, SlotRead, SlotWrote, ListMade, ListCame, EjectorMade, AuditionMade, PromiseMade, ObjectMade, Sends, Reacts, Finished, Threw, Settles, Waits, Views, Lost, Posted, WhereSome}
-use Rattle.def_run.specs.World.{Event, Opens, Turned, Idle, Carried, CutAt, NoticedAt, Here, LostCut, LeftQueue, LeftHeld, LeftWait, LeftLink, Ends}
+use Rattle.def_machine.specs.Values.{Words, Value, Null, Flag, Number, Prim, Items, Ref, Name}
+use Rattle.def_machine.specs.State.{Bound, Fixed, Slot, Message, Passed, Passeds, Plain, AGift, Many, NoMore, More, Note, Deliver, Open, Ask, SettledTo, Elsewhere, Shorten, Happened, Took, Called, Back, Left, Got, SlotMade, SlotRead, SlotWrote, ListMade, ListCame, EjectorMade, AuditionMade, PromiseMade, ObjectMade, Sends, Reacts, Finished, Settles, Waits, Views, Lost, Posted, WhereSome}
+use Rattle.def_run.specs.World.{Event, Turned, Carried, CutAt, NoticedAt, Here, LostCut, LeftQueue, LeftHeld, LeftWait, LeftLink, Ends}
 use Rattle.def_run.specs.Shown.{shown_gift, shown_name, shown_msg, shown_value, shown_values, shown_slot, shown_capture, shown_passed, shown_all, shown_delivery, shown_note, shown_send, shown_reaction, shown_happened, shown_event}
 use Rattle.def_run.specs.Text.{shown_events}
 use Rattle.law_text.specs.Feeds.{AllOf}

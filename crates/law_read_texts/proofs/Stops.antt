@@ -5,7 +5,7 @@ use Rattle.std.specs.Str.{IsUtf8}
 use Rattle.std.proofs.lemmas.List.{append-nil}
 use Rattle.std.proofs.lemmas.Str.{IsUtf8-append}
 use Rattle.def_machine.specs.Values.{Name}
-use Rattle.def_machine.specs.State.{Message, Note, Stop, Fuel, Deep, Repeated, Astray, Vat, Done, Gives, Throws, Ejects, Stops, Act}
+use Rattle.def_machine.specs.State.{Message, Note, Stop, Fuel, Deep, Repeated, Astray, Vat, Done, Gives, Stops, Act}
 use Rattle.def_run.specs.World as world
 use Rattle.def_run.specs.World.{Script, Program, Entry, Turn, Carry, CutLink, NoticeLink, Link, Event, World, Run, Goes, Stopped, run}
 use Rattle.def_run.specs.Text.{stop_line}

@@ -1,7 +1,7 @@
 -- A place that is away is at another vat.
 use Rattle.std.proofs.Common.{◌≡◌, ℕ, Bool, true, false, refl, sym, ◌∙◌, ◌==◌}
 use Rattle.std.proofs.lemmas.Bool.{eq-eqb}
-use Rattle.def_machine.specs.Values.{Value, Null, Flag, Number, Letter, Text, Prim, Broken, Items, Ref, Name, Root, Object, Promise, Answer, Gift, Sent, Spot, Own, Foreign, NoObject, spot_of, Naming, naming}
+use Rattle.def_machine.specs.Values.{Value, Ref, Name, Object, Spot, Own, Foreign, NoObject, spot_of, Naming, naming}
 use Rattle.def_machine.specs.State.{Vat}
 use Rattle.def_machine.specs.Refs as refs
 use Rattle.def_machine.specs.Refs.{Mine, Away}

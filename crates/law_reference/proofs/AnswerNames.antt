@@ -1,7 +1,7 @@
 -- What the sender of a note calls the answer that it asks for is the name of that answer.
 use Rattle.std.proofs.Common.{◌≡◌, ℕ, Option, Some}
 use Rattle.def_machine.specs.Values.{Name, Root}
-use Rattle.def_machine.specs.State.{Note, Deliver, Open, Ask, SettledTo, Elsewhere, Shorten, Put, Vat, Done, Gives}
+use Rattle.def_machine.specs.State.{Note, Deliver, Put, Vat, Done, Gives}
 use Rattle.def_machine.specs.Eval.{opening, taking}
 use Rattle.def_machine.specs.Arrive.{arrive, notice}
 use Rattle.def_run.specs.World as world

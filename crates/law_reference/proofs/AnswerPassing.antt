@@ -2,9 +2,9 @@
 use Rattle.std.proofs.Common.{◌≡◌, ℕ, Bool, true, false, List, [], ◌∷◌, ◌++◌, Option, Some, None, refl, sym, ap, ◌∙◌, append_assoc, append-nil, if◌then◌else◌}
 use Rattle.std.specs.Prelude.{nat_le, ◌==◌}
 use Rattle.def_machine.specs.Values.{Value, Name, Naming, naming, Spot, Own, Foreign, NoObject}
-use Rattle.def_machine.specs.State.{ToTell, Passed, Passeds, Plain, AGift, Many, NoMore, More, Note, Open, SettledTo, Elsewhere, Put, Happened, Vat, Done, Gives, Throws, Ejects, Stops, Act, ◌>>=◌, ◌>>◌, and_then, give, look, tell, spend, spent, draws, draw, send_out, alter}
+use Rattle.def_machine.specs.State.{ToTell, Passed, Passeds, Plain, AGift, Many, NoMore, More, Note, Open, SettledTo, Elsewhere, Put, Happened, Vat, Done, Gives, Stops, Act, ◌>>=◌, ◌>>◌, and_then, give, look, tell, spend, spent, draws, draw, send_out, alter}
 use Rattle.def_machine.specs.Refs as refs
-use Rattle.def_machine.specs.Refs.{Place, Near, Mine, Away, Gone, Parcel}
+use Rattle.def_machine.specs.Refs.{Place, Mine, Away, Parcel}
 use Rattle.law_name.specs.Names.{Bit, Named, AllOf, ValueOk, ValuesOk, KnownOk, PassedOk, PassedsOk, NoteOk, names_in}
 use Rattle.law_name.proofs.Facts.{all_append, PlaceOk}
 use Rattle.law_name.proofs.Care.{Care, Under, changes_ok}

@@ -4,7 +4,7 @@ use Rattle.std.specs.Prelude.{slice_get}
 use Rattle.def_machine.specs.Values.{Name, Root, Object, Promise, Answer, Gift, Sent}
 use Rattle.def_machine.specs.State.{Note, Vat}
 use Rattle.def_run.specs.World as world
-use Rattle.def_run.specs.World.{Script, Entry, Turn, Carry, CutLink, NoticeLink, Link, World, Goes as Going, link_at}
+use Rattle.def_run.specs.World.{Script, Entry, Carry, Link, World, Goes as Going, link_at}
 use Rattle.law_name.specs.Runs.{KnowsOnce}
 use Rattle.law_name.proofs.Among.{length_end}
 use Rattle.law_reference.specs.NameTableRuns.{BringsNew, EntryBringsNew, NotesBringNew}

@@ -2,10 +2,10 @@
 use Rattle.std.proofs.Common.{◌≡◌, ℕ, zero, suc, ◌+◌, ◌≤◌, true, false, List, [], ◌∷◌, ◌++◌, Option, Some, refl, sym, ◌∙◌, ◌⊎◌, inl, inr, length, arith, ◌==◌, append_assoc}
 use Rattle.std.specs.Prelude.{slice_get}
 use Rattle.std.proofs.lemmas.Bool.{eq-eqb}
-use Rattle.def_machine.specs.Values.{Value, Null, Flag, Number, Letter, Text, Prim, Broken, Items, Ref, Name, Gift}
+use Rattle.def_machine.specs.Values.{Value, Ref, Name, Gift}
 use Rattle.def_machine.specs.State.{Passed, Passeds, Plain, AGift, Many, NoMore, More, Note, Deliver, Open, Ask, SettledTo, Elsewhere, Shorten, Vat}
 use Rattle.def_run.specs.World as world
-use Rattle.def_run.specs.World.{Script, Entry, Turn, Carry, CutLink, NoticeLink, Link, World, Goes as Going, link_at, with_link, with_notes}
+use Rattle.def_run.specs.World.{Script, Entry, Carry, Link, World, Goes as Going, link_at}
 use Rattle.law_fate.specs.Fate.{once}
 use Rattle.law_fate.specs.Lasting.{Each}
 use Rattle.law_name.specs.Names.{Bit, Named, AllOf, ValueOk, PassedOk, PassedsOk, NoteOk}

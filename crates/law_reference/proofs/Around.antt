@@ -1,8 +1,8 @@
 -- What laws of runs say of a world that a run has reached, as far as lists ask for it; and that what is asked of a note that arrives follows.
 use Rattle.std.proofs.Common.{◌≡◌, ℕ, zero, Bool, true, false, List, [], ◌∷◌, Option, Some, None, refl, sym, ap, subst, ◌∙◌, ◌⊎◌, inl, inr}
 use Rattle.std.specs.Prelude.{slice_get}
-use Rattle.def_machine.specs.Values.{Value, Items, Ref, Name, Root, Object, Promise, Answer, Gift, Sent, host_of}
-use Rattle.def_machine.specs.State.{Settled, Known, Passed, Plain, AGift, Many, Note, Deliver, Open, Ask, SettledTo, Elsewhere, Shorten, Vat, is_in}
+use Rattle.def_machine.specs.Values.{Value, Items, Ref, Name, Gift, host_of}
+use Rattle.def_machine.specs.State.{Settled, Known, Passed, Many, Note, Deliver, Open, Ask, SettledTo, Elsewhere, Shorten, Vat, is_in}
 use Rattle.def_machine.specs.Refs.{entry_of, standing_of, standing_in, host_at, host_in}
 use Rattle.law_machine.specs.Breaks.{still_waits}
 use Rattle.def_run.specs.World as world

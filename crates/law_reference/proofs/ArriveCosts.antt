@@ -1,8 +1,8 @@
 -- What arrives makes known what the note brings, and a notice makes nothing known that was not claimed.
 use Rattle.std.proofs.Common.{if◌then◌else◌, ◌≡◌, ℕ, zero, ◌+◌, ◌≤◌, Bool, true, false, List, [], ◌∷◌, ◌++◌, Option, Some, None, refl, ◌∙◌, arith, if◌then◌else◌, ◌==◌}
 use Rattle.std.proofs.lemmas.Bool.{eqb-true}
-use Rattle.def_machine.specs.Values.{Words, Value, Null, Flag, Number, Letter, Text, Prim, Broken, Items, Ref, Name, Gift, Naming, IsAnswer, IsGift, IsLearnt, IsCarried, naming, name_of, mail_of, answer_of, key, under}
-use Rattle.def_machine.specs.State.{Standing, Unsettled, WaitsOn, Viewed, Settled, Known, Passed, Passeds, Plain, AGift, Many, NoMore, More, Note, Deliver, Open, Ask, SettledTo, Elsewhere, Shorten, GiftEntry, Vat, Act, ◌>>=◌, ◌>>◌, ToTell, and_then, mail, give, look, come, alter, begun, draw, draws, drawn_at, send_out, open_gift}
+use Rattle.def_machine.specs.Values.{Words, Value, Ref, Name, Gift, Naming, IsAnswer, IsGift, IsLearnt, IsCarried, naming, name_of, mail_of, answer_of, key, under}
+use Rattle.def_machine.specs.State.{Standing, Viewed, Settled, Known, Passed, Passeds, Plain, AGift, Many, NoMore, More, Note, Deliver, Open, Ask, SettledTo, Elsewhere, Shorten, GiftEntry, Vat, Act, ◌>>=◌, ◌>>◌, ToTell, and_then, mail, give, look, come, alter, begun, draw, draws, drawn_at, send_out, open_gift}
 use Rattle.def_machine.specs.Refs.{Place, Away, settle, send_on, resolve}
 use Rattle.def_machine.specs.Arrive as arrive
 use Rattle.def_machine.specs.Arrive.{Incoming, Old, New, gift_at}

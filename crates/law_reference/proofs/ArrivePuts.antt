@@ -1,8 +1,8 @@
 -- What arrives puts gifts under new words alone, each once, and tells of their provider: of a view the old host of the name, and else the vat itself.
 use Rattle.std.proofs.Common.{◌≡◌, ℕ, zero, Bool, true, false, List, [], ◌∷◌, ◌++◌, Option, Some, None, refl, sym, arith, length, if◌then◌else◌, codes, ◌==◌, subst, inl, inr}
-use Rattle.def_machine.specs.Values.{Words, Value, Null, Flag, Number, Letter, Text, Prim, Broken, Items, Ref, Name, Naming, IsGift, naming, name_of, key, word_of, under}
-use Rattle.def_machine.specs.State.{Standing, Unsettled, WaitsOn, Viewed, Settled, Known, Passed, Passeds, Plain, AGift, Many, NoMore, More, Delivery, Note, Deliver, Open, Ask, SettledTo, Elsewhere, Shorten, Put, GiftEntry, Vat, Gives, Act, ◌>>=◌, ◌>>◌, and_then, give, look, come, new_gift, alter, tell, draw, draws, drawn_at, send_out, is_in, begun}
-use Rattle.def_machine.specs.Refs.{Place, Near, Mine, Away, Gone, host_at, settle}
+use Rattle.def_machine.specs.Values.{Words, Value, Broken, Ref, Name, Naming, IsGift, naming, name_of, key, word_of, under}
+use Rattle.def_machine.specs.State.{Standing, Viewed, Settled, Known, Passed, Passeds, Plain, AGift, Many, NoMore, More, Delivery, Note, Deliver, Open, Ask, SettledTo, Elsewhere, Shorten, Put, GiftEntry, Vat, Gives, Act, ◌>>=◌, ◌>>◌, and_then, give, look, come, new_gift, alter, tell, draw, draws, drawn_at, send_out, is_in, begun}
+use Rattle.def_machine.specs.Refs.{Place, Away, host_at, settle}
 use Rattle.def_machine.specs.Arrive as arrive
 use Rattle.def_machine.specs.Arrive.{Incoming, Old, New}
 use Rattle.def_run.specs.World as world

@@ -1,10 +1,10 @@
 -- What arrives makes no list lead back to itself.
 use Rattle.std.proofs.Common.{◌≡◌, ℕ, Bool, true, false, List, [], ◌∷◌, ◌++◌, Option, Some, None, refl, sym, ap, subst, ◌∙◌, ◌⊎◌, inl, inr, length, ◌==◌, if◌then◌else◌}
 use Rattle.std.proofs.lemmas.Bool.{eqb-true}
-use Rattle.def_machine.specs.Values.{Words, Value, Null, Flag, Number, Letter, Text, Prim, Broken, Items, Ref, Name, Root, Object, Promise, Answer, Gift, Sent, Naming, Spot, Own, Foreign, NoObject, naming, name_of, answer_of, mail_of, host_of, spot_of, IsAnswer, IsGift, IsLearnt, IsCarried}
-use Rattle.def_machine.specs.State.{Standing, Unsettled, WaitsOn, Viewed, Settled, ToTell, Passed, Passeds, Plain, AGift, Many, NoMore, More, Note, Deliver, Open, Ask, SettledTo, Elsewhere, Shorten, GiftEntry, ListCame, Vat, Done, Gives, Throws, Ejects, Stops, Act, ◌>>=◌, ◌>>◌, and_then, give, look, tell, alter, come, mail, new_list, new_gift, open_gift, with_opened, is_gift, send_out, begun, is_in, Delivery}
+use Rattle.def_machine.specs.Values.{Words, Value, Null, Flag, Number, Letter, Text, Prim, Broken, Items, Ref, Name, Object, Gift, Sent, Naming, Spot, Own, Foreign, NoObject, naming, name_of, answer_of, mail_of, host_of, spot_of, IsAnswer, IsGift, IsLearnt, IsCarried}
+use Rattle.def_machine.specs.State.{Standing, Settled, Passed, Passeds, Plain, AGift, Many, NoMore, More, Note, Deliver, Open, Ask, SettledTo, Elsewhere, Shorten, GiftEntry, ListCame, Vat, Done, Gives, Act, ◌>>=◌, ◌>>◌, and_then, give, look, tell, come, mail, new_list, new_gift, open_gift, with_opened, is_gift, send_out, begun, is_in, Delivery}
 use Rattle.def_machine.specs.Refs as refs
-use Rattle.def_machine.specs.Refs.{Place, Near, Mine, Away, Gone, standing_of, host_at, follow, place, spotted, hosted}
+use Rattle.def_machine.specs.Refs.{Place, Mine, Away, standing_of, host_at, follow, place, spotted, hosted}
 use Rattle.def_machine.specs.Arrive as arrive
 use Rattle.def_machine.specs.Arrive.{Incoming, Old, New, gift_at}
 use Rattle.law_machine.specs.Steps.{does}

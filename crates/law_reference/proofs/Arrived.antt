@@ -1,10 +1,10 @@
 -- What a vat knows it goes on knowing; and where a message arrives, the vat knows its answer there.
 use Rattle.std.proofs.Common.{◌≡◌, ℕ, List, [], ◌∷◌, ◌++◌, refl, sym, ◌∙◌, Some, None, true}
 use Rattle.def_machine.specs.Values.{Words, Value, Ref, Name, Answer, Sent, Msg, Naming, naming, name_of, mail_of, answer_of}
-use Rattle.def_machine.specs.State.{Known, ToTell, Passeds, Vat, Done, Gives, Throws, Ejects, Stops, Act, ◌>>=◌, ◌>>◌, and_then, look, come, mail, alter, begun}
+use Rattle.def_machine.specs.State.{Known, ToTell, Passeds, Vat, Done, Gives, Act, ◌>>=◌, ◌>>◌, and_then, look, come, mail, alter, begun}
 use Rattle.def_machine.specs.Refs as refs
 use Rattle.def_machine.specs.Arrive as arrive
-use Rattle.def_machine.specs.Arrive.{Incoming, Old, New}
+use Rattle.def_machine.specs.Arrive.{Incoming, New}
 use Rattle.law_machine.specs.Steps.{Step, does, After}
 use Rattle.law_machine.proofs.Keeps.{Keeps, IsKept, IsKeptUnder}
 use Rattle.law_machine.proofs.RefsKeeps.{keeps_refs}

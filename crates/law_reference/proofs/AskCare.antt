@@ -4,12 +4,11 @@ use Rattle.std.proofs.lemmas.Bool.{eq-eqb}
 use Rattle.def_machine.specs.Values.{Broken, Ref, Name, Root, Object, Promise, Answer, Gift, Sent, Spot, Own, Foreign, NoObject, Naming, naming, name_of, mail_of, answer_of, spot_of, host_of, IsGift, IsLearnt, under}
 use Rattle.def_machine.specs.State.{Change, See, Views, Note, Ask, Shorten, Put, GiftEntry, Vat, Act, ◌>>=◌, ◌>>◌, and_then, give, look, come, mail, new_gift, alter, send_out, with_change, with_opened, is_gift, is_in, begun}
 use Rattle.def_machine.specs.Refs as refs
-use Rattle.def_machine.specs.Refs.{Place, Mine, Away, host_at}
+use Rattle.def_machine.specs.Refs.{Mine, Away, host_at}
 use Rattle.def_machine.specs.Arrive as arrive
 use Rattle.def_machine.specs.Arrive.{New}
 use Rattle.def_run.specs.World as world
-use Rattle.def_run.specs.World.{is_old}
-use Rattle.law_name.specs.Names.{Bit, Named, Mail, Drew, At, Off, Entered, Owns, Gave, AllOf, IsAmong, IsKnownIn, IsMessageName, NameOk, GiftOk, PutOk, names_in}
+use Rattle.law_name.specs.Names.{Bit, Named, Mail, Entered, Owns, AllOf, IsAmong, IsKnownIn, IsMessageName, NameOk, GiftOk, PutOk, names_in}
 use Rattle.law_name.proofs.Facts.{MayBe, all_map, all_end, note_up, PlaceOk, Fact, Also, IsName, IsMail, IsDraw, IsEntry, IsValue, AreNames, nothing}
 use Rattle.law_name.proofs.Care.{Care, Under, Makes, Sound, Ends, Gets, Fine, widen, still, fine_bind, fine_less, fine_then, fine_more, fine_give, fine_look, fine_tell, fine_out, fine_draw, fine_wait, changes_ok, with_known}
 use Rattle.law_name.proofs.CareRefs.{fine_settle}

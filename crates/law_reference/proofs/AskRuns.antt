@@ -2,14 +2,14 @@
 use Rattle.std.proofs.Common.{◌≡◌, ℕ, true, false, List, [], ◌∷◌, Option, Some, refl, sym, ap, ◌∙◌, ◌⊎◌, inl, inr, subst}
 use Rattle.std.specs.Prelude.{slice_get}
 use Rattle.def_machine.specs.Values.{Name, Root, Gift}
-use Rattle.def_machine.specs.State.{Message, Passed, Passeds, Plain, AGift, Many, NoMore, More, Note, Deliver, Open, Ask, SettledTo, Elsewhere, Shorten, GiftEntry, Vat, Done, Gives, is_in}
-use Rattle.law_machine.specs.Steps.{Step, Opens as Starts, Takes, Receives, Notices, does, After}
+use Rattle.def_machine.specs.State.{Message, Passed, Passeds, Plain, AGift, Many, NoMore, More, Note, Deliver, Open, Ask, SettledTo, GiftEntry, Vat, Done, Gives, is_in}
+use Rattle.law_machine.specs.Steps.{Step, Receives, Notices, does, After}
 use Rattle.law_machine.specs.Laws.{NoticedStays}
 use Rattle.law_machine.proofs.StepLaws.{kept_by_steps, noticed_law, noticed_names}
 use Rattle.def_run.specs.Draws.{draw_word}
 use Rattle.def_run.specs.World as world
-use Rattle.def_run.specs.World.{Script, Program, Opens, Entry, Turn, Carry, CutLink, NoticeLink, Event, Link, World, Run, Goes as Going, Stopped, names, names_of, read_note, readied, put_at, push_all, with_link, with_notes, severed_link, link_at}
-use Rattle.law_name.specs.Names.{Bit, Named, Mail, Drew, At, Off, Entered, Owns, Gave, AllOf, IsAmong, IsMade, PassedOk, PassedsOk, NoteOk, NounOk, NameOk, names_in}
+use Rattle.def_run.specs.World.{Script, Program, Link, World, names, names_of, read_note, readied, put_at, link_at}
+use Rattle.law_name.specs.Names.{Bit, Named, Mail, At, Entered, Owns, AllOf, IsAmong, IsMade, PassedOk, PassedsOk, NoteOk, NounOk, NameOk, names_in}
 use Rattle.law_name.proofs.Facts.{MayBe, note_up}
 use Rattle.law_name.proofs.Among.{get_put}
 use Rattle.law_name.proofs.Run.{Had, Told, low_at, inside_root, knows_low, Stands, given_ok, link_holds}

@@ -1,7 +1,7 @@
 -- What holds of the names that a vat knows and of the notes that it put, and stays where a note passes nothing: so the view of an object of another vat leaves it.
 use Rattle.std.proofs.Common.{ℕ, Bool, true, false, List, [], ◌∷◌, ◌++◌, Option, Some, None, if◌then◌else◌, ◌==◌, ◌≡◌}
-use Rattle.def_machine.specs.Values.{Name, Root, Object, Promise, Answer, Gift, Sent, naming, name_of, IsGift, key, under}
-use Rattle.def_machine.specs.State.{Known, Change, Wait, See, Note, Deliver, Open, Ask, SettledTo, Elsewhere, Shorten, Put, GiftEntry, with_change, begun, Vat, Done, ◌>>=◌, ◌>>◌, and_then, give, look, tell, come, new_gift, send_out, alter, draw, draws}
+use Rattle.def_machine.specs.Values.{Name, Promise, Answer, Gift, naming, name_of, IsGift, key, under}
+use Rattle.def_machine.specs.State.{Known, Change, Wait, See, Note, Deliver, Ask, SettledTo, Shorten, Put, GiftEntry, with_change, begun, Vat, Done, ◌>>=◌, ◌>>◌, and_then, give, look, tell, come, new_gift, send_out, alter, draw, draws}
 use Rattle.def_machine.specs.Refs.{host_at}
 use Rattle.def_machine.specs.Arrive as arrive
 use Rattle.law_reference.proofs.CareMore.{Leaves as LeavesSo}

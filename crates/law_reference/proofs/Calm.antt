@@ -1,7 +1,7 @@
 -- How what a vat does leads from state to state, where each change that makes no wait and no view leads so.
 use Rattle.std.proofs.Common.{◌≡◌, ℕ, Option, Some, None}
 use Rattle.def_machine.specs.Values.{Value, Naming}
-use Rattle.def_machine.specs.State.{Message, Standing, Unsettled, WaitsOn, Viewed, Settled, Known, Vat, Change, Hold, Wait, React, ToTell, Settle, changed, changed_to, alter}
+use Rattle.def_machine.specs.State.{Message, Standing, WaitsOn, Viewed, Known, Vat, Change, Hold, Wait, React, ToTell, Settle, changed, changed_to, alter}
 use Rattle.law_reference.proofs.Entries.{unless_either}
 use Rattle.law_reference.proofs.Gentle.{Gentle, GoesBy, goes}
 

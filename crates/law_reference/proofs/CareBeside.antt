@@ -1,7 +1,7 @@
 -- A care for names, and beside it for what holds of the names known and of the notes put: how each single change ends.
 use Rattle.std.proofs.Common.{◌≡◌, ℕ, true, List, Some}
 use Rattle.std.specs.Prelude.{slice_get}
-use Rattle.def_machine.specs.Values.{Name, Root, Object, Promise, Answer, Gift, Sent, Naming, naming, name_of, mail_of, answer_of}
+use Rattle.def_machine.specs.Values.{Name, Promise, Answer, Gift, Sent, Naming, naming, name_of, mail_of, answer_of}
 use Rattle.def_machine.specs.State.{Known, Change, Hold, Wait, WaitOn, React, ToTell, Settle, Open, Ask, Put, Vat, Act, ◌>>=◌, and_then, look, tell, enqueue, send_out, new_gift, open_gift, mark, alter, come, new_message, new_promise, new_lone_message}
 use Rattle.law_name.specs.Names.{At, IsMessageMade, IsMessageName}
 use Rattle.law_name.proofs.Facts.{Fact, Also, IsMail, IsVat, Holds}

@@ -2,7 +2,7 @@
 -- and each block in which something passes to another vat, as a message that goes out with its new answer.
 use Rattle.std.proofs.Common.{ℕ, ◌<◌, zero, suc, Bool, true, false, List, [], Option, Some, None, if◌then◌else◌, codes, length}
 use Rattle.def_machine.specs.Values.{Words, Value, Broken, Ref, Naming, IsAnswer, IsGift, Null}
-use Rattle.def_machine.specs.State.{Happened, Hold, Wait, WaitOn, React, ToTell, Settle, Sends, Reacts, Unsettled, WaitsOn, Viewed, Open, Ask, GiftEntry, Vat, ◌>>=◌, ◌>>◌, tell, enqueue, alter, come, new_gift, open_gift, mark, new_message, new_promise, send_out, give, look, is_in, Message, Standing, Settled, Known, Act, new_lone_message}
+use Rattle.def_machine.specs.State.{Happened, Hold, Wait, WaitOn, React, ToTell, Settle, Sends, Reacts, Viewed, Open, Ask, GiftEntry, Vat, ◌>>=◌, ◌>>◌, tell, enqueue, alter, come, new_gift, open_gift, mark, new_message, new_promise, send_out, give, look, is_in, Message, Standing, Settled, Known, Act, new_lone_message}
 use Rattle.def_machine.specs.Refs as refs
 use Rattle.def_machine.specs.Refs.{Place, Near, Mine, Away, Gone}
 use Rattle.def_machine.specs.Arrive as arrive

@@ -1,5 +1,5 @@
 -- An act that ends in a sound state, and gives what says something of itself.
-use Rattle.def_machine.specs.State.{Vat, Done, Gives, Throws, Ejects, Stops, Act, ◌>>=◌, ◌>>◌, and_then, give}
+use Rattle.def_machine.specs.State.{Vat, Done, Gives, Stops, Act, ◌>>=◌, ◌>>◌, and_then, give}
 use Rattle.law_name.proofs.Facts.{Fact, Also, Holds}
 use Rattle.law_name.proofs.Care.{Care, Sound, Ends, Gets, Fine, widen, rise, fine_give}
 

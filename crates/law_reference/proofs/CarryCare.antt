@@ -2,8 +2,8 @@
 use Rattle.std.proofs.Common.{◌≡◌, ℕ, Bool, true, false, List, [], ◌∷◌, Option, Some, None, refl, sym, ap, subst, ◌∙◌, ◌⊎◌, inl, inr, if◌then◌else◌, ◌==◌}
 use Rattle.std.specs.Prelude.{slice_get, is_some}
 use Rattle.std.proofs.lemmas.Bool.{eqb-true}
-use Rattle.def_machine.specs.Values.{Value, Null, Flag, Number, Letter, Text, Prim, Broken, Items, Ref, Name, Root, Object, Promise, Answer, Gift, Sent, host_of, same_reference, Naming, naming, name_of, answer_of, spot_of, Own as OwnThing, Foreign, IsAnswer}
-use Rattle.def_machine.specs.State.{Message, Known, Passed, Passeds, Plain, AGift, Many, NoMore, More, Note, Deliver, Open, Ask, SettledTo, Elsewhere, Shorten, Put, Happened, Vat, Act, ◌>>=◌, ◌>>◌, and_then, for_some, give, look, tell, send_out, draws, draw, come, new_message, Posted}
+use Rattle.def_machine.specs.Values.{Value, Ref, Name, Root, Object, Promise, Answer, Gift, Sent, host_of, same_reference, Naming, naming, name_of, answer_of, spot_of, Own as OwnThing, Foreign, IsAnswer}
+use Rattle.def_machine.specs.State.{Message, Known, Passed, Passeds, Plain, AGift, Many, NoMore, More, Note, Deliver, Open, SettledTo, Elsewhere, Put, Happened, Vat, Act, ◌>>=◌, ◌>>◌, and_then, for_some, give, look, tell, send_out, draws, draw, come, new_message, Posted}
 use Rattle.def_machine.specs.Refs as refs
 use Rattle.def_machine.specs.Refs.{Place, Near, Mine, Away, Gone, entry_of, host_at, host_in, place, spotted, hosted}
 use Rattle.law_name.specs.Names.{Named, At, AllOf, IsAmong, IsEventual, ValueOk, HostIsTrue, names_in}

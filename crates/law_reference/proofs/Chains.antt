@@ -5,7 +5,7 @@ use Rattle.std.specs.List.{AllByRecursion, IsDistinct, list_any}
 use Rattle.std.proofs.lemmas.Bool.{eqb-true}
 use Rattle.std.proofs.lemmas.Map.Steps.{length-le_from_distinct_below}
 use Rattle.def_machine.specs.Values.{Name, Naming}
-use Rattle.def_machine.specs.State.{Standing, Unsettled, WaitsOn, Viewed, Settled, Known}
+use Rattle.def_machine.specs.State.{Standing, WaitsOn, Viewed, Known}
 use Rattle.def_machine.specs.Refs.{entry_of, standing_of, standing_in, waits_lead, led_by_wait}
 use Rattle.law_reference.specs.Views.{index_at}
 use Rattle.law_reference.proofs.Entries.{index_less}

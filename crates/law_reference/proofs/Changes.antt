@@ -1,9 +1,9 @@
 -- The changes of what is known that are kept, and what each leaves.
 use Rattle.std.proofs.Common.{◌≡◌, ℕ, suc, Bool, true, false, List, [], ◌∷◌, ◌++◌, Option, Some, None, refl, sym, ap, subst, ◌∙◌, ◌⊎◌, inl, inr, length}
-use Rattle.def_machine.specs.Values.{Words, Value, Null, Flag, Number, Letter, Text, Prim, Broken, Items, Ref, Name, Root, Object, Promise, Answer, Gift, Sent, Naming, Spot, Own, Foreign, NoObject, naming, host_of, spot_of, answer_of, word_of}
+use Rattle.def_machine.specs.Values.{Words, Value, Broken, Items, Ref, Name, Object, Sent, Naming, Spot, Own, Foreign, NoObject, naming, host_of, spot_of, answer_of, word_of}
 use Rattle.def_machine.specs.State.{Message, Note, Put, GiftEntry, Standing, Unsettled, WaitsOn, Viewed, Settled, Known, Change, Hold, Wait, WaitOn, React, ToTell, Settle, Waits, Vat, ◌>>◌, and_then, tell, alter, enqueue, send_out, with_change, changed, changed_to, begun, is_in}
 use Rattle.def_machine.specs.Refs as refs
-use Rattle.def_machine.specs.Refs.{entry_of, standing_of, standing_in, host_at, host_in, follow_at, follow, severed, severed_at, severed_by, cut_cycle, target_of}
+use Rattle.def_machine.specs.Refs.{entry_of, standing_of, standing_in, host_at, host_in, follow, severed, severed_at, severed_by, cut_cycle, target_of}
 use Rattle.law_machine.specs.Breaks.{still_waits}
 use Rattle.law_name.proofs.Among.{among_more}
 use Rattle.law_name.specs.Names.{AllOf, IsAmong, IsMessageName, IsEventual}

@@ -2,8 +2,8 @@
 use Rattle.std.proofs.Common.{◌≡◌, ℕ, suc, ◌+◌, ◌≤◌, Bool, true, false, List, [], ◌∷◌, ◌++◌, Option, Some, None, zero, refl, sym, ap, arith, eqb-true, leb-true, ◌∙◌}
 use Rattle.std.specs.Prelude.{nat_le, ◌==◌, ◌&&◌}
 use Rattle.std.proofs.lemmas.Bool.{le-leb}
-use Rattle.def_machine.specs.Values.{Value, Name, Root, Object, Promise, Answer, Gift, Sent, Naming, same_name, word_of}
-use Rattle.def_machine.specs.State.{Message, Standing, Unsettled, WaitsOn, Viewed, Settled, Known, Change, Hold, Wait, WaitOn, See, React, ToTell, Settle, begun, changed, changed_to, unless_settled, with_change, is_in, drawn_at}
+use Rattle.def_machine.specs.Values.{Value, Name, Promise, Answer, Gift, Naming, same_name, word_of}
+use Rattle.def_machine.specs.State.{Message, Standing, Settled, Known, Change, Hold, Settle, begun, changed, changed_to, unless_settled, with_change, is_in, drawn_at}
 use Rattle.def_machine.specs.Refs.{entry_of}
 use Rattle.law_name.proofs.Among.{drawn_last, key_not_drawn}
 use Rattle.law_reference.proofs.Puts.{stay_end, in_among, among_in}

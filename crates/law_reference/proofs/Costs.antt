@@ -1,5 +1,5 @@
 -- What single changes, and one thing after another, add to the claims on a name.
-use Rattle.std.proofs.Common.{◌≡◌, ℕ, suc, ◌+◌, ◌≤◌, [], ◌∷◌, ◌++◌, Option, Some, None, zero, refl, arith, length}
+use Rattle.std.proofs.Common.{◌≡◌, ℕ, suc, ◌+◌, ◌≤◌, [], ◌∷◌, ◌++◌, Option, Some, None, zero, refl, arith}
 use Rattle.def_machine.specs.Values.{Name, Coming, Mailing, Gift, Promise, Naming, naming, name_of, key, word_of}
 use Rattle.def_machine.specs.State.{Message, Change, Hold, Wait, WaitOn, See, React, ToTell, Note, Happened, Vat, Done, Gives, Throws, Ejects, Stops, Act, ◌>>=◌, ◌>>◌, and_then, tell, enqueue, send_out, new_gift, open_gift, mark, draws, drawn_at, draw, with_change, alter, come, mail, begun}
 use Rattle.law_machine.specs.Steps.{After}

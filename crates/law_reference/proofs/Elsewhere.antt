@@ -1,7 +1,7 @@
 -- The news that a name settled elsewhere makes no list lead back to itself: its view just came to be known, under the next draw.
-use Rattle.std.proofs.Common.{◌≡◌, ℕ, zero, suc, ◌≤◌, Bool, true, false, List, [], ◌∷◌, ◌++◌, Option, Some, None, refl, sym, ap, subst, ◌∙◌, ◌⊎◌, inl, inr, length, if◌then◌else◌, codes, ◌==◌, arith}
+use Rattle.std.proofs.Common.{◌≡◌, ℕ, zero, Bool, true, false, List, [], ◌∷◌, ◌++◌, Option, Some, None, refl, sym, ap, subst, ◌∙◌, ◌⊎◌, inl, inr, length, if◌then◌else◌, codes, ◌==◌}
 use Rattle.def_machine.specs.Values.{Value, Broken, Name, Gift, Naming, naming, name_of, host_of, IsGift, IsLearnt, key, word_of, under}
-use Rattle.def_machine.specs.State.{Unsettled, Settled, Known, Plain, AGift, Many, Note, Deliver, Open, Ask, SettledTo, Elsewhere, Shorten, Put, GiftEntry, Vat, Done, Gives, Throws, Ejects, Stops, ◌>>=◌, ◌>>◌, and_then, give, look, tell, alter, come, draw, draws, drawn_at, send_out, new_gift, begun, is_in}
+use Rattle.def_machine.specs.State.{Unsettled, Settled, Known, Many, Note, Open, Ask, SettledTo, Shorten, Put, GiftEntry, Vat, Done, Gives, Throws, Ejects, Stops, ◌>>=◌, ◌>>◌, and_then, give, look, tell, alter, come, draw, draws, drawn_at, send_out, new_gift, begun, is_in}
 use Rattle.def_machine.specs.Refs as refs
 use Rattle.def_machine.specs.Refs.{entry_of, standing_of, host_at}
 use Rattle.def_machine.specs.Arrive as arrive

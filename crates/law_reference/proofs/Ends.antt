@@ -1,6 +1,6 @@
 -- Where each view is known later than what it views, following ends at what waits.
 use Rattle.std.proofs.Common.{◌≡◌, ℕ, zero, suc, ◌+◌, ◌<◌, ◌≤◌, true, List, Some, None, refl, sym, ◌∙◌, length, arith}
-use Rattle.def_machine.specs.Values.{Value, Null, Flag, Number, Letter, Text, Prim, Broken, Items, Ref, Naming}
+use Rattle.def_machine.specs.Values.{Value, Ref, Naming}
 use Rattle.def_machine.specs.State.{Standing, Unsettled, WaitsOn, Viewed, Settled, Known}
 use Rattle.def_machine.specs.Refs.{entry_of, standing_of, standing_in, follow_at, led}
 use Rattle.law_machine.specs.Breaks.{still_waits, IsPending}

@@ -1,7 +1,7 @@
 -- What a change of what is known makes of the entries of names.
 use Rattle.std.proofs.Common.{◌≡◌, ℕ, zero, suc, ◌<◌, ◌≤◌, Bool, true, false, List, [], ◌∷◌, ◌++◌, Option, Some, None, refl, ap, ◌∙◌, ◌⊎◌, inl, inr, length, arith}
 use Rattle.def_machine.specs.Values.{Value, Naming}
-use Rattle.def_machine.specs.State.{Message, Standing, Unsettled, WaitsOn, Viewed, Settled, Known, Change, Hold, Wait, WaitOn, React, ToTell, with_change, changed, changed_to, unless_settled}
+use Rattle.def_machine.specs.State.{Message, Standing, WaitsOn, Viewed, Settled, Known, Change, Hold, Wait, WaitOn, React, ToTell, with_change, changed, changed_to, unless_settled}
 use Rattle.def_machine.specs.Refs.{entry_of}
 use Rattle.law_machine.proofs.StepLaws.{changed_head}
 use Rattle.law_name.specs.Names.{IsAmong}

@@ -1,7 +1,7 @@
 -- Following looks far enough: on its way to a list it meets each name once. So names that come to be known close no ring of lists.
 use Rattle.std.proofs.Common.{◌≡◌, ℕ, zero, suc, ◌≤◌, Bool, true, false, List, [], ◌∷◌, ◌++◌, Option, Some, None, refl, sym, ap, subst, ◌∙◌, length, arith, map}
 use Rattle.def_machine.specs.Values.{Value, Null, Flag, Number, Letter, Text, Prim, Broken, Items, Ref, Name, Naming}
-use Rattle.def_machine.specs.State.{Standing, Unsettled, WaitsOn, Viewed, Settled, Known, Vat, begun}
+use Rattle.def_machine.specs.State.{Standing, Unsettled, Viewed, Settled, Known, Vat, begun}
 use Rattle.def_machine.specs.Native.{list_at}
 use Rattle.def_machine.specs.Refs.{entry_of, standing_of, standing_in, led, follow_at, follow, severed}
 use Rattle.law_reference.proofs.Calm.{next}

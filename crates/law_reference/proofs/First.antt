@@ -1,14 +1,14 @@
 -- An answer that comes to be known in a step as that of a message at another vat stands behind the note of that message: a care for names, and for the notes put.
 use Rattle.std.proofs.Common.{◌≡◌, ℕ, suc, Bool, true, false, List, [], ◌∷◌, ◌++◌, Option, Some, None, refl, sym, ap, ◌∙◌, ◌⊎◌, inl, inr, is_some}
 use Rattle.std.specs.Prelude.{slice_get}
-use Rattle.def_machine.specs.Values.{Words, Value, Ref, Name, Root, Object, Promise, Answer, Gift, Sent, Msg, Naming, naming, name_of, mail_of, answer_of, IsAnswer, Null}
+use Rattle.def_machine.specs.Values.{Words, Value, Ref, Name, Promise, Answer, Gift, Sent, Msg, Naming, naming, name_of, mail_of, answer_of, IsAnswer, Null}
 use Rattle.def_machine.specs.State.{Message, Known, Note, Wait, WaitOn, Passeds, Deliver, Put, Sends, Posted, Vat, Done, Gives, Throws, Ejects, Stops, Act, ◌>>=◌, ◌>>◌, and_then, give, tell, send_out, alter, with_change, come, new_message, begun, for_some, new_lone_message}
 use Rattle.def_machine.specs.Refs as refs
 use Rattle.def_run.specs.World.{has_name}
 use Rattle.law_machine.specs.Steps.{After}
 use Rattle.law_machine.proofs.Keeps.{Keeps, IsKept, IsKeptUnder}
 use Rattle.law_machine.proofs.RefsKeeps.{keeps_refs, keeps_pass_on, keeps_inform_of}
-use Rattle.law_name.specs.Names.{Bit, Named, Mail, Drew, At, Off, Entered, Owns, Gave, AllOf, IsAmong, IsMessageName, ValuesOk, MessageOk, KnownOk, NoteOk, PassedsOk, names_in}
+use Rattle.law_name.specs.Names.{Bit, Named, At, AllOf, IsAmong, IsMessageName, ValuesOk, MessageOk, KnownOk, NoteOk, PassedsOk, names_in}
 use Rattle.law_name.proofs.Facts.{all_map, all_end, all_append, value_up, values_up, known_up, note_up, Fact, IsName, IsOff, IsMessage, Holds, nothing}
 use Rattle.law_name.proofs.Care.{Care, Under, Sound, Gets, Fine, got_vat, fine_tell, fine_new_message, fine_lone_message}
 use Rattle.law_name.proofs.CareRefs.{fine_pass_on, fine_inform_of, fine_deliver}

@@ -5,7 +5,7 @@ use Rattle.std.proofs.lemmas.Bool.{eqb-true, eq-eqb}
 use Rattle.def_machine.specs.Values.{Name, Root, Object, Promise, Answer, Gift, Sent, Msg}
 use Rattle.def_machine.specs.State.{Note, Put, Vat}
 use Rattle.def_run.specs.World.{Link, put_at, push_all, pushed}
-use Rattle.law_name.specs.Names.{Bit, Named, Mail, Drew, At, Off, Entered, Owns, Gave, AllOf, IsAmong, IsKnownIn, NoteOk, names_in}
+use Rattle.law_name.specs.Names.{Bit, Named, AllOf, IsAmong, IsKnownIn, NoteOk, names_in}
 use Rattle.law_name.proofs.Facts.{all_map, note_up}
 use Rattle.law_name.proofs.Among.{get_put}
 use Rattle.law_reference.specs.Behind.{IsKnownTo as KnowsIn}

@@ -2,13 +2,13 @@
 use Rattle.std.proofs.Common.{◌≡◌, ℕ, Bool, zero, suc, List, [], ◌∷◌, ◌++◌, Option, Some, None, refl, sym, ap, ◌∙◌, ◌⊎◌, inl, inr, map, true, subst}
 use Rattle.std.specs.Prelude.{slice_get}
 use Rattle.def_machine.specs.Values.{Name, Root, Answer, Sent, Msg}
-use Rattle.def_machine.specs.State.{Passeds, Note, Deliver, Open, Ask, SettledTo, Elsewhere, Shorten, Put, Vat, begun, Done, Gives, Delivery}
+use Rattle.def_machine.specs.State.{Passeds, Note, Deliver, Put, Vat, begun, Done, Gives, Delivery}
 use Rattle.def_machine.specs.Arrive as arrive
 use Rattle.law_machine.specs.Steps.{Step, Receives, does, After}
 use Rattle.def_run.specs.Draws.{draw_word}
 use Rattle.def_run.specs.World as world
-use Rattle.def_run.specs.World.{Script, Program, Link, World, Entry, Goes as Going, names, names_of, read_note, readied, put_at, push_all, with_link, with_notes, severed_link, link_at}
-use Rattle.law_name.specs.Names.{Bit, Named, Mail, Drew, At, Off, Entered, Owns, Gave, AllOf, IsAmong, NoteOk, names_in}
+use Rattle.def_run.specs.World.{Script, Program, Link, World, Entry, Goes as Going, names, names_of, read_note, readied, put_at, with_link, with_notes, severed_link, link_at}
+use Rattle.law_name.specs.Names.{Bit, Named, At, AllOf, IsAmong, NoteOk, names_in}
 use Rattle.law_name.specs.Runs.{KnowsOnce}
 use Rattle.law_name.proofs.Facts.{MayBe, all_map, note_up}
 use Rattle.law_name.proofs.Run.{Had, Stands}

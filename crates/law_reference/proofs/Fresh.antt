@@ -3,7 +3,7 @@ use Rattle.std.proofs.Common.{◌≡◌, ℕ, zero, suc, ◌≤◌, ◌<◌, Boo
 use Rattle.std.specs.Prelude.{slice_get, nat_le, ◌==◌}
 use Rattle.std.proofs.lemmas.Bool.{eqb-true, eq-eqb, le-leb}
 use Rattle.def_machine.specs.Values.{Words, Value, Broken, Name, Answer, Promise, Sent, Msg, Naming, naming, name_of, mail_of, answer_of, host_of, same_name}
-use Rattle.def_machine.specs.State.{Message, Sends, Reacts, Happened, Vat, Done, Gives, Throws, Ejects, Stops, ◌>>=◌, ◌>>◌, and_then, give, look, tell, enqueue, alter, new_message, new_promise, begun, Known, new_lone_message}
+use Rattle.def_machine.specs.State.{Message, Sends, Reacts, Happened, Vat, Done, Gives, Stops, ◌>>=◌, ◌>>◌, and_then, give, look, tell, enqueue, alter, new_message, new_promise, begun, Known, new_lone_message}
 use Rattle.def_machine.specs.Refs as refs
 use Rattle.def_machine.specs.Refs.{Place, Near, Mine, Away, Gone}
 use Rattle.law_machine.specs.Steps.{After}

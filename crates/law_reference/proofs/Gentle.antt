@@ -2,7 +2,7 @@
 use Rattle.std.proofs.Common.{ℕ, suc, ◌-◌, Bool, true, false, List, [], ◌∷◌, ◌++◌, Option, Some, None, if◌then◌else◌, length}
 use Rattle.std.specs.Prelude.{nat_le}
 use Rattle.def_machine.specs.Values.{Value, Naming, Coming, Mailing, IsOwn, IsAnswer}
-use Rattle.def_machine.specs.State.{Sends, Reacts, Message, Happened, Vat, Stop, Done, Gives, Throws, Ejects, Stops, Act, ◌>>=◌, ◌>>◌, and_then, each, for_some, give, stop, look, tell, spend, spent, new_list, enqueue, Change, Hold, Wait, WaitOn, See, React, ToTell, Settle, Note, Put, GiftEntry, send_out, new_gift, with_opened, open_gift, draws, with_change, alter, come, mail, new_promise, new_message, draw, begun, new_lone_message}
+use Rattle.def_machine.specs.State.{Sends, Reacts, Message, Happened, Vat, Stop, Done, Gives, Stops, Act, ◌>>=◌, ◌>>◌, and_then, each, for_some, give, stop, look, tell, spend, spent, new_list, enqueue, Change, Hold, Wait, WaitOn, React, ToTell, Note, Put, GiftEntry, send_out, new_gift, with_opened, open_gift, draws, with_change, alter, come, mail, new_promise, new_message, draw, begun, new_lone_message}
 use Rattle.law_machine.specs.Steps.{IsQuiet, After}
 use Rattle.law_machine.proofs.Walks.{Property, Holds, IsClosed, IsMild, InRefs, InRefsUnder, InSending}
 use Rattle.law_machine.proofs.Quiet.{Quiet}

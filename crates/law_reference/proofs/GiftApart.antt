@@ -6,7 +6,7 @@ use Rattle.def_machine.specs.Values.{Name, Root, Object, Promise, Answer, Gift, 
 use Rattle.def_machine.specs.State.{Known, Note, Vat, is_in}
 use Rattle.law_reference.proofs.Puts.{among_in}
 use Rattle.def_run.specs.World as world
-use Rattle.def_run.specs.World.{Script, Entry, Turn, Carry, CutLink, NoticeLink, World, Run, Goes as Going, Stopped, read_note, names_of}
+use Rattle.def_run.specs.World.{Script, Entry, Carry, World, Run, Goes as Going, Stopped, read_note, names_of}
 use Rattle.law_fate.specs.Lasting.{Each, KnownWell}
 use Rattle.law_fate.specs.Wellness.{WorldWell}
 use Rattle.law_fate.proofs.RunWell.{runs_stay_well}

@@ -1,7 +1,7 @@
 -- Who learns a gift asks its host for it, at once.
 use Rattle.std.proofs.Common.{◌≡◌, ℕ, Bool, true, false, List, [], ◌∷◌, ◌++◌, Option, Some, None, refl, inl, inr, if◌then◌else◌, codes, ◌==◌}
 use Rattle.def_machine.specs.Values.{Words, Value, Ref, Broken, Name, Naming, IsGift, IsAnswer}
-use Rattle.def_machine.specs.State.{Passed, Passeds, Plain, AGift, Many, NoMore, More, Note, Deliver, Open, Ask, SettledTo, Elsewhere, Shorten, Put, Vat, Done, Gives, Throws, Ejects, Stops, Act, ◌>>=◌, ◌>>◌, and_then, give, look, come, ToTell, send_out, is_in}
+use Rattle.def_machine.specs.State.{Passed, Passeds, Plain, AGift, Many, NoMore, More, Note, Deliver, Ask, SettledTo, Put, Vat, Done, Gives, Act, ◌>>=◌, ◌>>◌, and_then, give, look, come, ToTell, send_out, is_in}
 use Rattle.def_machine.specs.Refs as refs
 use Rattle.def_machine.specs.Arrive as arrive
 use Rattle.def_machine.specs.Arrive.{Incoming}

@@ -1,7 +1,7 @@
 -- A vat that has no gift of a draw in hand, and knows none but its own, goes on so: a care for names, and what arrives.
 use Rattle.std.proofs.Common.{◌≡◌, ℕ, zero, Bool, true, false, List, [], ◌∷◌, ◌++◌, Option, Some, None, if◌then◌else◌, codes, refl, sym, ap, ◌∙◌, ◌⊎◌, inl, inr, ◌==◌, arith}
-use Rattle.def_machine.specs.Values.{Broken, Ref, Name, Root, Object, Promise, Answer, Gift, Sent, Spot, Own, Foreign, NoObject, Naming, naming, name_of, mail_of, answer_of, spot_of, host_of, IsLearnt, key, word_of, under}
-use Rattle.def_machine.specs.State.{Known, See, Views, Note, Deliver, Open, Ask, SettledTo, Elsewhere, Shorten, Put, Vat, Done, Gives, Throws, Ejects, Stops, Act, ◌>>=◌, and_then, give, look, come, mail, draw, draws, drawn_at, alter, is_in, begun}
+use Rattle.def_machine.specs.Values.{Broken, Ref, Name, Gift, Sent, Spot, Own, Foreign, NoObject, Naming, naming, name_of, mail_of, answer_of, spot_of, host_of, IsLearnt, key, word_of, under}
+use Rattle.def_machine.specs.State.{Known, See, Views, Note, Deliver, SettledTo, Elsewhere, Shorten, Put, Vat, Done, Gives, Act, ◌>>=◌, and_then, give, look, come, mail, draw, draws, drawn_at, alter, is_in, begun}
 use Rattle.def_machine.specs.Refs as refs
 use Rattle.def_machine.specs.Refs.{Mine, Away, host_at}
 use Rattle.def_machine.specs.Arrive as arrive

@@ -2,7 +2,7 @@
 use Rattle.std.proofs.Common.{◌≡◌, ℕ, zero, ◌+◌, ◌≤◌, Bool, true, false, List, [], ◌∷◌, Option, Some, refl, sym, ◌∙◌, ◌⊎◌, inl, inr, subst, ◌==◌, arith}
 use Rattle.std.specs.Prelude.{slice_get}
 use Rattle.std.proofs.lemmas.Bool.{eq-eqb}
-use Rattle.def_machine.specs.Values.{Name, Root, Object, Promise, Answer, Gift, Sent, naming, word_of}
+use Rattle.def_machine.specs.Values.{Name, Root, Gift, naming, word_of}
 use Rattle.def_machine.specs.State.{Message, Passed, Passeds, Plain, AGift, Many, NoMore, More, Note, Deliver, Open, Ask, SettledTo, Elsewhere, Shorten, Put, Vat, Done, Gives, is_in}
 use Rattle.def_machine.specs.Scopes.{any_guard}
 use Rattle.def_machine.specs.Arrive.{arrive}
@@ -11,7 +11,7 @@ use Rattle.def_run.specs.Draws.{draw_word}
 use Rattle.def_run.specs.World as world
 use Rattle.def_run.specs.World.{Script, Program, Link, World, names, names_of, read_note, readied, put_at, push_all, with_link, with_notes, severed_link, link_at}
 use Rattle.law_fate.specs.Fate.{once}
-use Rattle.law_name.specs.Names.{Bit, Named, Mail, Drew, At, Off, Entered, Owns, Gave, AllOf, WasDrawn, IsMade, WasMade, NounOk, PassedOk, PassedsOk, NoteOk, Everywhere}
+use Rattle.law_name.specs.Names.{Bit, Named, Mail, Entered, Owns, Gave, AllOf, WasDrawn, IsMade, WasMade, NounOk, PassedOk, PassedsOk, NoteOk, Everywhere}
 use Rattle.law_name.proofs.Facts.{all_map, note_up, Nothing, nothing}
 use Rattle.law_name.proofs.Care.{Fine, parts_up}
 use Rattle.law_name.proofs.Run.{Had, Told, Stands}

@@ -1,7 +1,7 @@
 -- After a step of a vat, what waits has a host that the vat did not notice.
 use Rattle.std.proofs.Common.{◌≡◌, ℕ, Bool, true, false, List, [], ◌∷◌, ◌++◌, Option, Some, None, refl, sym, ap, ◌∙◌, ◌⊎◌, inl, inr, subst, if◌then◌else◌}
-use Rattle.def_machine.specs.Values.{Value, Null, Flag, Number, Letter, Text, Prim, Broken, Items, Ref, Name, host_of, Naming, naming}
-use Rattle.def_machine.specs.State.{Known, Passed, Passeds, Plain, AGift, Many, NoMore, More, Note, Deliver, Open, Ask, SettledTo, Elsewhere, Shorten, Vat, Done, Gives, Throws, Ejects, Stops, ◌>>=◌, ◌>>◌, and_then, give, look, mark, is_in}
+use Rattle.def_machine.specs.Values.{Value, Broken, Ref, Name, host_of, Naming, naming}
+use Rattle.def_machine.specs.State.{Known, Passed, Passeds, Plain, AGift, Many, NoMore, More, Note, Deliver, Ask, SettledTo, Shorten, Vat, Done, Gives, ◌>>=◌, ◌>>◌, and_then, give, look, mark, is_in}
 use Rattle.def_machine.specs.Refs.{entry_of, standing_of, standing_in, host_at, host_in}
 use Rattle.def_machine.specs.Arrive as arrive
 use Rattle.law_machine.specs.Breaks.{still_waits, IsBroken, HostedBreak}

@@ -1,7 +1,7 @@
 -- What is kept of a vat while it settles names, makes lists and puts notes, so that no list leads back to itself.
 use Rattle.std.proofs.Common.{◌≡◌, ℕ, suc, Bool, true, false, List, [], ◌∷◌, ◌++◌, Option, Some, None, refl, sym, ap, subst, ◌∙◌, ◌⊎◌, inl, inr, length, codes}
-use Rattle.def_machine.specs.Values.{Value, Null, Flag, Number, Letter, Text, Prim, Broken, Items, Ref, Name, Naming, Spot, Own, Foreign, NoObject, naming}
-use Rattle.def_machine.specs.State.{Plain, AGift, Many, Note, Deliver, Open, Ask, SettledTo, Elsewhere, Shorten, Put, Standing, Unsettled, WaitsOn, Viewed, Settled, Known, Change, Hold, Wait, WaitOn, See, React, ToTell, Settle, Vat, with_change, changed, changed_to, unless_settled, begun, is_in}
+use Rattle.def_machine.specs.Values.{Value, Broken, Items, Ref, Name, Naming, Spot, Own, Foreign, NoObject, naming}
+use Rattle.def_machine.specs.State.{Many, Note, Open, SettledTo, Elsewhere, Put, Standing, Viewed, Settled, Known, Change, Hold, React, Settle, Vat, with_change, changed, changed_to, unless_settled, begun, is_in}
 use Rattle.def_machine.specs.Refs.{entry_of, standing_of, host_at, follow_at, follow, severed, severed_at, severed_by}
 use Rattle.law_machine.specs.Breaks.{still_waits}
 use Rattle.law_machine.proofs.StepLaws.{changed_head}

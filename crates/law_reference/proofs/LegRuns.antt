@@ -2,8 +2,8 @@
 use Rattle.std.proofs.Common.{◌≡◌, ℕ, zero, suc, ◌+◌, ◌≤◌, Bool, true, false, List, [], ◌∷◌, ◌++◌, Option, Some, None, refl, sym, ap, ◌∙◌, ◌⊎◌, inl, inr, arith}
 use Rattle.std.specs.Prelude.{slice_get}
 use Rattle.def_machine.specs.Values.{Name, Answer, Sent, Msg}
-use Rattle.def_machine.specs.State.{Note, Deliver, Open, Ask, SettledTo, Elsewhere, Shorten, Put, Vat, GiftEntry}
-use Rattle.law_machine.specs.Steps.{Step, Opens as Starts, Takes, Receives, Notices}
+use Rattle.def_machine.specs.State.{Note, Deliver, Put, Vat, GiftEntry}
+use Rattle.law_machine.specs.Steps.{Step, Receives}
 use Rattle.def_run.specs.World.{Script, Link, World, read_note, put_at, pushed, push_all, with_link, with_notes, severed_link, link_at, is_link}
 use Rattle.law_fate.specs.Fate.{total, in_note, of_note, on_link, sent_in}
 use Rattle.law_fate.specs.FateLaws.{brought as fate_brought}
@@ -13,7 +13,7 @@ use Rattle.law_fate.specs.Carry.{weight, link_weight}
 use Rattle.law_fate.specs.Sound.{StepArrives}
 use Rattle.law_fate.specs.CarryLaws.{leaves}
 use Rattle.law_reference.specs.Knowing.{brings, brought, new_answer}
-use Rattle.law_name.specs.Names.{Bit, Named, Mail, Drew, At, Off, Entered, Owns, Gave, AllOf, IsAmong, IsMessageName, NoteOk, names_in}
+use Rattle.law_name.specs.Names.{Bit, Named, Mail, Drew, AllOf, IsAmong, IsMessageName, NoteOk, names_in}
 use Rattle.law_name.proofs.Facts.{MayBe, note_up}
 use Rattle.law_name.proofs.Among.{get_put}
 use Rattle.law_name.proofs.Run.{Stands, Told}

@@ -2,7 +2,7 @@
 use Rattle.std.proofs.Common.{◌≡◌, ℕ, zero, suc, ◌+◌, ◌≤◌, List, [], ◌∷◌, Option, Some, None, refl, sym, ◌∙◌, ◌⊎◌, inl, inr, arith, subst}
 use Rattle.std.specs.Prelude.{slice_get}
 use Rattle.def_machine.specs.Values.{Name, Answer, Sent, Msg}
-use Rattle.def_machine.specs.State.{Known, Note, Deliver, Open, Ask, SettledTo, Elsewhere, Shorten, Put, Vat}
+use Rattle.def_machine.specs.State.{Known, Note, Deliver, Put, Vat}
 use Rattle.def_run.specs.World.{Link, link_at, put_at, push_all}
 use Rattle.law_fate.specs.Fate.{total, one as same_one, once as same_once, at_vat, in_note, of_note, on_link}
 use Rattle.law_fate.specs.Carry.{held_at, put_weight, load, link_weight}

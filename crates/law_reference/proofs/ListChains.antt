@@ -4,7 +4,7 @@ use Rattle.std.specs.Prelude.{◌==◌, ◌||◌}
 use Rattle.std.specs.List.{AllByRecursion, IsDistinct, list_any}
 use Rattle.std.proofs.lemmas.Bool.{eqb-true}
 use Rattle.std.proofs.lemmas.Map.Steps.{length-le_from_distinct_below}
-use Rattle.def_machine.specs.Values.{Value, Null, Flag, Number, Letter, Text, Prim, Broken, Items, Ref, Name, Naming, naming}
+use Rattle.def_machine.specs.Values.{Value, Items, Ref, Name, Naming, naming}
 use Rattle.def_machine.specs.State.{Vat}
 use Rattle.def_machine.specs.Native.{list_at}
 use Rattle.def_machine.specs.Refs.{any_of, reached, reaches, follow}

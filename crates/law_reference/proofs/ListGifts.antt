@@ -1,9 +1,9 @@
 -- A gift that comes to be known, of a host that was noticed, breaks at once: so what waits has a host that was not noticed, and no ring is closed.
 use Rattle.std.proofs.Common.{◌≡◌, ℕ, suc, Bool, true, false, List, [], ◌∷◌, ◌++◌, Option, Some, None, refl, sym, ap, subst, ◌∙◌, ◌⊎◌, inl, inr, length, if◌then◌else◌, codes}
 use Rattle.def_machine.specs.Values.{Words, Value, Broken, Items, Ref, Name, Naming, naming, name_of, IsGift}
-use Rattle.def_machine.specs.State.{Settle, Settles, Known, Ask, Vat, Done, Gives, Throws, Ejects, Stops, Act, ◌>>=◌, ◌>>◌, and_then, give, look, tell, alter, each, come, send_out, with_change, changed, changed_to, unless_settled, begun, is_in}
+use Rattle.def_machine.specs.State.{Settle, Settles, Known, Ask, Vat, Done, Gives, Act, ◌>>=◌, ◌>>◌, and_then, give, look, tell, alter, each, come, send_out, with_change, changed, changed_to, unless_settled, begun, is_in}
 use Rattle.def_machine.specs.Refs as refs
-use Rattle.def_machine.specs.Refs.{entry_of, standing_of, target_of}
+use Rattle.def_machine.specs.Refs.{entry_of, target_of}
 use Rattle.def_machine.specs.Arrive as arrive
 use Rattle.law_machine.specs.Breaks.{still_waits}
 use Rattle.law_name.specs.Names.{AllOf, IsEventual}

@@ -1,6 +1,6 @@
 -- Where members lead after a change of how one name stands, and that no such change closes a ring of lists.
 use Rattle.std.proofs.Common.{◌≡◌, ℕ, zero, suc, Bool, true, false, List, [], ◌∷◌, Option, Some, None, refl, sym, ap, subst, ◌∙◌, ◌⊎◌, inl, inr, length}
-use Rattle.def_machine.specs.Values.{Value, Null, Flag, Number, Letter, Text, Prim, Broken, Items, Ref, Name, Naming}
+use Rattle.def_machine.specs.Values.{Value, Items, Ref, Name, Naming}
 use Rattle.def_machine.specs.State.{Message, Standing, WaitsOn, Viewed, Settled, Known, Change, Hold, Wait, WaitOn, See, React, ToTell, Settle, Vat, with_change, changed, changed_to}
 use Rattle.def_machine.specs.Native.{list_at}
 use Rattle.def_machine.specs.Refs.{entry_of, standing_of, follow_at, follow, severed, any_of, reached, reaches, cut_cycle, target_of}

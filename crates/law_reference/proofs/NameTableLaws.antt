@@ -2,9 +2,9 @@
 use Rattle.std.proofs.Common.{◌≡◌, ℕ, zero, Bool, true, false, List, [], ◌∷◌, Option, Some, None, refl, sym, ap, ◌∙◌, ◌==◌, ◌&&◌}
 use Rattle.std.specs.Prelude.{slice_get}
 use Rattle.std.proofs.lemmas.Bool.{eqb-true, eq-eqb}
-use Rattle.def_machine.specs.Values.{Name, Root, Object, Promise, Answer, Gift, Sent, host_of, same_name, Foreign, spot_of}
+use Rattle.def_machine.specs.Values.{Name, Object, host_of, same_name, Foreign, spot_of}
 use Rattle.def_run.specs.World as world
-use Rattle.def_run.specs.World.{Script, Program, Entry, Link, World}
+use Rattle.def_run.specs.World.{Link, World}
 use Rattle.law_reference.specs.Logs as wire
 use Rattle.law_name.specs.Names.{AllOf}
 use Rattle.law_name.proofs.SameNames.{false_true}

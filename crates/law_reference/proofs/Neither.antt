@@ -3,10 +3,10 @@ use Rattle.std.proofs.Common.{◌≡◌, ℕ, zero, suc, ◌+◌, ◌≤◌, ◌
 use Rattle.std.specs.Prelude.{slice_get, nat_le}
 use Rattle.std.proofs.lemmas.Bool.{eqb-true, le-leb}
 use Rattle.def_machine.specs.Values.{Name, Root, Object, Promise, Answer, Gift, Sent, Msg, same_name, answer_of, host_of}
-use Rattle.def_machine.specs.State.{Message, Known, Note, Deliver, Open, Ask, SettledTo, Elsewhere, Shorten, Vat}
+use Rattle.def_machine.specs.State.{Message, Known, Note, Deliver, Vat}
 use Rattle.def_machine.specs.Arrive.{Old, New}
 use Rattle.def_run.specs.World as world
-use Rattle.def_run.specs.World.{Script, Link, World, link_at, read_note, read_name, is_old, names_of}
+use Rattle.def_run.specs.World.{Script, Link, World, link_at, read_note, read_name, is_old}
 use Rattle.law_name.specs.Names.{Bit, Named, Mail, Drew, At, Off, Entered, Owns, Gave, AllOf, IsAmong, IsMessageName, IsEventual, IsPlain, PlainOnce, WasMade, KnownOk, MessageOk, NoteOk, promises_of, names_in}
 use Rattle.law_name.proofs.Facts.{MayBe, note_up}
 use Rattle.law_name.proofs.Among.{promises_at}

@@ -1,5 +1,5 @@
 -- A new list of what is there closes no ring.
-use Rattle.std.proofs.Common.{◌≡◌, ℕ, zero, suc, ◌<◌, false, List, [], ◌∷◌, ◌++◌, refl, sym, subst, ◌∙◌, inl, inr, length, arith}
+use Rattle.std.proofs.Common.{◌≡◌, ℕ, zero, suc, ◌<◌, List, [], ◌∷◌, ◌++◌, refl, sym, subst, ◌∙◌, inl, inr, length, arith}
 use Rattle.def_machine.specs.Values.{Value, Items, Name, Naming}
 use Rattle.def_machine.specs.State.{Vat}
 use Rattle.def_machine.specs.Native.{list_at}

@@ -1,7 +1,7 @@
 -- In every world of a run the first note on a link brings each gift once at most and none that is claimed, where its gifts stand apart.
-use Rattle.std.proofs.Common.{◌≡◌, ℕ, zero, suc, ◌+◌, ◌≤◌, Bool, true, false, List, [], ◌∷◌, Option, Some, None, refl, sym, ap, ◌∙◌, inl, inr, subst, arith, length}
+use Rattle.std.proofs.Common.{◌≡◌, ℕ, zero, suc, ◌+◌, ◌≤◌, Bool, true, false, List, [], ◌∷◌, Option, Some, None, refl, sym, ap, ◌∙◌, inl, inr, subst, arith}
 use Rattle.std.specs.Prelude.{slice_get}
-use Rattle.def_machine.specs.Values.{Name, Root, Object, Promise, Answer, Gift, Sent, Msg, same_name, host_of, answer_of, word_of}
+use Rattle.def_machine.specs.Values.{Name, Answer, Gift, Sent, Msg, same_name, host_of, answer_of, word_of}
 use Rattle.def_machine.specs.State.{Passed, Passeds, Delivery, Note, Deliver, Open, Ask, SettledTo, Elsewhere, Shorten, GiftEntry, Vat, is_in}
 use Rattle.def_machine.specs.Arrive.{New, gift_at}
 use Rattle.def_run.specs.World as world

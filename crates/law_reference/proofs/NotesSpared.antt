@@ -1,9 +1,9 @@
 -- A note that can still arrive names nothing whose host the receiver noticed.
 use Rattle.std.proofs.Common.{◌≡◌, ℕ, Bool, true, false, List, Option, Some, None, refl, ap, ◌∙◌, inl, inr}
-use Rattle.def_machine.specs.Values.{Value, Null, Flag, Number, Letter, Text, Prim, Broken, Items, Ref, Name, host_of}
+use Rattle.def_machine.specs.Values.{Value, Ref, Name, host_of}
 use Rattle.def_machine.specs.State.{Passed, Passeds, Plain, AGift, Many, NoMore, More, Note, Deliver, Open, Ask, SettledTo, Elsewhere, Shorten, Vat, is_in}
 use Rattle.def_run.specs.World as world
-use Rattle.def_run.specs.World.{Link, World}
+use Rattle.def_run.specs.World.{Link}
 use Rattle.law_name.proofs.Facts.{MayBe, all_map}
 use Rattle.law_reference.specs.Notes.{IsBetween, IsOfEither, PassesBetween, AllPassBetween, Carries, IsSpared, ValueSpared, PassesSpared, AllPassSpared, NoteSpared, NotesNameNobodyNoticed}
 use Rattle.law_reference.specs.Cuts.{IsCutThere}

@@ -1,7 +1,7 @@
 -- The notice of a cut makes no list lead back to itself: each name that settles then breaks.
 use Rattle.std.proofs.Common.{◌≡◌, ℕ, Bool, true, false, List, [], ◌∷◌, refl}
 use Rattle.def_machine.specs.Values.{Words, Name, Naming}
-use Rattle.def_machine.specs.State.{Standing, Unsettled, WaitsOn, Viewed, Settled, Known, GiftEntry, Vat, Done, Gives, Throws, Ejects, Stops, mark}
+use Rattle.def_machine.specs.State.{Standing, Viewed, Settled, Known, GiftEntry, Vat, Done, Gives, mark}
 use Rattle.def_machine.specs.Arrive as arrive
 use Rattle.law_machine.specs.Steps.{does, After}
 use Rattle.law_frozen.specs.Frozen.{Sound}

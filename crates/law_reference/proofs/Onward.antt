@@ -1,7 +1,7 @@
 -- The claims on an answer: how often it is known, and the messages that are held for other hosts.
 use Rattle.std.proofs.Common.{◌≡◌, ℕ, ◌+◌, ◌≤◌, Bool, true, false, List, [], ◌∷◌, refl, sym, ◌∙◌, inl, inr, arith, subst, ◌==◌, ◌&&◌}
 use Rattle.std.proofs.lemmas.Bool.{eqb-true, eq-eqb}
-use Rattle.def_machine.specs.Values.{Name, Root, Object, Promise, Answer, Gift, Sent, Msg, same_name, same_msg, answer_of, host_of}
+use Rattle.def_machine.specs.Values.{Name, Answer, Sent, Msg, same_name, same_msg, answer_of, host_of}
 use Rattle.def_machine.specs.State.{Message, Known}
 use Rattle.law_fate.specs.Fate.{one as same_one, once as same_once, among}
 use Rattle.law_fate.specs.Carry.{held_at}

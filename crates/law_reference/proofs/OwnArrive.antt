@@ -1,11 +1,11 @@
 -- What arrives and what is noticed leave what a vat has its own.
 use Rattle.std.proofs.Common.{◌≡◌, ℕ, Bool, true, false, List, [], ◌∷◌, ◌++◌, Option, Some, None, refl, sym, ◌∙◌, if◌then◌else◌, ◌==◌, codes, ◌⊎◌, inl, inr}
-use Rattle.def_machine.specs.Values.{Words, Value, Null, Flag, Number, Letter, Text, Prim, Broken, Items, Ref, Name, Root, Object, Promise, Answer, Gift, Sent, host_of, Naming, naming, name_of, answer_of, mail_of, IsAnswer, IsGift, under}
-use Rattle.def_machine.specs.State.{Standing, Unsettled, WaitsOn, Viewed, Settled, Known, ToTell, Passed, Passeds, Plain, AGift, Many, NoMore, More, Note, Deliver, Open, Ask, SettledTo, Elsewhere, Shorten, GiftEntry, Vat, Done, Gives, Throws, Ejects, Stops, Act, ◌>>=◌, ◌>>◌, and_then, give, look, mail, mark, come, new_list, new_gift, open_gift, with_opened, is_gift, is_in, begun, draw, send_out, alter}
+use Rattle.def_machine.specs.Values.{Words, Value, Null, Flag, Number, Letter, Text, Prim, Broken, Items, Ref, Name, Gift, Sent, host_of, Naming, naming, name_of, answer_of, mail_of, IsAnswer, IsGift, under}
+use Rattle.def_machine.specs.State.{Standing, Viewed, Settled, Known, ToTell, Passed, Passeds, Plain, AGift, Many, NoMore, More, Note, Deliver, Open, Ask, SettledTo, Elsewhere, Shorten, GiftEntry, Vat, Done, Gives, Act, ◌>>=◌, ◌>>◌, and_then, give, look, mail, mark, come, new_list, new_gift, open_gift, with_opened, is_gift, is_in, begun, draw, send_out, alter}
 use Rattle.def_machine.specs.Refs as refs
-use Rattle.def_machine.specs.Refs.{Place, Near, Mine, Away, Gone, host_at}
+use Rattle.def_machine.specs.Refs.{Place, Away, host_at}
 use Rattle.def_machine.specs.Arrive as arrive
-use Rattle.def_machine.specs.Arrive.{Incoming, Old, New}
+use Rattle.def_machine.specs.Arrive.{Old, New}
 use Rattle.def_run.specs.World as world
 use Rattle.law_name.specs.Names.{AllOf, IsAmong, IsMessageName, IsEventual, IsKnownIn, names_in}
 use Rattle.law_name.proofs.Facts.{all_end}

@@ -2,8 +2,8 @@
 use Rattle.std.proofs.Common.{◌≡◌, ℕ, zero, suc, Bool, true, false, List, [], ◌∷◌, ◌++◌, Option, Some, None, refl, sym, ap, ◌∙◌, if◌then◌else◌, ◌==◌, ◌⊎◌, inl, inr, length, codes}
 use Rattle.std.specs.Prelude.{nat_le}
 use Rattle.std.proofs.lemmas.Bool.{eqb-true, eq-eqb}
-use Rattle.def_machine.specs.Values.{Value, Null, Flag, Number, Letter, Text, Prim, Broken, Items, Ref, Name, Root, Object, Sent, Answer, Promise, Gift, host_of, same_reference, Naming, naming, name_of, answer_of, spot_of, Spot, Own as OwnThing, Foreign, NoObject, IsAnswer}
-use Rattle.def_machine.specs.State.{Message, Happened, Standing, Unsettled, WaitsOn, Viewed, Settled, Known, Change, Hold, Wait, WaitOn, See, React, ToTell, Settle, Passed, Passeds, Plain, AGift, Many, NoMore, More, Open, Note, Deliver, SettledTo, Elsewhere, Put, Vat, Stop, Done, Gives, Throws, Ejects, Stops, Act, ◌>>=◌, ◌>>◌, and_then, each, give, stop, look, tell, spend, spent, enqueue, send_out, draws, draw, with_change, with_vat, changed, changed_to, alter, come, begun, is_in, Waits, for_some, WhereSome}
+use Rattle.def_machine.specs.Values.{Value, Broken, Ref, Name, Object, Sent, host_of, same_reference, Naming, naming, name_of, answer_of, spot_of, Spot, Own as OwnThing, Foreign, NoObject, IsAnswer}
+use Rattle.def_machine.specs.State.{Message, Happened, Standing, Unsettled, Settled, Known, Change, Hold, Wait, WaitOn, See, React, ToTell, Settle, Passed, Passeds, Plain, AGift, Many, NoMore, More, Open, Note, Deliver, SettledTo, Elsewhere, Put, Vat, Stop, Done, Gives, Act, ◌>>=◌, ◌>>◌, and_then, each, give, stop, look, tell, spend, spent, enqueue, send_out, draws, draw, with_change, with_vat, changed, changed_to, alter, come, begun, is_in, Waits, for_some, WhereSome}
 use Rattle.def_machine.specs.Refs as refs
 use Rattle.def_machine.specs.Refs.{Place, Near, Mine, Away, Gone, entry_of, standing_of, host_at, host_in, place, spotted, hosted}
 use Rattle.law_name.specs.Names.{AllOf, IsAmong, IsMessageName, IsEventual, IsKnownIn, names_in}

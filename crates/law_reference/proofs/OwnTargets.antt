@@ -1,7 +1,7 @@
 -- A message on an object of this vat is queued, so it brings no answer of another host.
 use Rattle.std.proofs.Common.{if◌then◌else◌, ◌≡◌, ℕ, ◌+◌, ◌≤◌, Bool, true, false, List, [], ◌∷◌, ◌++◌, Option, Some, None, refl, sym, subst, arith, ◌==◌}
 use Rattle.std.proofs.lemmas.Bool.{eqb-true, eq-eqb}
-use Rattle.def_machine.specs.Values.{Words, Value, Ref, Name, Root, Object, Promise, Answer, Gift, Sent, Naming, IsAnswer, IsCarried, naming, name_of, mail_of, answer_of, Spot, Own, Foreign, NoObject, spot_of, same_name, same_reference}
+use Rattle.def_machine.specs.Values.{Words, Value, Ref, Name, Root, Object, Promise, Answer, Gift, Sent, Naming, IsAnswer, IsCarried, naming, name_of, mail_of, answer_of, Spot, Own, spot_of, same_name, same_reference}
 use Rattle.def_machine.specs.State.{Message, Known, ToTell, Passeds, Note, Deliver, Open, Ask, SettledTo, Elsewhere, Shorten, Vat, Done, Gives, Throws, Ejects, Stops, ◌>>=◌, ◌>>◌, and_then, give, look, come, mail, alter, with_change, begun, Delivery}
 use Rattle.def_machine.specs.Refs as refs
 use Rattle.def_machine.specs.Refs.{Place, Near, settle, send_on}

@@ -1,5 +1,5 @@
 -- Sends, reactions and turns leave what a vat has its own.
-use Rattle.std.proofs.Common.{◌≡◌, ℕ, suc, List, [], ◌∷◌, ◌++◌, refl, true, false, length, ◌⊎◌, inl, inr, Option, Some, None}
+use Rattle.std.proofs.Common.{◌≡◌, ℕ, suc, List, [], ◌∷◌, ◌++◌, refl, false, length, ◌⊎◌, inl, inr, Option, Some, None}
 use Rattle.def_machine.specs.Values.{Words, Value, Broken, Ref, Name, Sent, Answer, Promise, Msg, host_of, Naming, naming, name_of, answer_of, mail_of, IsOwn, Null}
 use Rattle.def_machine.specs.State.{Binding, Message, Took, Sends, Reacts, Vat, Act, ◌>>=◌, ◌>>◌, and_then, give, look, tell, begun, new_message, new_activation, new_lone_message, WhereSome}
 use Rattle.def_machine.specs.Refs as refs

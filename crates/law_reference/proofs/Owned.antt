@@ -1,7 +1,7 @@
 -- A vat that hosts the answers of the messages that it holds, through the changes of what is known.
 use Rattle.std.proofs.Common.{◌≡◌, ℕ, Bool, true, false, List, [], ◌∷◌, ◌++◌, Option, Some}
 use Rattle.def_machine.specs.Values.{Name, Naming, host_of}
-use Rattle.def_machine.specs.State.{Known, Change, Hold, Wait, WaitOn, See, React, ToTell, Settle, Vat, with_change, changed, changed_to, begun, WhereSome}
+use Rattle.def_machine.specs.State.{Known, Change, Hold, Settle, Vat, with_change, changed, changed_to, begun, WhereSome}
 use Rattle.def_machine.specs.Refs.{entry_of}
 use Rattle.law_name.specs.Names.{AllOf, IsMessageName}
 use Rattle.law_name.proofs.Facts.{all_end}

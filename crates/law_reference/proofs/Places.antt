@@ -2,8 +2,8 @@
 use Rattle.std.proofs.Common.{◌≡◌, ℕ, zero, suc, ◌+◌, ◌≤◌, Bool, true, false, List, [], ◌∷◌, ◌++◌, Option, Some, refl, sym, ap, ◌∙◌, ◌⊎◌, inl, inr, arith, ◌==◌}
 use Rattle.std.specs.Prelude.{slice_get}
 use Rattle.std.proofs.lemmas.Bool.{eqb-true, eq-eqb}
-use Rattle.def_machine.specs.Values.{Name, Root, Object, Promise, Answer, Gift, Sent, Msg}
-use Rattle.def_machine.specs.State.{Known, Note, Deliver, Open, Ask, SettledTo, Elsewhere, Shorten, Put, Vat}
+use Rattle.def_machine.specs.Values.{Name, Object, Answer, Sent, Msg}
+use Rattle.def_machine.specs.State.{Known, Note, Deliver, Put, Vat}
 use Rattle.def_run.specs.World.{Link, link_at, is_link, with_link, pushed, push_all}
 use Rattle.law_fate.specs.Fate.{one, total, at_names, at_vat, in_note, of_note, on_link, once}
 use Rattle.law_fate.specs.Carry.{fare, weight, held_at, put_weight, link_weight}

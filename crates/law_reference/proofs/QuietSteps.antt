@@ -1,8 +1,8 @@
 -- No message is made where a note arrives, and none where a vat is noticed.
-use Rattle.std.proofs.Common.{◌≡◌, ℕ, false, Some, refl, sym, length}
+use Rattle.std.proofs.Common.{◌≡◌, ℕ, false, Some, refl, sym}
 use Rattle.std.specs.Prelude.{slice_get}
 use Rattle.def_machine.specs.Values.{Name, naming}
-use Rattle.def_machine.specs.State.{Note, Vat, Done, Gives, Throws, Ejects, Stops}
+use Rattle.def_machine.specs.State.{Note, Vat, Done, Gives}
 use Rattle.def_machine.specs.Arrive.{arrive, notice}
 use Rattle.def_run.specs.Draws.{draw_word}
 use Rattle.def_run.specs.World.{Script, World, names, names_of, read_note, readied}

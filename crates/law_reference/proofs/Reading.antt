@@ -1,7 +1,7 @@
 -- What a note brings of a gift: no more than once, and not where the vat knows it, where the gifts of the note stand apart.
 use Rattle.std.proofs.Common.{◌≡◌, ℕ, zero, suc, ◌+◌, ◌≤◌, Bool, true, false, List, [], ◌∷◌, ◌++◌, refl, sym, ◌∙◌, ◌⊎◌, inl, inr, subst, arith, ◌==◌}
 use Rattle.std.proofs.lemmas.Bool.{eq-eqb}
-use Rattle.def_machine.specs.Values.{Value, Null, Flag, Number, Letter, Text, Prim, Broken, Items, Ref, Name, Gift, Sent, Msg, same_name, host_of}
+use Rattle.def_machine.specs.Values.{Value, Ref, Name, Gift, Sent, Msg, same_name, host_of}
 use Rattle.def_machine.specs.State.{Message, Known, Passed, Passeds, Plain, AGift, Many, NoMore, More, Vat}
 use Rattle.def_machine.specs.Arrive.{Old, New}
 use Rattle.def_run.specs.World.{has_name, is_old, read_name, known_after, read_value, read_passed, read_all, plain_read, many_read, more_read}

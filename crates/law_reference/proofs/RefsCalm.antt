@@ -1,7 +1,7 @@
 -- Everything that a vat does with references leads as calm changes lead, as the sending on of a message leads, and as the wait behind the test for a cycle.
 use Rattle.std.proofs.Common.{◌≡◌, ℕ, zero, suc, Bool, true, false, List, [], ◌∷◌, Option, Some, None, refl}
 use Rattle.def_machine.specs.Values.{Words, Value, Broken, Ref, Naming, Null}
-use Rattle.def_machine.specs.State.{Message, Standing, Unsettled, WaitsOn, Viewed, Settled, Known, Passed, Passeds, Plain, AGift, Many, NoMore, More, Vat, Done, Act, Sends, ◌>>=◌, ◌>>◌, and_then, give, look, tell, new_message, new_lone_message}
+use Rattle.def_machine.specs.State.{Message, Standing, Settled, Known, Passed, Passeds, Plain, AGift, Many, NoMore, More, Vat, Done, Act, Sends, ◌>>=◌, ◌>>◌, and_then, give, look, tell, new_message, new_lone_message}
 use Rattle.def_machine.specs.Refs as refs
 use Rattle.def_machine.specs.Refs.{Place, Near, Mine, Away, Gone, entry_of, place}
 use Rattle.law_name.specs.Names.{AllOf}

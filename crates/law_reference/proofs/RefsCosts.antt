@@ -2,7 +2,7 @@
 use Rattle.std.proofs.Common.{◌≡◌, ℕ, zero, suc, ◌+◌, ◌≤◌, Bool, true, false, List, [], ◌∷◌, ◌++◌, Option, Some, None, refl, sym, ◌∙◌, arith, ◌==◌, ◌&&◌}
 use Rattle.std.proofs.lemmas.Bool.{eqb-true, eq-eqb}
 use Rattle.def_machine.specs.Values.{Words, Value, Broken, Name, Root, Object, Promise, Answer, Gift, Sent, Msg, Naming, IsAnswer, naming, name_of, mail_of, answer_of, host_of, same_name, same_msg}
-use Rattle.def_machine.specs.State.{Message, Standing, Unsettled, WaitsOn, Viewed, Settled, Known, Settle, Passed, Passeds, Plain, AGift, Many, NoMore, More, Sends, Reacts, Settles, Lost, Happened, Vat, Act, ◌>>=◌, ◌>>◌, and_then, each, give, look, tell, enqueue, with_change, alter, new_message, begun, for_some, new_lone_message}
+use Rattle.def_machine.specs.State.{Message, Standing, Settled, Known, Settle, Passed, Passeds, Plain, AGift, Many, NoMore, More, Sends, Reacts, Settles, Lost, Happened, Vat, Act, ◌>>=◌, ◌>>◌, and_then, each, give, look, tell, enqueue, with_change, alter, new_message, begun, for_some, new_lone_message}
 use Rattle.def_machine.specs.Refs as refs
 use Rattle.def_machine.specs.Refs.{Place, Near, Mine, Away, Gone, entry_of}
 use Rattle.law_machine.specs.Steps.{After}
@@ -11,7 +11,7 @@ use Rattle.law_fate.proofs.Spares.{IsSparedUnder, keeps_give, keeps_each}
 use Rattle.law_reference.specs.Knowing.{once, one, onward, onward_all, numbered_at, Knowing}
 use Rattle.law_reference.proofs.Abroad.{away_abroad}
 use Rattle.law_reference.proofs.Claims.{Waits, settling_frees, claims_end, answers, answer_next, answer_at}
-use Rattle.law_reference.proofs.Costs.{Owes, free, spared, none, after_here, after_pays, costs_more, costs_then, costs_bind, bind_free, free_bind, free_then, then_free, free_tell, free_enqueue, free_out, free_react, costs_hold, costs_come, free_promise}
+use Rattle.law_reference.proofs.Costs.{Owes, free, spared, none, after_here, after_pays, costs_more, costs_then, bind_free, free_then, then_free, free_tell, free_enqueue, free_react, costs_hold, costs_come, free_promise}
 
 -- ---- the answer at another host
 

@@ -1,9 +1,9 @@
 -- Everything that a vat does with references leads as the changes that settle nothing lead, and as the settling of one name leads.
 use Rattle.std.proofs.Common.{◌≡◌, ℕ, List, Option, Some, None, refl}
-use Rattle.def_machine.specs.Values.{Words, Value, Prim, Naming}
-use Rattle.def_machine.specs.State.{Message, Standing, Unsettled, WaitsOn, Viewed, Settled, Known, Vat, Act, ◌>>=◌, look, and_then, give}
+use Rattle.def_machine.specs.Values.{Words, Value, Naming}
+use Rattle.def_machine.specs.State.{Message, Standing, Settled, Known, Vat, Act, ◌>>=◌, look, and_then, give}
 use Rattle.def_machine.specs.Refs as refs
-use Rattle.def_machine.specs.Refs.{Place, Near, Mine, Away, Gone, entry_of}
+use Rattle.def_machine.specs.Refs.{entry_of}
 use Rattle.law_machine.proofs.RefsKeeps.{GoodSettler as LastingSettler}
 use Rattle.law_machine.proofs.Walks.{InSettling}
 use Rattle.law_machine.proofs.RefsWalk.{walk_send_on, walk_inform, walk_settle, walk_resolve, walk_send, walk_send_only, walk_react}

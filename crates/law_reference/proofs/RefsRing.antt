@@ -1,8 +1,8 @@
 -- All that a vat does with references from a state in which no list leads back to itself ends in such a state.
 use Rattle.std.proofs.Common.{◌≡◌, ℕ, zero, suc, ◌-◌, Bool, true, false, List, [], ◌∷◌, ◌++◌, Option, Some, None, refl, sym, ap, subst, ◌∙◌, ◌⊎◌, inl, inr, if◌then◌else◌, length, codes, ◌==◌}
 use Rattle.std.specs.Prelude.{nat_le}
-use Rattle.def_machine.specs.Values.{Words, Value, Null, Flag, Number, Letter, Text, Prim, Broken, Items, Ref, Name, Root, Object, Promise, Answer, Gift, Sent, Naming, Spot, Own, Foreign, NoObject, naming, host_of, spot_of, name_of, answer_of, mail_of, IsAnswer, IsSent, IsOwn as IsOwnPromise, key}
-use Rattle.def_machine.specs.State.{Message, Passed, Plain, AGift, Many, Deliver, Open, SettledTo, Elsewhere, Standing, Unsettled, WaitsOn, Viewed, Settled, Known, Hold, React, ToTell, Settle, Settles, Sends, Reacts, Lost, Vat, Done, Gives, Throws, Ejects, Stops, Act, ◌>>=◌, ◌>>◌, and_then, each, give, stop, look, tell, alter, come, draw, draws, drawn_at, spend, spent, send_out, enqueue, new_message, new_promise, with_change, changed_to, begun, is_in, for_some, WhereSome, new_lone_message}
+use Rattle.def_machine.specs.Values.{Words, Value, Null, Flag, Number, Letter, Text, Prim, Broken, Items, Ref, Name, Object, Gift, Sent, Naming, Spot, Own, Foreign, NoObject, naming, host_of, spot_of, name_of, answer_of, mail_of, IsAnswer, IsSent, IsOwn as IsOwnPromise, key}
+use Rattle.def_machine.specs.State.{Message, Passed, Plain, AGift, Many, Deliver, Open, SettledTo, Elsewhere, Standing, Unsettled, WaitsOn, Viewed, Settled, Known, Hold, React, ToTell, Settle, Settles, Sends, Reacts, Lost, Vat, Done, Throws, Stops, Act, ◌>>=◌, ◌>>◌, and_then, each, give, stop, look, tell, alter, come, draw, draws, drawn_at, spend, spent, send_out, enqueue, new_message, new_promise, with_change, changed_to, begun, is_in, for_some, WhereSome, new_lone_message}
 use Rattle.def_machine.specs.Refs as refs
 use Rattle.def_machine.specs.Refs.{Place, Near, Mine, Away, Gone, entry_of, standing_of, host_at, led, follow_at, follow, severed, severed_at, severed_by, place, spotted, hosted, target_of, waits_lead}
 use Rattle.law_machine.proofs.BreakLaws.{nothing_of}

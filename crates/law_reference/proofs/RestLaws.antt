@@ -1,14 +1,14 @@
 -- The laws of what rests in runs.
 use Rattle.std.proofs.Common.{◌≡◌, ℕ, zero, Bool, true, false, List, [], ◌∷◌, Option, Some, None, refl, sym, append-nil}
 use Rattle.std.specs.Prelude.{slice_get}
-use Rattle.def_machine.specs.Values.{Value, Null, Flag, Number, Letter, Text, Prim, Broken, Items, Ref, Name, Root, Object, Promise, Answer, Gift, Sent, Naming, naming, same_reference, Foreign, spot_of}
+use Rattle.def_machine.specs.Values.{Value, Ref, Name, Object, Naming, naming, same_reference, Foreign, spot_of}
 use Rattle.def_machine.specs.State.{Settled, Known, Vat}
 use Rattle.def_machine.specs.Refs.{entry_of, standing_of}
 use Rattle.law_machine.specs.Breaks.{FarApart, AtRest}
 use Rattle.law_machine.proofs.StepLaws.{settled_entry}
 use Rattle.def_run.specs.Draws.{draw_word}
 use Rattle.def_run.specs.World as world
-use Rattle.def_run.specs.World.{Script, Program, Entry, World, Run, Goes, names}
+use Rattle.def_run.specs.World.{Script, Entry, World, Run, Goes, names}
 use Rattle.law_run.proofs.BreakRuns.{followed_breaks_run}
 use Rattle.law_name.specs.Names.{AllOf, IsEventual, names_in}
 use Rattle.law_name.proofs.SameNames.{far_apart, reference_is}

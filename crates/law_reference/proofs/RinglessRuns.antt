@@ -1,8 +1,8 @@
 -- In each vat of a run that knows no name twice chains of waits and views end.
-use Rattle.std.proofs.Common.{◌≡◌, ℕ, zero, suc, Bool, true, false, List, [], ◌∷◌, ◌++◌, Option, Some, None, refl, sym, ◌∙◌, map, length, append-nil}
+use Rattle.std.proofs.Common.{◌≡◌, ℕ, zero, suc, Bool, true, false, List, [], ◌∷◌, ◌++◌, Option, Some, None, refl, sym, ◌∙◌, map, append-nil}
 use Rattle.std.specs.Prelude.{slice_get}
 use Rattle.def_machine.specs.Values.{Name, Root, naming}
-use Rattle.def_machine.specs.State.{Note, Deliver, Open, Ask, SettledTo, Elsewhere, Shorten, Unsettled, Known, Vat, Done, begun}
+use Rattle.def_machine.specs.State.{Note, Deliver, Unsettled, Known, Vat, Done, begun}
 use Rattle.def_machine.specs.Refs.{entry_of, standing_of, standing_in}
 use Rattle.def_run.specs.Draws.{draw_word}
 use Rattle.def_run.specs.World as world

@@ -1,8 +1,8 @@
 -- Where a vat knows no name twice, no step of it closes a ring of waits and views.
 use Rattle.std.proofs.Common.{◌≡◌, ℕ, zero, suc, Bool, true, false, List, [], ◌∷◌, ◌++◌, Option, Some, None, refl, sym, ap, ◌∙◌, length, if◌then◌else◌, ◌==◌}
 use Rattle.std.specs.Prelude.{codes}
-use Rattle.def_machine.specs.Values.{Value, Broken, Name, Root, Object, Sent, Answer, Promise, Gift, Msg, Naming, naming, name_of, answer_of, mail_of, host_of, IsAnswer, IsGift, IsLearnt, IsCarried, key, under}
-use Rattle.def_machine.specs.State.{Binding, Message, Known, See, Ask, Shorten, Note, Deliver, Open, SettledTo, Elsewhere, GiftEntry, Put, Vat, Done, Gives, Throws, Ejects, Stops, Act, ◌>>=◌, ◌>>◌, and_then, give, look, tell, alter, come, draw, draws, drawn_at, send_out, new_gift, new_message, mark, begun, is_in, new_lone_message}
+use Rattle.def_machine.specs.Values.{Value, Broken, Name, Sent, Answer, Gift, Msg, Naming, naming, name_of, answer_of, mail_of, host_of, IsAnswer, IsGift, IsLearnt, IsCarried, key, under}
+use Rattle.def_machine.specs.State.{Binding, Message, Known, See, Ask, Shorten, Note, Deliver, Open, SettledTo, Elsewhere, GiftEntry, Put, Vat, Done, Gives, Act, ◌>>=◌, ◌>>◌, and_then, give, look, tell, alter, come, draw, draws, drawn_at, send_out, new_gift, new_message, mark, begun, is_in, new_lone_message}
 use Rattle.def_machine.specs.Refs as refs
 use Rattle.def_machine.specs.Refs.{host_at}
 use Rattle.def_machine.specs.Arrive as arrive

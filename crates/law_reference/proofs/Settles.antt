@@ -1,7 +1,7 @@
 -- What settles is settled, and what waits on it settles with it.
 use Rattle.std.proofs.Common.{◌≡◌, ℕ, zero, suc, List, [], ◌∷◌, ◌++◌, Option, Some, None, refl, sym, inl, inr, length}
 use Rattle.def_machine.specs.Values.{Value, Naming}
-use Rattle.def_machine.specs.State.{Message, Standing, Unsettled, WaitsOn, Viewed, Settled, Known, Settle, Settles as Told, Vat, Act, ◌>>=◌, ◌>>◌, and_then, each, give, stop, look, tell, enqueue, alter, with_change, changed, changed_to, unless_settled}
+use Rattle.def_machine.specs.State.{Message, Standing, Settled, Known, Settle, Settles as Told, Vat, Act, ◌>>=◌, ◌>>◌, and_then, each, give, stop, look, tell, enqueue, alter, with_change, changed, changed_to, unless_settled}
 use Rattle.def_machine.specs.Refs as refs
 use Rattle.def_machine.specs.Refs.{entry_of, standing_of, standing_in}
 use Rattle.law_machine.specs.Laws.{SettledStays}

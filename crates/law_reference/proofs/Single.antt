@@ -2,8 +2,8 @@
 use Rattle.std.proofs.Common.{◌≡◌, ℕ, zero, suc, ◌+◌, ◌≤◌, ◌<◌, Bool, true, false, List, ◌∷◌, Option, Some, refl, sym, ap, ◌∙◌, ◌⊎◌, inl, inr, arith, ◌==◌, ◌&&◌}
 use Rattle.std.specs.Prelude.{slice_get}
 use Rattle.std.proofs.lemmas.Bool.{eqb-true, eq-eqb}
-use Rattle.def_machine.specs.Values.{Name, Root, Object, Promise, Answer, Gift, Sent, Msg, same_name, same_msg, answer_of, host_of}
-use Rattle.def_machine.specs.State.{Note, Deliver, Open, Ask, SettledTo, Elsewhere, Shorten, GiftEntry, Vat}
+use Rattle.def_machine.specs.Values.{Name, Object, Answer, Sent, Msg, same_name, same_msg, answer_of, host_of}
+use Rattle.def_machine.specs.State.{Note, Deliver, GiftEntry, Vat}
 use Rattle.def_machine.specs.Arrive.{Incoming}
 use Rattle.def_run.specs.World.{Script, Link, World, link_at, read_note, read_name, is_old}
 use Rattle.law_fate.specs.Fate.{total, at_vat, in_note, of_note, on_link, one as same_one, once as same_once}

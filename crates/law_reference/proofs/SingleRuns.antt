@@ -3,9 +3,9 @@ use Rattle.std.proofs.Common.{◌≡◌, ℕ, zero, suc, ◌+◌, ◌≤◌, Lis
 use Rattle.std.specs.Prelude.{slice_get}
 use Rattle.std.proofs.lemmas.Bool.{eq-eqb}
 use Rattle.def_machine.specs.Values.{Words, Name, Root, Object, Promise, Answer, Gift, Sent, Msg, host_of, same_name}
-use Rattle.def_machine.specs.State.{Passeds, Note, Deliver, Open, Ask, SettledTo, Elsewhere, Shorten, Vat, Gives, begun, Delivery}
+use Rattle.def_machine.specs.State.{Passeds, Note, Deliver, Vat, Gives, begun, Delivery}
 use Rattle.def_machine.specs.Arrive as arrive
-use Rattle.def_machine.specs.Arrive.{Incoming, Old, New}
+use Rattle.def_machine.specs.Arrive.{Incoming, New}
 use Rattle.law_machine.specs.Steps.{Step, Receives, does}
 use Rattle.def_run.specs.Draws.{draw_word}
 use Rattle.def_run.specs.World as world

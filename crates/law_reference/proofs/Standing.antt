@@ -2,7 +2,7 @@
 use Rattle.std.proofs.Common.{◌≡◌, ℕ, Bool, true, false, List, [], ◌∷◌, ◌++◌, Option, Some, None, refl, length, inl, inr, ◌==◌}
 use Rattle.std.proofs.lemmas.Bool.{eqb-true}
 use Rattle.def_machine.specs.Values.{Name, Ref, Naming, IsGift, IsLearnt}
-use Rattle.def_machine.specs.State.{GiftEntry, Vat, Done, Gives, Throws, Ejects, Stops, Act, ◌>>=◌, ◌>>◌, and_then, give, look, come, new_gift, open_gift, with_opened, is_gift, begun, Open, Ask}
+use Rattle.def_machine.specs.State.{GiftEntry, Vat, Done, Gives, Act, ◌>>=◌, ◌>>◌, and_then, give, look, come, new_gift, open_gift, with_opened, is_gift, begun, Open, Ask}
 use Rattle.def_machine.specs.Refs as refs
 use Rattle.def_machine.specs.Arrive as arrive
 use Rattle.def_machine.specs.Arrive.{Incoming, Old, New}

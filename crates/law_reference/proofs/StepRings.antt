@@ -1,8 +1,8 @@
 -- Every entry of a schedule, and every opening turn, leaves a world in which no list leads back to itself.
-use Rattle.std.proofs.Common.{◌≡◌, ℕ, ◌≤◌, Bool, true, false, List, [], ◌∷◌, ◌++◌, Option, Some, None, refl, sym, subst, ◌⊎◌, inl, inr, length}
+use Rattle.std.proofs.Common.{◌≡◌, ℕ, Bool, true, false, List, [], ◌∷◌, ◌++◌, Option, Some, None, refl, sym, subst, ◌⊎◌, inl, inr}
 use Rattle.std.specs.Prelude.{slice_get}
 use Rattle.def_machine.specs.Values.{Value, Name, Root, Naming, naming, host_of}
-use Rattle.def_machine.specs.State.{Message, Note, Deliver, Open, Ask, SettledTo, Elsewhere, Shorten, Settled, Known, Vat, Done, Gives, Throws, Ejects, Stops, is_in}
+use Rattle.def_machine.specs.State.{Message, Note, Open, Elsewhere, Settled, Known, Vat, Done, Gives, is_in}
 use Rattle.def_machine.specs.Refs.{entry_of, standing_of}
 use Rattle.def_machine.specs.Eval.{opening}
 use Rattle.def_machine.specs.Arrive.{Incoming, notice}
@@ -11,7 +11,7 @@ use Rattle.law_machine.specs.Steps.{Opens, Takes, Receives, Notices, does, After
 use Rattle.law_machine.proofs.StepLaws.{settled_stays}
 use Rattle.def_run.specs.Draws.{draw_word}
 use Rattle.def_run.specs.World as world
-use Rattle.def_run.specs.World.{Script, Program, Entry, Turn, Carry, CutLink, NoticeLink, Event, Idle, Link, World, Run, Goes, Stopped, names, names_of, read_note, readied}
+use Rattle.def_run.specs.World.{Script, Program, Entry, Turn, Carry, CutLink, NoticeLink, Event, Idle, Link, World, Goes, names, names_of, read_note, readied}
 use Rattle.law_name.specs.Names.{AllOf, IsAmong, WasDrawn, NoteOk, IsMade}
 use Rattle.law_fate.specs.Lasting.{Each, NoteWell}
 use Rattle.law_reference.specs.Notes.{IsBetween, LinkFits, NoteSpared}

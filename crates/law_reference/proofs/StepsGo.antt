@@ -1,7 +1,7 @@
 -- What arrives, but for the news that a name settled elsewhere and for messages, what a notice breaks, and turns lead as single changes do and as what is done with references.
 use Rattle.std.proofs.Common.{ℕ, suc, Bool, true, false, List, [], ◌∷◌, ◌++◌, Option, Some, None}
-use Rattle.def_machine.specs.Values.{Words, Value, Null, Flag, Number, Letter, Text, Prim, Broken, Items, Ref, Naming}
-use Rattle.def_machine.specs.State.{Change, ToTell, Binding, Cell, Thing, Message, Took, Standing, Unsettled, WaitsOn, Viewed, Settled, Known, Passed, Passeds, Plain, AGift, Many, NoMore, More, GiftEntry, Vat, alter, mark, change, dead, holding, new_activation}
+use Rattle.def_machine.specs.Values.{Words, Value, Broken, Ref, Naming}
+use Rattle.def_machine.specs.State.{Change, ToTell, Binding, Cell, Thing, Message, Took, Standing, Viewed, Settled, Known, Passed, Passeds, Plain, AGift, Many, NoMore, More, GiftEntry, Vat, alter, mark, change, dead, holding, new_activation}
 use Rattle.def_machine.specs.Refs as refs
 use Rattle.def_machine.specs.Refs.{Place, Away}
 use Rattle.def_machine.specs.Arrive as arrive

@@ -2,7 +2,7 @@
 use Rattle.std.proofs.Common.{◌≡◌, ℕ, true, List, [], ◌∷◌, ◌++◌, Some, refl}
 use Rattle.std.specs.Prelude.{slice_get}
 use Rattle.def_machine.specs.Values.{Name, Root, Naming, naming}
-use Rattle.def_machine.specs.State.{Message, Happened, Took, Vat, Done, Gives, Throws, Ejects, Stops, Act, tell, WhereSome}
+use Rattle.def_machine.specs.State.{Message, Happened, Took, Vat, Done, Gives, Act, tell, WhereSome}
 use Rattle.def_machine.specs.Eval.{opening, taking}
 use Rattle.def_kernel.specs.declared.node.Node.{Node}
 use Rattle.def_run.specs.Draws.{draw_word}

@@ -1,11 +1,11 @@
 -- A note tells a name as new where it is not known, and once: how often a note brings a name that is no gift.
 use Rattle.std.proofs.Common.{◌≡◌, ℕ, ◌+◌, ◌≤◌, Bool, true, false, List, [], ◌∷◌, ◌++◌, Option, Some, None, refl, ◌⊎◌, inl, inr, arith, subst}
-use Rattle.def_machine.specs.Values.{Value, Null, Flag, Number, Letter, Text, Prim, Broken, Items, Ref, Name, Root, Object, Promise, Answer, Gift, Sent, same_name, host_of}
+use Rattle.def_machine.specs.Values.{Value, Ref, Name, Gift, same_name, host_of}
 use Rattle.def_machine.specs.State.{Passed, Passeds, Plain, AGift, Many, NoMore, More, Note, Deliver, Open, Ask, SettledTo, Elsewhere, Shorten, GiftEntry, Delivery}
 use Rattle.def_machine.specs.Arrive.{Incoming, Old, New, gift_at}
 use Rattle.def_run.specs.World as world
 use Rattle.def_run.specs.World.{has_name, is_old, read_name, known_after, read_value, read_passed, read_all, read_note}
-use Rattle.law_name.specs.Names.{Bit, Named, Mail, Drew, At, Off, Entered, Owns, Gave, IsAmong, ValueOk, PassedOk, PassedsOk, NoteOk}
+use Rattle.law_name.specs.Names.{Bit, Named, IsAmong, ValueOk, PassedOk, PassedsOk, NoteOk}
 use Rattle.law_name.proofs.SameNames.{same_is, has_among, among_has, new_unknown}
 use Rattle.law_name.proofs.Among.{among_more, among_last}
 use Rattle.law_reference.specs.Knowing.{once, one, new_name, new_in_value, new_in, new_in_all, new_answer, new_gift_here, brings}

@@ -1,12 +1,12 @@
 -- What laws of runs say of a note under way is what is asked of it where it arrives.
 use Rattle.std.proofs.Common.{◌≡◌, ℕ, Bool, true, false, List, [], ◌∷◌, Option, Some, None, refl, sym, subst, inl, inr, ◌==◌}
 use Rattle.std.proofs.lemmas.Bool.{eqb-true}
-use Rattle.def_machine.specs.Values.{Value, Null, Flag, Number, Letter, Text, Prim, Broken, Items, Ref, Name, Root, Object, Promise, Answer, Gift, Sent, Naming, naming, host_of}
+use Rattle.def_machine.specs.Values.{Value, Ref, Name, Root, Object, Promise, Answer, Gift, Sent, Naming, naming, host_of}
 use Rattle.def_machine.specs.State.{Known, Passed, Passeds, Plain, AGift, Many, NoMore, More, GiftEntry, Vat, is_gift, is_in}
 use Rattle.def_machine.specs.Refs.{entry_of}
 use Rattle.def_machine.specs.Arrive.{Old, New, gift_at}
 use Rattle.def_run.specs.World as world
-use Rattle.def_run.specs.World.{is_old, read_name, names_of}
+use Rattle.def_run.specs.World.{is_old, read_name}
 use Rattle.law_name.specs.Names.{AllOf, IsAmong, WasDrawn, PassedOk, PassedsOk, ValueOk, GiftOk, IsMade, WasMade, IsMessageMade, IsEventual, names_in}
 use Rattle.law_name.proofs.SameNames.{reference_is}
 use Rattle.law_fate.specs.Lasting.{NamesObject, PassedLast, NoPromise as LastsNot}

@@ -1,7 +1,7 @@
 -- All of evaluation leads as the changes that touch no message lead, as sending, reacting and breaking lead, and as resolving leads where a name did neither settle nor wait: no other is resolved inside a turn.
 use Rattle.std.proofs.Common.{◌≡◌, refl, codes, ℕ, suc, List, [], ◌∷◌, ◌++◌, length, Option}
 use Rattle.def_machine.specs.Values.{Words, Value, Null, Broken, Naming, IsOwn}
-use Rattle.def_machine.specs.State.{Binding, Standing, Unsettled, WaitsOn, Viewed, Settled, Vat, Done, Gives, Throws, Ejects, Stops, Act, ◌>>=◌, ◌>>◌, and_then, look, give, throw, begun, WhereSome}
+use Rattle.def_machine.specs.State.{Binding, Standing, Unsettled, Vat, Done, Gives, Act, ◌>>=◌, ◌>>◌, and_then, look, give, throw, begun, WhereSome}
 use Rattle.def_machine.specs.Refs.{standing_of, settle, resolve, send, react, send_only}
 use Rattle.def_machine.specs.Scopes.{Evaluator}
 use Rattle.def_machine.specs.Calls as calls

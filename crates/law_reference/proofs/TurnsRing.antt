@@ -1,8 +1,8 @@
 -- Opening turns and turns make no list lead back to itself.
-use Rattle.std.proofs.Common.{◌≡◌, ℕ, true, false, [], refl}
+use Rattle.std.proofs.Common.{◌≡◌, ℕ, true, [], refl}
 use Rattle.def_machine.specs.Values.{Name}
-use Rattle.def_machine.specs.State.{Vat, Done, Gives, Throws, Ejects, Stops}
-use Rattle.law_machine.specs.Steps.{Step, Opens, Takes, Receives, Notices, does, After}
+use Rattle.def_machine.specs.State.{Vat, Done, Gives}
+use Rattle.law_machine.specs.Steps.{Step, Opens, Takes, does, After}
 use Rattle.law_frozen.specs.Frozen.{Sound}
 use Rattle.law_frozen.specs.Laws.{StepWell}
 use Rattle.law_frozen.proofs.Fine.{Fact, nothing, AreNouns, IsMessage, Ends, got_itself}

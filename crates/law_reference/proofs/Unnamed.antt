@@ -1,8 +1,8 @@
 -- What a note does not name: what its sender does not know, and what is of a third vat.
 use Rattle.std.proofs.Common.{◌≡◌, ℕ, List, sym, ap, subst, ◌∙◌, ◌⊎◌, inl, inr}
-use Rattle.def_machine.specs.Values.{Value, Null, Flag, Number, Letter, Text, Prim, Broken, Items, Ref, Name, Answer, Gift, Msg, host_of}
+use Rattle.def_machine.specs.Values.{Value, Ref, Name, Answer, Gift, Msg, host_of}
 use Rattle.def_machine.specs.State.{Passed, Passeds, Plain, AGift, Many, NoMore, More, Note, Deliver, Open, Ask, SettledTo, Elsewhere, Shorten, Vat}
-use Rattle.law_name.specs.Names.{Bit, Named, Mail, Drew, At, Off, Entered, Owns, Gave, AllOf, IsKnownIn, IsEventual, ValueOk, PassedOk, PassedsOk, NoteOk, names_in}
+use Rattle.law_name.specs.Names.{Bit, Named, AllOf, IsKnownIn, IsEventual, ValueOk, PassedOk, PassedsOk, NoteOk, names_in}
 use Rattle.law_name.proofs.Facts.{all_map, note_up}
 use Rattle.law_reference.specs.Notes.{IsBetween, IsOfEither, PassesBetween, AllPassBetween, Carries}
 use Rattle.law_reference.specs.Behind.{Avoids, NamesNot, IsKnownTo as KnowsIn}

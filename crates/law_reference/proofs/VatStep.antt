@@ -1,14 +1,14 @@
 -- What a step of one vat makes of a world in which no list leads back to itself and notes tell truly.
-use Rattle.std.proofs.Common.{◌≡◌, ℕ, zero, suc, ◌≤◌, Bool, true, false, List, [], ◌∷◌, ◌++◌, Option, Some, None, refl, sym, ap, subst, ◌∙◌, ◌⊎◌, inl, inr, length, ◌==◌}
+use Rattle.std.proofs.Common.{◌≡◌, ℕ, zero, suc, Bool, true, false, List, [], ◌∷◌, ◌++◌, Option, Some, None, refl, sym, ap, subst, ◌∙◌, ◌⊎◌, inl, inr, ◌==◌}
 use Rattle.std.specs.Prelude.{slice_get}
 use Rattle.std.proofs.lemmas.Bool.{eqb-true}
 use Rattle.def_machine.specs.Values.{Value, Ref, Name, Naming, naming, host_of}
-use Rattle.def_machine.specs.State.{Unsettled, Settled, Known, Plain, AGift, Many, Note, Deliver, Open, Ask, SettledTo, Elsewhere, Shorten, Put, Vat}
+use Rattle.def_machine.specs.State.{Unsettled, Settled, Known, Many, Note, Open, SettledTo, Put, Vat}
 use Rattle.def_machine.specs.Refs.{entry_of, standing_of, standing_in}
 use Rattle.law_machine.specs.Laws.{SettledStays}
 use Rattle.def_run.specs.Wire.{Connected}
 use Rattle.def_run.specs.World as world
-use Rattle.def_run.specs.World.{Script, Event, Link, World, Goes}
+use Rattle.def_run.specs.World.{Event, Link, World, Goes}
 use Rattle.law_name.specs.Names.{AllOf, IsAmong, WasDrawn}
 use Rattle.law_name.proofs.Facts.{all_end, all_map}
 use Rattle.law_frozen.proofs.RunSound.{put_at_or}

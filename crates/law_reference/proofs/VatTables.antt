@@ -1,16 +1,15 @@
 -- The table of a vat meets what the theorem on numbers asks of it, part by part.
-use Rattle.std.proofs.Common.{◌≡◌, ℕ, zero, Bool, List, ◌++◌, Some, refl, sym, ◌∙◌, ◌==◌, ◌&&◌}
+use Rattle.std.proofs.Common.{◌≡◌, ℕ, Some, refl, ◌∙◌, ◌==◌, ◌&&◌}
 use Rattle.std.specs.Prelude.{slice_get}
-use Rattle.def_machine.specs.Values.{Name, Msg, Root, Object, Promise, Answer, Gift, Sent, NoObject, Foreign, spot_of, same_name, same_reference}
+use Rattle.def_machine.specs.Values.{Name, Object, Sent, Foreign, spot_of, same_name, same_reference}
 use Rattle.def_machine.specs.State.{Vat}
-use Rattle.law_renaming.specs.Stands.{Table, IsTable}
-use Rattle.def_run.specs.World.{Script, Program, Entry, World}
+use Rattle.law_renaming.specs.Stands.{IsTable}
+use Rattle.def_run.specs.World.{World}
 use Rattle.law_name.specs.Names.{AllOf, IsEventual, IsMessageName, names_in}
 use Rattle.law_name.proofs.SameNames.{at_all, eventual_spot, message_is}
 use Rattle.law_name.proofs.Laws.{names_apart}
 use Rattle.law_reference.specs.Exports.{exported_at}
-use Rattle.law_reference.specs.NameTableRuns.{NamesDiffer}
-use Rattle.law_reference.specs.Tables.{table_of, EachHasTable, TablesTellThingsApart}
+use Rattle.law_reference.specs.Tables.{table_of, TablesTellThingsApart}
 use Rattle.law_reference.proofs.KnownRuns.{names_are_known_once}
 use Rattle.law_reference.proofs.NameTableLaws.{exports_are_distinct}
 

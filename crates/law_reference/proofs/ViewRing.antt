@@ -1,10 +1,9 @@
 -- A name that comes to be viewed makes no list lead back to itself.
 use Rattle.std.proofs.Common.{◌≡◌, ℕ, Bool, true, false, List, [], ◌∷◌, ◌++◌, Some, None, refl, sym, ap, subst, ◌∙◌, ◌⊎◌, inl, inr}
-use Rattle.def_machine.specs.Values.{Value, Name, Root, Object, Promise, Answer, Gift, Sent, Naming, host_of}
+use Rattle.def_machine.specs.Values.{Value, Name, Gift, Naming, host_of}
 use Rattle.def_machine.specs.State.{Standing, Unsettled, WaitsOn, Viewed, Settled, Known, Wait, See, Views, Vat, Done, ◌>>◌, and_then, tell, alter, with_change, changed, changed_to, is_in}
 use Rattle.def_machine.specs.Refs.{entry_of, standing_of, standing_in}
 use Rattle.def_machine.specs.Arrive as arrive
-use Rattle.def_machine.specs.Arrive.{Incoming, Old, New, gift_at}
 use Rattle.law_machine.specs.Breaks.{still_waits}
 use Rattle.law_machine.proofs.StepLaws.{changed_head}
 use Rattle.law_name.specs.Names.{IsAmong, IsEventual}

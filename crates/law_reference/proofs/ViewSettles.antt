@@ -1,7 +1,7 @@
 -- A name that settles to what its view settled to is followed to no list to which it was not, so it closes no ring.
 use Rattle.std.proofs.Common.{◌≡◌, ℕ, zero, suc, true, List, refl, sym, ap, ◌∙◌, ◌⊎◌, inl, inr, length}
-use Rattle.def_machine.specs.Values.{Value, Null, Flag, Number, Letter, Text, Prim, Broken, Items, Ref, Name, Naming}
-use Rattle.def_machine.specs.State.{Standing, Unsettled, WaitsOn, Viewed, Settled, Known, Settle, Vat, with_change, changed_to}
+use Rattle.def_machine.specs.Values.{Value, Items, Ref, Name, Naming}
+use Rattle.def_machine.specs.State.{Standing, Viewed, Settled, Known, Settle, Vat, with_change, changed_to}
 use Rattle.def_machine.specs.Refs.{standing_of, led, follow_at, follow, severed}
 use Rattle.law_reference.specs.Lists.{NoListLeadsBack, IsEnd, IsTested, ViewSettled, IsBehind}
 use Rattle.law_reference.proofs.Following.{name_list, stands_or, Moves, severed_list, list_severed}

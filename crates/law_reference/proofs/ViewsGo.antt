@@ -1,7 +1,7 @@
 -- Views go on as they were: what is viewed was viewed, and what waits on its view waits on it, in all that a vat does but for making a view.
 use Rattle.std.proofs.Common.{◌≡◌, ℕ, ◌<◌, Bool, true, false, List, [], ◌∷◌, ◌++◌, Option, Some, None, refl, sym, ap, ◌∙◌, inl, inr}
 use Rattle.def_machine.specs.Values.{Value, Naming}
-use Rattle.def_machine.specs.State.{Standing, Unsettled, Viewed, Settled, Known, Change, Settle, Settles as Told, Vat, Done, Gives, Throws, Ejects, Stops, Act, ◌>>◌, and_then, tell, alter, with_change, changed, begun}
+use Rattle.def_machine.specs.State.{Standing, Unsettled, Viewed, Settled, Known, Change, Settle, Settles as Told, Vat, Done, Gives, Act, ◌>>◌, and_then, tell, alter, with_change, changed, begun}
 use Rattle.def_machine.specs.Refs as refs
 use Rattle.def_machine.specs.Refs.{entry_of, standing_of, standing_in}
 use Rattle.law_machine.proofs.StepLaws.{entry_append}

@@ -3,7 +3,7 @@ use Rattle.std.proofs.Common.{◌≡◌, ℕ, zero, suc, Bool, true, false, List
 use Rattle.std.specs.Prelude.{slice_get}
 use Rattle.std.proofs.lemmas.Bool.{eqb-true}
 use Rattle.def_machine.specs.Values.{Name, Root, Gift, naming, same_reference}
-use Rattle.def_machine.specs.State.{Note, Deliver, Open, Ask, SettledTo, Elsewhere, Shorten, Unsettled, Viewed, Known, GiftEntry, Vat, is_gift, begun}
+use Rattle.def_machine.specs.State.{Note, Elsewhere, Unsettled, Viewed, Known, GiftEntry, Vat, is_gift, begun}
 use Rattle.def_machine.specs.Refs.{entry_of, standing_of, standing_in}
 use Rattle.def_machine.specs.Arrive.{gift_at}
 use Rattle.def_run.specs.Draws.{draw_word}

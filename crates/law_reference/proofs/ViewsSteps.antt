@@ -4,7 +4,7 @@ use Rattle.std.specs.Prelude.{codes}
 use Rattle.def_machine.specs.Values.{Broken, Name, Gift, Naming, naming, name_of, host_of, same_reference}
 use Rattle.def_machine.specs.State.{Binding, Message, Unsettled, Known, Note, Deliver, Open, Ask, SettledTo, Elsewhere, Shorten, Vat, Act, ◌>>=◌, and_then, give, look, mark, come, begun, is_in}
 use Rattle.def_machine.specs.Refs as refs
-use Rattle.def_machine.specs.Refs.{entry_of, standing_of}
+use Rattle.def_machine.specs.Refs.{entry_of}
 use Rattle.def_machine.specs.Arrive as arrive
 use Rattle.def_machine.specs.Arrive.{Old, New}
 use Rattle.def_machine.specs.Eval as eval

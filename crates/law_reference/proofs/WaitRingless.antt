@@ -2,7 +2,7 @@
 use Rattle.std.proofs.Common.{◌≡◌, ℕ, zero, Bool, true, false, List, [], ◌∷◌, ◌++◌, Option, Some, None, refl, sym, ap, ◌∙◌, ◌⊎◌, inl, inr, length, if◌then◌else◌, append-nil, append_assoc}
 use Rattle.std.specs.Prelude.{codes}
 use Rattle.def_machine.specs.Values.{Broken, Name, Naming, IsAnswer}
-use Rattle.def_machine.specs.State.{Known, Change, Wait, WaitOn, See, Vat, Done, Gives, Throws, Ejects, Stops, ◌>>=◌, ◌>>◌, and_then, look, tell, alter, come, with_change, changed, changed_to, begun, for_some, Message}
+use Rattle.def_machine.specs.State.{Known, Change, Wait, WaitOn, See, Vat, Done, Gives, ◌>>=◌, ◌>>◌, and_then, look, tell, alter, come, with_change, changed, changed_to, begun, for_some, Message}
 use Rattle.def_machine.specs.Refs as refs
 use Rattle.def_machine.specs.Refs.{entry_of, standing_of, standing_in, waits_lead}
 use Rattle.law_machine.proofs.StepLaws.{entry_append}

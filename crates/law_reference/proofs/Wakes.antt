@@ -1,7 +1,7 @@
 -- Which names come to wait: those that waited, and those that are free to.
 use Rattle.std.proofs.Common.{◌≡◌, ℕ, Bool, true, false, List, [], ◌∷◌, ◌++◌, Option, Some, None, refl, sym, ap, ◌∙◌, ◌⊎◌, inl, inr}
 use Rattle.def_machine.specs.Values.{Value, Name, same_reference, Naming, naming}
-use Rattle.def_machine.specs.State.{Standing, Unsettled, WaitsOn, Viewed, Settled, Known, Change, Hold, Wait, WaitOn, See, React, ToTell, Settle, with_change, changed, changed_to, unless_settled, begun}
+use Rattle.def_machine.specs.State.{Standing, Unsettled, Viewed, Settled, Known, Change, Hold, Wait, WaitOn, See, React, ToTell, Settle, with_change, changed, changed_to, unless_settled, begun}
 use Rattle.def_machine.specs.Refs.{entry_of, standing_of, standing_in}
 use Rattle.law_machine.specs.Breaks.{still_waits}
 use Rattle.law_name.specs.Names.{IsEventual}

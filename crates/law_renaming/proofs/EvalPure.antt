@@ -1,17 +1,16 @@
 -- What evaluation looks up and tells apart, under changed names.
 use Rattle.std.proofs.Common.{◌≡◌, ℕ, zero, suc, Bool, true, false, List, [], ◌∷◌, Option, Some, None, refl, ap, length, map}
 use Rattle.std.specs.Prelude.{slice_get, option_map, codes}
-use Rattle.def_machine.specs.Values.{Words, Value, Null, Flag, Number, Letter, Text, Prim, Broken, Items, Ref, Naming, Spot, Own, Foreign, NoObject}
-use Rattle.def_machine.specs.State.{Bound, Fixed, Slot, Binding, Scope, Freedom, IsSafe, IsItself, IsFinal, IsVar, FreeName, Thing, Made, Vat}
+use Rattle.def_machine.specs.Values.{Words, Value, Null, Flag, Number, Letter, Text, Prim, Broken, Items, Ref, Naming, Spot, Own}
+use Rattle.def_machine.specs.State.{Bound, Fixed, Binding, Scope, Freedom, IsSafe, IsItself, IsFinal, FreeName, Thing, Made, Vat}
 use Rattle.def_machine.specs.Free.{same_words}
 use Rattle.def_machine.specs.Form as form
-use Rattle.def_machine.specs.Native.{list_at, Reply, Says, Fails, Guard, AnyGuard, VoidGuard, IntGuard, BooleanGuard, CharGuard, TextGuard, ListGuard, NullGuard, NearGuard, FrozenGuard, OrNull, Rule, DeepFrozen, Selfless, Functional, Primitive, RefTest, Fulfillment, NoTest}
+use Rattle.def_machine.specs.Native.{list_at, Reply, Says, Fails, Guard, IntGuard, BooleanGuard, CharGuard, TextGuard, ListGuard, NullGuard, NearGuard, FrozenGuard, OrNull, Rule, DeepFrozen, Selfless, Functional, Primitive, RefTest, Fulfillment, NoTest}
 use Rattle.def_machine.specs.Refs as refs
 use Rattle.def_machine.specs.Refs.{Place, Near, Mine, Away, Gone, highest}
 use Rattle.def_machine.specs.Scopes as scopes
 use Rattle.def_machine.specs.Perform as perform
 use Rattle.def_machine.specs.Calls as calls
-use Rattle.def_machine.specs.Scopes.{AuditionAsk, ResolverAsk}
 use Rattle.def_kernel.specs.declared.node.Literal.{Literal}
 use Rattle.def_kernel.specs.declared.node.Literal.TheVariants as literal
 use Rattle.def_kernel.specs.declared.node.Node.{Node}

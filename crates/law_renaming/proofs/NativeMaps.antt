@@ -4,7 +4,7 @@ use Rattle.std.specs.Prelude.{slice_get, option_map, codes, Result, Ok, Err, nat
 use Rattle.def_machine.specs.Values.{Words, Value, Null, Flag, Number, Letter, Text, Prim, Items}
 use Rattle.def_machine.specs.Free.{entry, same_words}
 use Rattle.def_machine.specs.Native as native
-use Rattle.def_machine.specs.Native.{Reply, Says, Writes, Lists, Iterates, Fails, IntVerb, Applies, Negates, AsChar, NoIntVerb, FlagVerb, Both, Either, Unlike, NoFlagVerb, SeqVerb, Gets, Adds, AddsOne, Steps, NoSeqVerb, Order, Guard, NullGuard, OrNull, AnyGuard, VoidGuard, IntGuard, BooleanGuard, CharGuard, TextGuard, ListGuard, NearGuard, FrozenGuard, Primitive, Guarding, Judging, MakeList, Equalizer, Comparer, Looper, Sender, References, Thrower, StampReader, NoPrimitive, Asked, MakesList, Ranges, Same, Compares, Loops, SendsTo, CallsTo, MakesPromise, Breaks, Tells, Whens, ThrowsIt, IsStamped, Coerces, AddsNull, NoMethod, list_at, is_less, is_more, is_equal}
+use Rattle.def_machine.specs.Native.{Reply, Says, Writes, Lists, Iterates, Fails, IntVerb, Applies, Negates, AsChar, FlagVerb, Both, Either, Unlike, NoFlagVerb, SeqVerb, Gets, Adds, AddsOne, Steps, Order, Guard, NullGuard, OrNull, AnyGuard, Primitive, Guarding, MakeList, Equalizer, Comparer, Looper, Sender, References, Thrower, StampReader, Asked, Loops, ThrowsIt, list_at}
 use Rattle.def_machine.specs.Maps as maps
 use Rattle.law_renaming.specs.EvalMaps as evals
 use Rattle.law_renaming.proofs.Sim.{map_get, length_map}

@@ -2,7 +2,7 @@
 use Rattle.std.proofs.Common.{◌≡◌, ℕ, zero, suc, List, [], ◌∷◌, ◌++◌, Option, Some, None, refl, sym, ap, subst, ◌∙◌, length, map, ◌==◌}
 use Rattle.std.specs.Prelude.{slice_get}
 use Rattle.def_kernel.specs.declared.node.Node.{Node}
-use Rattle.def_machine.specs.Values.{Words, Value, Null, Ref, Name, Root, Object, same_name, same_reference, spot_of, NoObject, Naming, Local, Obj, Prom, Far, Mess, naming, numbering}
+use Rattle.def_machine.specs.Values.{Words, Value, Null, Ref, Name, Root, Object, same_name, same_reference, spot_of, NoObject, Naming, Local, Prom, Mess, naming, numbering}
 use Rattle.def_machine.specs.State.{Known, Vat, Done, Gives, Throws, Ejects, Stops, begun, is_in}
 use Rattle.def_machine.specs.Eval.{opening}
 use Rattle.law_machine.specs.Steps.{Opens, After, does}

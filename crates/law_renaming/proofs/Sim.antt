@@ -3,7 +3,7 @@ use Rattle.std.proofs.Common.{◌≡◌, ℕ, zero, suc, Bool, true, false, List
 use Rattle.std.specs.Prelude.{slice_get, option_map, nat_le}
 use Rattle.def_machine.specs.Values.{Words, Value, Naming, Coming, Mailing, IsOwn, IsAnswer, IsSent}
 use Rattle.def_machine.specs.State
-use Rattle.def_machine.specs.State.{Binding, Cell, Thing, Made, Ejector, Audition, Resolver, Message, Standing, Unsettled, WaitsOn, Viewed, Settled, Known, Change, Hold, Wait, WaitOn, See, React, Settle, ToTell, Passed, Passeds, Note, Put, GiftEntry, Happened, Vat, Stop, Done, Gives, Throws, Ejects, Stops, Act, ◌>>◌, ◌>>=◌, and_then, for_some, end_by, ending, each, give, throw, eject, stop, look, tell, spend, spent, new_activation, new_thing, kill, dead, new_slot, holding, write_slot, new_list, draw, draws, drawn_at, send_out, new_gift, is_gift, with_opened, open_gift, mark, enqueue, alter, mail, come, new_promise, new_message, changed, changed_to, unless_settled, with_change, begun, new_lone_message}
+use Rattle.def_machine.specs.State.{Cell, Thing, Made, Message, Standing, Settled, Known, Change, Hold, Wait, React, Passed, Passeds, Note, GiftEntry, Happened, Vat, Stop, Done, Gives, Throws, Ejects, Stops, Act, ◌>>◌, ◌>>=◌, and_then, for_some, give, throw, eject, stop, look, tell, spend, spent, new_activation, new_thing, kill, dead, new_slot, holding, write_slot, new_list, draw, draws, drawn_at, send_out, new_gift, is_gift, with_opened, open_gift, mark, enqueue, alter, mail, come, new_promise, new_message, changed, changed_to, unless_settled, with_change, begun, new_lone_message}
 use Rattle.def_machine.specs.Refs.{Place, Parcel}
 use Rattle.def_machine.specs.Maps as maps
 use Rattle.def_machine.specs.Maps.{coming, mailing}

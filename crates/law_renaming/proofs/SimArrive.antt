@@ -1,14 +1,14 @@
 -- Two namings: what arrives, and the notice of a cut.
 use Rattle.std.proofs.Common.{◌≡◌, ℕ, Bool, true, false, List, [], ◌∷◌, Option, Some, None, refl, map}
 use Rattle.std.specs.Prelude.{option_map}
-use Rattle.def_machine.specs.Values.{Words, Value, Null, Flag, Number, Letter, Text, Prim, Broken, Items, Ref, Naming, IsGift}
-use Rattle.def_machine.specs.State.{Message, Standing, Unsettled, WaitsOn, Viewed, Settled, Known, Passed, Passeds, Plain, AGift, Many, NoMore, More, Note, Deliver, Open, Ask, SettledTo, Elsewhere, Shorten, GiftEntry, Vat, Act, each, is_gift, Delivery}
+use Rattle.def_machine.specs.Values.{Words, Value, Ref, Naming, IsGift}
+use Rattle.def_machine.specs.State.{Message, Standing, Viewed, Settled, Known, Passed, Passeds, Plain, AGift, Many, NoMore, More, Note, Deliver, Open, Ask, SettledTo, Elsewhere, Shorten, GiftEntry, Vat, Act, each, is_gift, Delivery}
 use Rattle.def_machine.specs.Refs as refs
-use Rattle.def_machine.specs.Refs.{Place, Near, Mine, Away, Gone}
+use Rattle.def_machine.specs.Refs.{Place, Away}
 use Rattle.def_machine.specs.Arrive as arrive
 use Rattle.def_machine.specs.Arrive.{Incoming, Old, New, gift_at, opened_in}
 use Rattle.def_machine.specs.Maps as maps
-use Rattle.def_machine.specs.Maps.{coming, incoming}
+use Rattle.def_machine.specs.Maps.{incoming}
 use Rattle.law_machine.proofs.Keeps.{Keeps, IsKept, IsKeptUnder, keeps_each}
 use Rattle.law_machine.proofs.RefsKeeps.{keeps_settle}
 use Rattle.law_machine.proofs.ArriveKeeps.{keeps_arrive_all, keeps_learn_all}

@@ -1,22 +1,22 @@
 -- Two namings: all of evaluation.
 use Rattle.std.proofs.Common.{◌≡◌, ℕ, zero, suc, Bool, true, false, List, [], ◌∷◌, Option, Some, None, refl, length, map, ◌==◌, ◌+◌, if◌then◌else◌}
 use Rattle.std.specs.Prelude.{slice_get, option_map}
-use Rattle.def_machine.specs.Values.{Words, Value, Null, Flag, Number, Letter, Text, Prim, Broken, Items, Ref, Naming, Spot, Own}
-use Rattle.def_machine.specs.State.{Bound, Fixed, Slot, Binding, Scope, Cell, View, FreeName, Thing, Made, Ejector, Audition, Resolver, Message, Standing, Unsettled, Vat, Act, give, throw, eject, ObjectMade}
+use Rattle.def_machine.specs.Values.{Words, Value, Flag, Text, Prim, Broken, Items, Ref, Naming, Spot, Own}
+use Rattle.def_machine.specs.State.{Bound, Fixed, Slot, Binding, Scope, Cell, View, FreeName, Thing, Made, Ejector, Message, Standing, Unsettled, Vat, Act, give, throw, eject, ObjectMade}
 use Rattle.def_machine.specs.Form.{Item, Begin, End, Word, Fact}
 use Rattle.def_machine.specs.Free.{BoundNoun}
 use Rattle.def_machine.specs.Native as native
-use Rattle.def_machine.specs.Native.{list_at, Reply, Says, Writes, Lists, Iterates, Fails, Guard, Primitive, RefTest, Asked, MakesList, Ranges, Same, Compares, Loops, SendsTo, CallsTo, MakesPromise, Breaks, Tells, Whens, ThrowsIt, IsStamped, Coerces, AddsNull, NoMethod}
+use Rattle.def_machine.specs.Native.{list_at, Reply, Asked}
 use Rattle.def_machine.specs.Refs as refs
-use Rattle.def_machine.specs.Refs.{Place, Near, Mine, Away, Gone, has_room}
+use Rattle.def_machine.specs.Refs.{Place, Near}
 use Rattle.def_machine.specs.Scopes as scopes
 use Rattle.def_machine.specs.Perform as perform
 use Rattle.def_machine.specs.Calls as calls
 use Rattle.def_machine.specs.Eval as eval
 use Rattle.def_machine.specs.Form as form
-use Rattle.def_machine.specs.Scopes.{Answer, Answers, Evaluator, Caller, Body, Case, AuditionAsk, GetsForm, GetsGuard, Asks, NoAuditionAsk, ResolverAsk, Resolves, Smashes, NoResolverAsk}
+use Rattle.def_machine.specs.Scopes.{Answer, Evaluator, Caller, Body, Case, AuditionAsk, GetsForm, NoAuditionAsk, ResolverAsk, Resolves}
 use Rattle.def_kernel.specs.declared.node.Node.{Node}
-use Rattle.def_kernel.specs.declared.node.Node.TheVariants.{Lit, Noun, Set, Def, Call, Sequence, If, Escape, Try, Finally, Hide, MatchBind, Object, Final, Var, Any, ListPattern, Via}
+use Rattle.def_kernel.specs.declared.node.Node.TheVariants.{Lit, Any}
 use Rattle.def_machine.specs.Maps as maps
 use Rattle.law_renaming.specs.EvalMaps as evals
 use Rattle.law_machine.proofs.Keeps.{Keeps, IsKept, IsKeptUnder}
@@ -165,9 +165,8 @@ module _ {N M W V : Type 0} (f : N → M) (w : W → V) (K : Naming N W) (L : Na
 
   at_verdict : (x1 : Caller N) (x1' : Caller M) → SameCaller f Fits x1 x1' → GoodCaller (Grows Fits) x1' → (x2 : ℕ) → (x3 : View N) → (x4 : Value N) → (x5 : Value N) → Sim f Fits (id) (calls.verdict K tree x1 x2 x3 x4 x5) (calls.verdict L tree x1' x2 (maps.view f x3) (maps.value f x4) (maps.value f x5))
   unfolding calls.verdict
-  at_verdict again x1' h1 g1 act view a (Prim n) = search (sims, evsims, approves_map, keeps_eval, base, under, law) depth 16
-  at_verdict again x1' h1 g1 act view a (Ref n) = search (sims, evsims, sim_audit, ref_place, keeps_eval, base, under, law) depth 16
-  at_verdict again x1' h1 g1 act view a _ = search (sims, evsims, keeps_eval, base, under, law) depth 16
+  at_verdict again x1' h1 g1 act view a (Prim n) = search (sims, evsims, approves_map, keeps_eval, base, under, law, sim_audit, ref_place) depth 16
+  at_verdict again x1' h1 g1 act view a other = search (sims, evsims, approves_map, keeps_eval, base, under, law, sim_audit, ref_place) depth 16
 
   sim_verdict : (x1 : Caller N) (x1' : Caller M) → SameCaller f Fits x1 x1' → GoodCaller (Grows Fits) x1' → (x2 : ℕ) → (x3 : View N) (x3' : View M) → x3' ≡ maps.view f x3 → (x4 : Value N) (x4' : Value M) → x4' ≡ maps.value f x4 → (x5 : Value N) (x5' : Value M) → x5' ≡ maps.value f x5 → Sim f Fits (id) (calls.verdict K tree x1 x2 x3 x4 x5) (calls.verdict L tree x1' x2 x3' x4' x5')
   sim_verdict x1 x1' h1 g1 x2 x3 x3' e3 x4 x4' e4 x5 x5' e5 = rw (e3, e4, e5) (at_verdict x1 x1' h1 g1 x2 x3 x4 x5)
@@ -196,10 +195,8 @@ module _ {N M W V : Type 0} (f : N → M) (w : W → V) (K : Naming N W) (L : Na
 
   at_audition_live : (x1 : Caller N) (x1' : Caller M) → SameCaller f Fits x1 x1' → GoodCaller (Grows Fits) x1' → (x2 : ℕ) → (x3 : View N) → (x4 : AuditionAsk N) → Sim f Fits (maps.value f) (calls.audition_live K tree x1 x2 x3 x4) (calls.audition_live L tree x1' x2 (maps.view f x3) (evals.audition_ask f x4))
   unfolding calls.audition_live
-  at_audition_live again x1' h1 g1 act view GetsForm = search (sims, evsims, sim_build, keeps_eval, base, under, law) depth 16
-  at_audition_live again x1' h1 g1 act view (GetsGuard x) = search (sims, evsims, sim_reply, follows, guards_asked, keeps_eval, base, under, law) depth 16
-  at_audition_live again x1' h1 g1 act view (Asks a) = search (sims, evsims, sim_verdict, follows, keeps_eval, base, under, law) depth 16
-  at_audition_live again x1' h1 g1 act view NoAuditionAsk = search (sims, evsims, keeps_eval, base, under, law) depth 16
+  at_audition_live again x1' h1 g1 act view GetsForm = search (sims, evsims, sim_build, keeps_eval, base, under, law, sim_reply, follows, guards_asked, sim_verdict) depth 16
+  at_audition_live again x1' h1 g1 act view other = search (sims, evsims, sim_build, keeps_eval, base, under, law, sim_reply, follows, guards_asked, sim_verdict) depth 16
 
   sim_audition_live : (x1 : Caller N) (x1' : Caller M) → SameCaller f Fits x1 x1' → GoodCaller (Grows Fits) x1' → (x2 : ℕ) → (x3 : View N) (x3' : View M) → x3' ≡ maps.view f x3 → (x4 : AuditionAsk N) (x4' : AuditionAsk M) → x4' ≡ evals.audition_ask f x4 → Sim f Fits (maps.value f) (calls.audition_live K tree x1 x2 x3 x4) (calls.audition_live L tree x1' x2 x3' x4')
   sim_audition_live x1 x1' h1 g1 x2 x3 x3' e3 x4 x4' e4 = rw (e3, e4) (at_audition_live x1 x1' h1 g1 x2 x3 x4)
@@ -240,9 +237,8 @@ module _ {N M W V : Type 0} (f : N → M) (w : W → V) (K : Naming N W) (L : Na
 
   at_resolver_answer : (x1 : N) → (x2 : ResolverAsk N) → Sim f Fits (maps.value f) (calls.resolver_answer K tree x1 x2) (calls.resolver_answer L tree (f x1) (evals.resolver_ask f x2))
   unfolding calls.resolver_answer
-  at_resolver_answer p (Resolves x) = search (sims, evsims, sim_where_unresolved, sim_resolve, standings, keeps_eval, base, under, law) depth 16
-  at_resolver_answer p (Smashes x) = search (sims, evsims, sim_smash, follows, keeps_eval, base, under, law) depth 16
-  at_resolver_answer p NoResolverAsk = search (sims, evsims, keeps_eval, base, under, law) depth 16
+  at_resolver_answer p (Resolves x) = search (sims, evsims, sim_where_unresolved, sim_resolve, standings, keeps_eval, base, under, law, sim_smash, follows) depth 16
+  at_resolver_answer p other = search (sims, evsims, sim_where_unresolved, sim_resolve, standings, keeps_eval, base, under, law, sim_smash, follows) depth 16
 
   sim_resolver_answer : (x1 : N) (x1' : M) → x1' ≡ f x1 → (x2 : ResolverAsk N) (x2' : ResolverAsk M) → x2' ≡ evals.resolver_ask f x2 → Sim f Fits (maps.value f) (calls.resolver_answer K tree x1 x2) (calls.resolver_answer L tree x1' x2')
   sim_resolver_answer x1 x1' e1 x2 x2' e2 = rw (e1, e2) (at_resolver_answer x1 x2)
@@ -310,19 +306,16 @@ module _ {N M W V : Type 0} (f : N → M) (w : W → V) (K : Naming N W) (L : Na
 
   at_thing_answer : (x1 : Caller N) (x1' : Caller M) → SameCaller f Fits x1 x1' → GoodCaller (Grows Fits) x1' → (x2 : ℕ) → (x3 : ℕ) → (x4 : Thing N) → (x5 : Words) → (x6 : List (Value N)) → Sim f Fits (maps.value f) (calls.thing_answer K tree x1 x2 x3 x4 x5 x6) (calls.thing_answer L tree x1' x2 x3 (maps.thing f x4) x5 (map (maps.value f) x6))
   unfolding calls.thing_answer
-  at_thing_answer again x1' h1 g1 act i (Ejector live) verb args = search (sims, evsims, sim_ejector_answer, ejector_ask_map, keeps_eval, base, under, law) depth 16
-  at_thing_answer again x1' h1 g1 act i (Audition live view) verb args = search (sims, evsims, sim_audition_answer, audition_ask_map, keeps_eval, base, under, law) depth 16
-  at_thing_answer again x1' h1 g1 act i (Resolver p) verb args = search (sims, evsims, sim_resolver_answer, resolver_ask_map, keeps_eval, base, under, law) depth 16
-  at_thing_answer again x1' h1 g1 act i (Made node caught stamps) verb args = search (sims, evsims, keeps_eval, base, under, law) depth 16
+  at_thing_answer again x1' h1 g1 act i (Ejector live) verb args = search (sims, evsims, sim_ejector_answer, ejector_ask_map, keeps_eval, base, under, law, sim_audition_answer, audition_ask_map, sim_resolver_answer, resolver_ask_map) depth 16
+  at_thing_answer again x1' h1 g1 act i other verb args = search (sims, evsims, sim_ejector_answer, ejector_ask_map, keeps_eval, base, under, law, sim_audition_answer, audition_ask_map, sim_resolver_answer, resolver_ask_map) depth 16
 
   sim_thing_answer : (x1 : Caller N) (x1' : Caller M) → SameCaller f Fits x1 x1' → GoodCaller (Grows Fits) x1' → (x2 : ℕ) → (x3 : ℕ) → (x4 : Thing N) (x4' : Thing M) → x4' ≡ maps.thing f x4 → (x5 : Words) → (x6 : List (Value N)) (x6' : List (Value M)) → x6' ≡ map (maps.value f) x6 → Sim f Fits (maps.value f) (calls.thing_answer K tree x1 x2 x3 x4 x5 x6) (calls.thing_answer L tree x1' x2 x3 x4' x5 x6')
   sim_thing_answer x1 x1' h1 g1 x2 x3 x4 x4' e4 x5 x6 x6' e6 = rw (e4, e6) (at_thing_answer x1 x1' h1 g1 x2 x3 x4 x5 x6)
 
   at_call_thing : (x1 : Evaluator N) (x1' : Evaluator M) → SameEvaluator f Fits x1 x1' → GoodEvaluator (Grows Fits) x1' → (x2 : Caller N) (x2' : Caller M) → SameCaller f Fits x2 x2' → GoodCaller (Grows Fits) x2' → (x3 : ℕ) → (x4 : Value N) → (x5 : ℕ) → (x6 : Option (Thing N)) → (x7 : Words) → (x8 : List (Value N)) → Sim f Fits (maps.value f) (calls.call_thing K tree x1 x2 x3 x4 x5 x6 x7 x8) (calls.call_thing L tree x1' x2' x3 (maps.value f x4) x5 (option_map (maps.thing f) x6) x7 (map (maps.value f) x8))
   unfolding calls.call_thing
-  at_call_thing rec rec' good grow again x2' h2 g2 act x i None verb args = search (sims, evsims, keeps_eval, base, under, law) depth 16
-  at_call_thing rec rec' good grow again x2' h2 g2 act x i (Some (Made node caught stamps)) verb args = search (sims, evsims, sim_ended, sim_run_object, keeps_eval, base, under, law) depth 16
-  at_call_thing rec rec' good grow again x2' h2 g2 act x i (Some t) verb args = search (sims, evsims, sim_with_lines, sim_thing_answer, keeps_eval, base, under, law) depth 16
+  at_call_thing rec rec' good grow again x2' h2 g2 act x i (Some (Made node caught stamps)) verb args = search (sims, evsims, keeps_eval, base, under, law, sim_ended, sim_run_object, sim_with_lines, sim_thing_answer) depth 16
+  at_call_thing rec rec' good grow again x2' h2 g2 act x i other verb args = search (sims, evsims, keeps_eval, base, under, law, sim_ended, sim_run_object, sim_with_lines, sim_thing_answer) depth 16
 
   sim_call_thing : (x1 : Evaluator N) (x1' : Evaluator M) → SameEvaluator f Fits x1 x1' → GoodEvaluator (Grows Fits) x1' → (x2 : Caller N) (x2' : Caller M) → SameCaller f Fits x2 x2' → GoodCaller (Grows Fits) x2' → (x3 : ℕ) → (x4 : Value N) (x4' : Value M) → x4' ≡ maps.value f x4 → (x5 : ℕ) → (x6 : Option (Thing N)) (x6' : Option (Thing M)) → x6' ≡ option_map (maps.thing f) x6 → (x7 : Words) → (x8 : List (Value N)) (x8' : List (Value M)) → x8' ≡ map (maps.value f) x8 → Sim f Fits (maps.value f) (calls.call_thing K tree x1 x2 x3 x4 x5 x6 x7 x8) (calls.call_thing L tree x1' x2' x3 x4' x5 x6' x7 x8')
   sim_call_thing x1 x1' h1 g1 x2 x2' h2 g2 x3 x4 x4' e4 x5 x6 x6' e6 x7 x8 x8' e8 = rw (e4, e6, e8) (at_call_thing x1 x1' h1 g1 x2 x2' h2 g2 x3 x4 x5 x6 x7 x8)
@@ -373,9 +366,8 @@ module _ {N M W V : Type 0} (f : N → M) (w : W → V) (K : Naming N W) (L : Na
 
   at_turn_thing : (x1 : Evaluator N) (x1' : Evaluator M) → SameEvaluator f Fits x1 x1' → GoodEvaluator (Grows Fits) x1' → (x2 : ℕ) → (x3 : ℕ) → (x4 : Option (Thing N)) → (x5 : Words) → (x6 : List (Value N)) → Sim f Fits (maps.value f) (calls.turn_thing K tree x1 x2 x3 x4 x5 x6) (calls.turn_thing L tree x1' x2 x3 (option_map (maps.thing f) x4) x5 (map (maps.value f) x6))
   unfolding calls.turn_thing
-  at_turn_thing rec rec' good grow act i None verb args = search (sims, evsims, keeps_eval, base, under, law) depth 16
-  at_turn_thing rec rec' good grow act i (Some (Made node caught stamps)) verb args = search (sims, evsims, sim_run_object, keeps_eval, base, under, law) depth 16
-  at_turn_thing rec rec' good grow act i (Some t) verb args = search (sims, evsims, sim_thing_answer, sim_call, keeps_eval, base, under, law) depth 16
+  at_turn_thing rec rec' good grow act i (Some (Made node caught stamps)) verb args = search (sims, evsims, keeps_eval, base, under, law, sim_run_object, sim_thing_answer, sim_call) depth 16
+  at_turn_thing rec rec' good grow act i other verb args = search (sims, evsims, keeps_eval, base, under, law, sim_run_object, sim_thing_answer, sim_call) depth 16
 
   sim_turn_thing : (x1 : Evaluator N) (x1' : Evaluator M) → SameEvaluator f Fits x1 x1' → GoodEvaluator (Grows Fits) x1' → (x2 : ℕ) → (x3 : ℕ) → (x4 : Option (Thing N)) (x4' : Option (Thing M)) → x4' ≡ option_map (maps.thing f) x4 → (x5 : Words) → (x6 : List (Value N)) (x6' : List (Value M)) → x6' ≡ map (maps.value f) x6 → Sim f Fits (maps.value f) (calls.turn_thing K tree x1 x2 x3 x4 x5 x6) (calls.turn_thing L tree x1' x2 x3 x4' x5 x6')
   sim_turn_thing x1 x1' h1 g1 x2 x3 x4 x4' e4 x5 x6 x6' e6 = rw (e4, e6) (at_turn_thing x1 x1' h1 g1 x2 x3 x4 x5 x6)
@@ -489,8 +481,7 @@ module _ {N M W V : Type 0} (f : N → M) (w : W → V) (K : Naming N W) (L : Na
   at_choose : (x1 : Evaluator N) (x1' : Evaluator M) → SameEvaluator f Fits x1 x1' → GoodEvaluator (Grows Fits) x1' → (x2 : ℕ) → (x3 : ℕ) → (x4 : Scope N) → (x5 : Scope N) → (x6 : Value N) → Sim f Fits (evals.answer f) (eval.choose K tree x1 x2 x3 x4 x5 x6) (eval.choose L tree x1' x2 x3 (maps.scope f x4) (maps.scope f x5) (maps.value f x6))
   unfolding eval.choose
   at_choose rec rec' good grow a b here inner (Flag true) = search (sims, evsims, sim_answered, good.expression, grow.expression, keeps_eval, base, under, law) depth 16
-  at_choose rec rec' good grow a b here inner (Flag false) = search (sims, evsims, sim_answered, good.expression, grow.expression, keeps_eval, base, under, law) depth 16
-  at_choose rec rec' good grow a b here inner _ = search (sims, evsims, keeps_eval, base, under, law) depth 16
+  at_choose rec rec' good grow a b here inner other = search (sims, evsims, sim_answered, good.expression, grow.expression, keeps_eval, base, under, law) depth 16
 
   sim_choose : (x1 : Evaluator N) (x1' : Evaluator M) → SameEvaluator f Fits x1 x1' → GoodEvaluator (Grows Fits) x1' → (x2 : ℕ) → (x3 : ℕ) → (x4 : Scope N) (x4' : Scope M) → x4' ≡ maps.scope f x4 → (x5 : Scope N) (x5' : Scope M) → x5' ≡ maps.scope f x5 → (x6 : Value N) (x6' : Value M) → x6' ≡ maps.value f x6 → Sim f Fits (evals.answer f) (eval.choose K tree x1 x2 x3 x4 x5 x6) (eval.choose L tree x1' x2 x3 x4' x5' x6')
   sim_choose x1 x1' h1 g1 x2 x3 x4 x4' e4 x5 x5' e5 x6 x6' e6 = rw (e4, e5, e6) (at_choose x1 x1' h1 g1 x2 x3 x4 x5 x6)
@@ -541,26 +532,6 @@ module _ {N M W V : Type 0} (f : N → M) (w : W → V) (K : Naming N W) (L : Na
   sim_write_bound : (x1 : Evaluator N) (x1' : Evaluator M) → SameEvaluator f Fits x1 x1' → GoodEvaluator (Grows Fits) x1' → (x2 : ℕ) → (x3 : Option (Bound N)) (x3' : Option (Bound M)) → x3' ≡ option_map (maps.bound f) x3 → (x4 : Value N) (x4' : Value M) → x4' ≡ maps.value f x4 → Sim f Fits (maps.value f) (eval.write_bound K tree x1 x2 x3 x4) (eval.write_bound L tree x1' x2 x3' x4')
   sim_write_bound x1 x1' h1 g1 x2 x3 x3' e3 x4 x4' e4 = rw (e3, e4) (at_write_bound x1 x1' h1 g1 x2 x3 x4)
 
-  at_step : (x1 : Evaluator N) (x1' : Evaluator M) → SameEvaluator f Fits x1 x1' → GoodEvaluator (Grows Fits) x1' → (x2 : ℕ) → (x3 : Node) → (x4 : Scope N) → Sim f Fits (evals.answer f) (eval.step K tree x1 x2 x3 x4) (eval.step L tree x1' x2 x3 (maps.scope f x4))
-  unfolding eval.step
-  at_step rec rec' good grow id (Lit l) here = search (sims, evsims, sim_answered, literal_map, keeps_eval, base, under, law) depth 16
-  at_step rec rec' good grow id (Noun x) here = search (sims, evsims, sim_read_bound, sim_answered, bound_map, keeps_eval, base, under, law) depth 16
-  at_step rec rec' good grow id (Set x e) here = search (sims, evsims, sim_write_bound, sim_answered, good.expression, grow.expression, bound_map, keeps_eval, base, under, law) depth 16
-  at_step rec rec' good grow id (Def p exit e) here = search (sims, evsims, sim_exit_of, sim_answered, good.expression, good.pattern, grow.expression, grow.pattern, keeps_eval, base, under, law) depth 16
-  at_step rec rec' good grow id (Call r verb args) here = search (sims, evsims, sim_all_of, sim_call, sim_answered, good.expression, grow.expression, keeps_eval, base, under, law) depth 16
-  at_step rec rec' good grow id (Sequence es) here = search (sims, evsims, sim_last_of, keeps_eval, base, under, law) depth 16
-  at_step rec rec' good grow id (If t a b) here = search (sims, evsims, sim_choose, good.expression, grow.expression, follows, keeps_eval, base, under, law) depth 16
-  at_step rec rec' good grow id (Escape p body c) here = search (sims, evsims, sim_new_ejector, sim_escaped, good.expression, good.pattern, grow.expression, grow.pattern, objects, object_refs, keeps_eval, base, under, law) depth 16
-  at_step rec rec' good grow id (Try body p h) here = search (sims, evsims, sim_tried, good.expression, grow.expression, keeps_eval, base, under, law) depth 16
-  at_step rec rec' good grow id (Finally a b) here = search (sims, evsims, sim_at_last, good.expression, grow.expression, keeps_eval, base, under, law) depth 16
-  at_step rec rec' good grow id (Hide e) here = search (sims, evsims, sim_answered, good.expression, grow.expression, keeps_eval, base, under, law) depth 16
-  at_step rec rec' good grow id (MatchBind e p) here = search (sims, evsims, sim_new_ejector, sim_match_ended, good.expression, good.pattern, grow.expression, grow.pattern, objects, object_refs, keeps_eval, base, under, law) depth 16
-  at_step rec rec' good grow id (Object p auditors members) here = search (sims, evsims, sim_all_of, sim_make_object, sim_call, keeps_eval, base, under, law) depth 16
-  at_step rec rec' good grow id _ here = search (sims, evsims, keeps_eval, base, under, law) depth 16
-
-  sim_step : (x1 : Evaluator N) (x1' : Evaluator M) → SameEvaluator f Fits x1 x1' → GoodEvaluator (Grows Fits) x1' → (x2 : ℕ) → (x3 : Node) → (x4 : Scope N) (x4' : Scope M) → x4' ≡ maps.scope f x4 → Sim f Fits (evals.answer f) (eval.step K tree x1 x2 x3 x4) (eval.step L tree x1' x2 x3 x4')
-  sim_step x1 x1' h1 g1 x2 x3 x4 x4' e4 = rw (e4) (at_step x1 x1' h1 g1 x2 x3 x4)
-
   at_guard_of : (x1 : Evaluator N) (x1' : Evaluator M) → SameEvaluator f Fits x1 x1' → GoodEvaluator (Grows Fits) x1' → (x2 : Option ℕ) → (x3 : Scope N) → Sim f Fits (evals.answer f) (eval.guard_of K tree x1 x2 x3) (eval.guard_of L tree x1' x2 (maps.scope f x3))
   unfolding eval.guard_of scopes.any_guard
   at_guard_of rec rec' good grow None here = search (sims, evsims, sim_answered, keeps_eval, base, under, law) depth 16
@@ -584,14 +555,21 @@ module _ {N M W V : Type 0} (f : N → M) (w : W → V) (K : Naming N W) (L : Na
   sim_bind_items : (x1 : Evaluator N) (x1' : Evaluator M) → SameEvaluator f Fits x1 x1' → GoodEvaluator (Grows Fits) x1' → (x2 : List ℕ) → (x3 : Value N) (x3' : Value M) → x3' ≡ maps.value f x3 → (x4 : Scope N) (x4' : Scope M) → x4' ≡ maps.scope f x4 → (x5 : Value N) (x5' : Value M) → x5' ≡ maps.value f x5 → Sim f Fits (maps.scope f) (eval.bind_items K tree x1 x2 x3 x4 x5) (eval.bind_items L tree x1' x2 x3' x4' x5')
   sim_bind_items x1 x1' h1 g1 x2 x3 x3' e3 x4 x4' e4 x5 x5' e5 = rw (e3, e4, e5) (at_bind_items x1 x1' h1 g1 x2 x3 x4 x5)
 
+  -- what the nodes of the language are put together from: a node that is put together so too is no more text here
+  ruleset nodes = (sims, evsims, sim_answered, sim_read_bound, sim_write_bound, sim_failed, sim_handed, sim_coerce, sim_make_list, sim_leave, sim_bind_all, sim_new_ejector, sim_call, sim_make_object, sim_all_of, sim_last_of, sim_exit_of, sim_caught_by, sim_escaped, sim_handles, sim_tried, sim_at_last, sim_choose, sim_unmatched, sim_not_matched, sim_match_ended, sim_guard_of, sim_bind_list, sim_bind_items, literal_map, bound_map, with_noun_map, fixed_noun, slot_noun, follows, objects, object_refs, keeps_eval, base, under)
+
+  at_step : (x1 : Evaluator N) (x1' : Evaluator M) → SameEvaluator f Fits x1 x1' → GoodEvaluator (Grows Fits) x1' → (x2 : ℕ) → (x3 : Node) → (x4 : Scope N) → Sim f Fits (evals.answer f) (eval.step K tree x1 x2 x3 x4) (eval.step L tree x1' x2 x3 (maps.scope f x4))
+  unfolding eval.step
+  at_step rec rec' good grow id (Lit l) here = search (nodes, good.expression, good.pattern, grow.expression, grow.pattern, law) depth 16
+  at_step rec rec' good grow id other here = search (nodes, good.expression, good.pattern, grow.expression, grow.pattern, law) depth 16
+
+  sim_step : (x1 : Evaluator N) (x1' : Evaluator M) → SameEvaluator f Fits x1 x1' → GoodEvaluator (Grows Fits) x1' → (x2 : ℕ) → (x3 : Node) → (x4 : Scope N) (x4' : Scope M) → x4' ≡ maps.scope f x4 → Sim f Fits (evals.answer f) (eval.step K tree x1 x2 x3 x4) (eval.step L tree x1' x2 x3 x4')
+  sim_step x1 x1' h1 g1 x2 x3 x4 x4' e4 = rw (e4) (at_step x1 x1' h1 g1 x2 x3 x4)
+
   at_bind_step : (x1 : Evaluator N) (x1' : Evaluator M) → SameEvaluator f Fits x1 x1' → GoodEvaluator (Grows Fits) x1' → (x2 : Node) → (x3 : Value N) → (x4 : Value N) → (x5 : Scope N) → Sim f Fits (maps.scope f) (eval.bind_step K tree x1 x2 x3 x4 x5) (eval.bind_step L tree x1' x2 (maps.value f x3) (maps.value f x4) (maps.scope f x5))
   unfolding eval.bind_step
-  at_bind_step rec rec' good grow (Final x g) v j here = search (sims, evsims, sim_guard_of, sim_coerce, sim_call, with_noun_map, fixed_noun, slot_noun, keeps_eval, base, under, law) depth 16
-  at_bind_step rec rec' good grow (Var x g) v j here = search (sims, evsims, sim_guard_of, sim_coerce, sim_call, with_noun_map, fixed_noun, slot_noun, keeps_eval, base, under, law) depth 16
-  at_bind_step rec rec' good grow (Any g) v j here = search (sims, evsims, sim_guard_of, sim_coerce, sim_call, keeps_eval, base, under, law) depth 16
-  at_bind_step rec rec' good grow (ListPattern ps) v j here = search (sims, evsims, sim_bind_items, follows, keeps_eval, base, under, law) depth 16
-  at_bind_step rec rec' good grow (Via e p) v j here = search (sims, evsims, sim_handed, sim_call, good.expression, good.pattern, grow.expression, grow.pattern, keeps_eval, base, under, law) depth 16
-  at_bind_step rec rec' good grow _ v j here = search (sims, evsims, keeps_eval, base, under, law) depth 16
+  at_bind_step rec rec' good grow (Any g) v j here = search (nodes, good.expression, good.pattern, grow.expression, grow.pattern, law) depth 16
+  at_bind_step rec rec' good grow other v j here = search (nodes, good.expression, good.pattern, grow.expression, grow.pattern, law) depth 16
 
   sim_bind_step : (x1 : Evaluator N) (x1' : Evaluator M) → SameEvaluator f Fits x1 x1' → GoodEvaluator (Grows Fits) x1' → (x2 : Node) → (x3 : Value N) (x3' : Value M) → x3' ≡ maps.value f x3 → (x4 : Value N) (x4' : Value M) → x4' ≡ maps.value f x4 → (x5 : Scope N) (x5' : Scope M) → x5' ≡ maps.scope f x5 → Sim f Fits (maps.scope f) (eval.bind_step K tree x1 x2 x3 x4 x5) (eval.bind_step L tree x1' x2 x3' x4' x5')
   sim_bind_step x1 x1' h1 g1 x2 x3 x3' e3 x4 x4' e4 x5 x5' e5 = rw (e3, e4, e5) (at_bind_step x1 x1' h1 g1 x2 x3 x4 x5)

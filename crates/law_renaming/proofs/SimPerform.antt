@@ -4,20 +4,20 @@ use Rattle.std.specs.Prelude.{slice_get, option_map, nat_le}
 use Rattle.def_machine.specs.Values.{Words, Value, Flag, Text, Prim, Items, Ref, Naming}
 use Rattle.def_machine.specs.State.{Bound, Fixed, Slot, Binding, Scope, Cell, FreeName, Thing, Vat, Done, Gives, Throws, Ejects, Stops, Act, ◌>>=◌, ◌>>◌, end_by, ending, for_some, spend, ObjectMade}
 use Rattle.def_machine.specs.Native as native
-use Rattle.def_machine.specs.Native.{list_at, Reply, Says, Writes, Lists, Iterates, Fails, Guard, Primitive, RefTest, Asked, MakesList, Ranges, Same, Compares, Loops, SendsTo, CallsTo, MakesPromise, Breaks, Tells, Whens, ThrowsIt, IsStamped, Coerces, AddsNull, NoMethod}
+use Rattle.def_machine.specs.Native.{list_at, Reply, Writes, Guard, RefTest, Asked, MakesList}
 use Rattle.def_machine.specs.Refs as refs
-use Rattle.def_machine.specs.Refs.{Place, Near, Mine, Away, Gone, has_room}
+use Rattle.def_machine.specs.Refs.{Place, Near, has_room}
 use Rattle.def_machine.specs.Scopes as scopes
 use Rattle.def_machine.specs.Perform as perform
 use Rattle.def_machine.specs.Calls as calls
-use Rattle.def_machine.specs.Scopes.{Answer, Answers, Evaluator, Caller, Body, Case, AuditionAsk, GetsForm, GetsGuard, Asks, NoAuditionAsk, ResolverAsk, Resolves, Smashes, NoResolverAsk}
+use Rattle.def_machine.specs.Scopes.{Answer, Answers, Evaluator, Caller}
 use Rattle.def_kernel.specs.declared.node.Node.{Node}
 use Rattle.def_machine.specs.Maps as maps
 use Rattle.law_renaming.specs.EvalMaps as evals
 use Rattle.law_machine.specs.Steps.{After}
 use Rattle.law_machine.proofs.Keeps.{Keeps, IsKept, IsKeptUnder}
 use Rattle.law_machine.proofs.EvalKeeps as grown
-use Rattle.law_machine.proofs.EvalKeeps.{GoodCaller, GoodEvaluator, keeps_eval}
+use Rattle.law_machine.proofs.EvalKeeps.{GoodCaller, keeps_eval}
 use Rattle.law_renaming.proofs.Sim.{Books, books, Renames, Sim, FitsAfter, Grows, grows, grows_under, id, sims, sim_bind, sim_some, sim_spend, sim_if, length_map, map_get}
 use Rattle.law_renaming.proofs.SimRefs.{same_follow, same_place, same_place_of, same_standing, sim_settle as settle_same, sim_resolve as resolve_same, sim_send as send_same, sim_send_only as send_only_same, sim_react as react_same, list_at_map, room_map, behind_map}
 use Rattle.law_renaming.proofs.NativeMaps.{data_map, safe_map, range_map, order_map, compared_map, null_reply_map}
@@ -293,9 +293,8 @@ module _ {N M W V : Type 0} (f : N → M) (w : W → V) (K : Naming N W) (L : Na
 
   at_read_bound : (x1 : ℕ) → (x2 : Option (Bound N)) → (x3 : Words) → Sim f Fits (maps.value f) (scopes.read_bound x1 x2 x3) (scopes.read_bound x1 (option_map (maps.bound f) x2) x3)
   unfolding scopes.read_bound
-  at_read_bound act (Some (Fixed v g)) x = search (sims, evsims, keeps_eval, base, under, law) depth 16
-  at_read_bound act (Some (Slot k)) x = search (sims, evsims, sim_read_cell, cells_here, keeps_eval, base, under, law) depth 16
-  at_read_bound act None x = search (sims, evsims, safe_map, keeps_eval, base, under, law) depth 16
+  at_read_bound act (Some (Fixed v g)) x = search (sims, evsims, keeps_eval, base, under, law, sim_read_cell, cells_here, safe_map) depth 16
+  at_read_bound act other x = search (sims, evsims, keeps_eval, base, under, law, sim_read_cell, cells_here, safe_map) depth 16
 
   pub sim_read_bound : (x1 : ℕ) → (x2 : Option (Bound N)) (x2' : Option (Bound M)) → x2' ≡ option_map (maps.bound f) x2 → (x3 : Words) → Sim f Fits (maps.value f) (scopes.read_bound x1 x2 x3) (scopes.read_bound x1 x2' x3)
   sim_read_bound x1 x2 x2' e2 x3 = rw (e2) (at_read_bound x1 x2 x3)
@@ -361,9 +360,8 @@ module _ {N M W V : Type 0} (f : N → M) (w : W → V) (K : Naming N W) (L : Na
 
   at_coerce : (x1 : Caller N) (x1' : Caller M) → SameCaller f Fits x1 x1' → GoodCaller (Grows Fits) x1' → (x2 : ℕ) → (x3 : Value N) → (x4 : Value N) → (x5 : Value N) → Sim f Fits (maps.value f) (perform.coerce K tree x1 x2 x3 x4 x5) (perform.coerce L tree x1' x2 (maps.value f x3) (maps.value f x4) (maps.value f x5))
   unfolding perform.coerce
-  at_coerce again x1' h1 g1 act (Prim n) j x = search (sims, evsims, sim_coerce_native, keeps_eval, base, under, law) depth 16
-  at_coerce again x1' h1 g1 act (Ref n) j x = search (sims, evsims, sim_coerce_near, ref_place, keeps_eval, base, under, law) depth 16
-  at_coerce again x1' h1 g1 act _ j x = search (sims, evsims, keeps_eval, base, under, law) depth 16
+  at_coerce again x1' h1 g1 act (Prim n) j x = search (sims, evsims, sim_coerce_native, keeps_eval, base, under, law, sim_coerce_near, ref_place) depth 16
+  at_coerce again x1' h1 g1 act other j x = search (sims, evsims, sim_coerce_native, keeps_eval, base, under, law, sim_coerce_near, ref_place) depth 16
 
   pub sim_coerce : (x1 : Caller N) (x1' : Caller M) → SameCaller f Fits x1 x1' → GoodCaller (Grows Fits) x1' → (x2 : ℕ) → (x3 : Value N) (x3' : Value M) → x3' ≡ maps.value f x3 → (x4 : Value N) (x4' : Value M) → x4' ≡ maps.value f x4 → (x5 : Value N) (x5' : Value M) → x5' ≡ maps.value f x5 → Sim f Fits (maps.value f) (perform.coerce K tree x1 x2 x3 x4 x5) (perform.coerce L tree x1' x2 x3' x4' x5')
   sim_coerce x1 x1' h1 g1 x2 x3 x3' e3 x4 x4' e4 x5 x5' e5 = rw (e3, e4, e5) (at_coerce x1 x1' h1 g1 x2 x3 x4 x5)
@@ -406,10 +404,8 @@ module _ {N M W V : Type 0} (f : N → M) (w : W → V) (K : Naming N W) (L : Na
 
   at_reply : (x1 : Caller N) (x1' : Caller M) → SameCaller f Fits x1 x1' → GoodCaller (Grows Fits) x1' → (x2 : ℕ) → (x3 : Reply N) → Sim f Fits (maps.value f) (perform.reply K tree x1 x2 x3) (perform.reply L tree x1' x2 (evals.reply f x3))
   unfolding perform.reply
-  at_reply again x1' h1 g1 act (Writes t) = search (sims, evsims, sim_write_text, keeps_eval, base, under, law) depth 16
-  at_reply again x1' h1 g1 act (Lists vs) = search (sims, evsims, sim_make_list, keeps_eval, base, under, law) depth 16
-  at_reply again x1' h1 g1 act (Iterates o vs) = search (sims, evsims, sim_iterate, keeps_eval, base, under, law) depth 16
-  at_reply again x1' h1 g1 act other = search (sims, evsims, keeps_eval, base, under, law) depth 16
+  at_reply again x1' h1 g1 act (Writes t) = search (sims, evsims, sim_write_text, keeps_eval, base, under, law, sim_make_list, sim_iterate) depth 16
+  at_reply again x1' h1 g1 act other = search (sims, evsims, sim_write_text, keeps_eval, base, under, law, sim_make_list, sim_iterate) depth 16
 
   pub sim_reply : (x1 : Caller N) (x1' : Caller M) → SameCaller f Fits x1 x1' → GoodCaller (Grows Fits) x1' → (x2 : ℕ) → (x3 : Reply N) (x3' : Reply M) → x3' ≡ evals.reply f x3 → Sim f Fits (maps.value f) (perform.reply K tree x1 x2 x3) (perform.reply L tree x1' x2 x3')
   sim_reply x1 x1' h1 g1 x2 x3 x3' e3 = rw (e3) (at_reply x1 x1' h1 g1 x2 x3)
@@ -480,8 +476,7 @@ module _ {N M W V : Type 0} (f : N → M) (w : W → V) (K : Naming N W) (L : Na
   at_after_turn : (x1 : Act N (Value N)) (x1' : Act M (Value M)) → Sim f Fits (maps.value f) x1 x1' → Keeps (Grows Fits) x1' → (x2 : Value N) → Sim f Fits (maps.value f) (perform.after_turn K tree x1 x2) (perform.after_turn L tree x1' (maps.value f x2))
   unfolding perform.after_turn
   at_after_turn more x1' h1 g1 (Flag true) = search (sims, evsims, keeps_eval, base, under, law) depth 16
-  at_after_turn more x1' h1 g1 (Flag false) = search (sims, evsims, keeps_eval, base, under, law) depth 16
-  at_after_turn more x1' h1 g1 _ = search (sims, evsims, keeps_eval, base, under, law) depth 16
+  at_after_turn more x1' h1 g1 other = search (sims, evsims, keeps_eval, base, under, law) depth 16
 
   sim_after_turn : (x1 : Act N (Value N)) (x1' : Act M (Value M)) → Sim f Fits (maps.value f) x1 x1' → Keeps (Grows Fits) x1' → (x2 : Value N) (x2' : Value M) → x2' ≡ maps.value f x2 → Sim f Fits (maps.value f) (perform.after_turn K tree x1 x2) (perform.after_turn L tree x1' x2')
   sim_after_turn x1 x1' h1 g1 x2 x2' e2 = rw (e2) (at_after_turn x1 x1' h1 g1 x2)
@@ -503,22 +498,8 @@ module _ {N M W V : Type 0} (f : N → M) (w : W → V) (K : Naming N W) (L : Na
 
   pub at_perform : (x1 : Caller N) (x1' : Caller M) → SameCaller f Fits x1 x1' → GoodCaller (Grows Fits) x1' → (x2 : ℕ) → (x3 : Asked N) → Sim f Fits (maps.value f) (perform.perform K tree x1 x2 x3) (perform.perform L tree x1' x2 (evals.asked f x3))
   unfolding perform.perform
-  at_perform again x1' h1 g1 act (MakesList vs) = search (sims, evsims, sim_make_list, keeps_eval, base, under, law) depth 16
-  at_perform again x1' h1 g1 act (Ranges last a b) = search (sims, evsims, sim_reply, follows, ranges, keeps_eval, base, under, law) depth 16
-  at_perform again x1' h1 g1 act (Same a b) = search (sims, evsims, sim_reply, equals, keeps_eval, base, under, law) depth 16
-  at_perform again x1' h1 g1 act (Compares test a b) = search (sims, evsims, sim_reply, follows, compares, keeps_eval, base, under, law) depth 16
-  at_perform again x1' h1 g1 act (Loops o) = search (sims, evsims, sim_loop, keeps_eval, base, under, law) depth 16
-  at_perform again x1' h1 g1 act (SendsTo only x v l) = search (sims, evsims, sim_send_with, follows, keeps_eval, base, under, law) depth 16
-  at_perform again x1' h1 g1 act (CallsTo x v l) = search (sims, evsims, sim_call_with, follows, keeps_eval, base, under, law) depth 16
-  at_perform again x1' h1 g1 act MakesPromise = search (sims, evsims, sim_make_promise, keeps_eval, base, under, law) depth 16
-  at_perform again x1' h1 g1 act (Breaks t) = search (sims, evsims, sim_reply, follows, breaks, keeps_eval, base, under, law) depth 16
-  at_perform again x1' h1 g1 act (Tells test x) = search (sims, evsims, sim_reply, follows, tests, keeps_eval, base, under, law) depth 16
-  at_perform again x1' h1 g1 act (Whens x o) = search (sims, evsims, sim_when_resolved, keeps_eval, base, under, law) depth 16
-  at_perform again x1' h1 g1 act (ThrowsIt t) = search (sims, evsims, sim_reply, follows, throws, keeps_eval, base, under, law) depth 16
-  at_perform again x1' h1 g1 act (IsStamped a x) = search (sims, evsims, follows, stampeds, keeps_eval, base, under, law) depth 16
-  at_perform again x1' h1 g1 act (Coerces g x j) = search (sims, evsims, sim_native_coerce, keeps_eval, base, under, law) depth 16
-  at_perform again x1' h1 g1 act (AddsNull g) = search (sims, evsims, sim_reply, follows, nulls, keeps_eval, base, under, law) depth 16
-  at_perform again x1' h1 g1 act NoMethod = search (sims, evsims, keeps_eval, base, under, law) depth 16
+  at_perform again x1' h1 g1 act (MakesList vs) = search (sims, evsims, sim_make_list, keeps_eval, base, under, law, sim_reply, follows, ranges, equals, compares, sim_loop, sim_send_with, sim_call_with, sim_make_promise, breaks, tests, sim_when_resolved, throws, stampeds, sim_native_coerce, nulls) depth 16
+  at_perform again x1' h1 g1 act other = search (sims, evsims, sim_make_list, keeps_eval, base, under, law, sim_reply, follows, ranges, equals, compares, sim_loop, sim_send_with, sim_call_with, sim_make_promise, breaks, tests, sim_when_resolved, throws, stampeds, sim_native_coerce, nulls) depth 16
 
   sim_perform : (x1 : Caller N) (x1' : Caller M) → SameCaller f Fits x1 x1' → GoodCaller (Grows Fits) x1' → (x2 : ℕ) → (x3 : Asked N) (x3' : Asked M) → x3' ≡ evals.asked f x3 → Sim f Fits (maps.value f) (perform.perform K tree x1 x2 x3) (perform.perform L tree x1' x2 x3')
   sim_perform x1 x1' h1 g1 x2 x3 x3' e3 = rw (e3) (at_perform x1 x1' h1 g1 x2 x3)

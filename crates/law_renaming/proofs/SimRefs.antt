@@ -1,14 +1,13 @@
 -- Two namings: passing, sending, settling and resolving.
 use Rattle.std.proofs.Common.{◌≡◌, ℕ, zero, suc, Bool, true, false, List, [], ◌∷◌, Option, Some, None, refl, ap, length, map, ◌==◌, is_some}
 use Rattle.std.specs.Prelude.{slice_get, option_map, codes}
-use Rattle.def_machine.specs.Values.{Words, Value, Null, Flag, Number, Letter, Text, Prim, Broken, Items, Ref, Naming, Spot, Own, Foreign, NoObject}
-use Rattle.def_machine.specs.State.{Message, Standing, Unsettled, WaitsOn, Viewed, Settled, Known, Passed, Passeds, Plain, AGift, Many, NoMore, More, Vat, Act, each, is_in, enqueue, new_message}
+use Rattle.def_machine.specs.Values.{Words, Value, Text, Broken, Items, Ref, Naming, Spot, Own, Foreign, NoObject}
+use Rattle.def_machine.specs.State.{Message, Standing, WaitsOn, Viewed, Settled, Known, Passed, Passeds, Plain, AGift, Many, NoMore, More, Vat, Act, each, is_in, enqueue, new_message}
 use Rattle.def_machine.specs.Native as native
 use Rattle.def_machine.specs.Native.{list_at}
 use Rattle.def_machine.specs.Refs as refs
-use Rattle.def_machine.specs.Refs.{Place, Near, Mine, Away, Gone, Parcel, standing_in, host_in, own_weight, take_room, room_behind, room_by, room_after, most, highest}
+use Rattle.def_machine.specs.Refs.{Place, Near, Mine, Away, Gone, standing_in, host_in, own_weight, take_room, room_behind, room_by, room_after, most, highest}
 use Rattle.def_machine.specs.Maps as maps
-use Rattle.def_machine.specs.Maps.{coming}
 use Rattle.law_machine.proofs.Keeps.{Keeps, IsKept, IsKeptUnder, keeps_each}
 use Rattle.law_machine.proofs.RefsKeeps.{keeps_refs, keeps_pass_all, keeps_settle_at, keeps_settle, keeps_address_all}
 use Rattle.law_renaming.proofs.Sim.{Books, Renames, Sim, Grows, grows, grows_under, id, sims, sim_message, length_map, map_get}

@@ -1,7 +1,7 @@
 -- The two namings of a vat: its own numbers, and the names that every vat means the same by.
 use Rattle.std.proofs.Common.{◌≡◌, ℕ, zero, suc, Bool, true, false, List, [], ◌∷◌, ◌++◌, Option, Some, None, refl, sym, ap, ◌∙◌, length, map, ◌==◌, ◌&&◌}
 use Rattle.std.specs.Prelude.{slice_get, option_map}
-use Rattle.def_machine.specs.Values.{Name, Msg, Root, Object, Promise, Answer, Gift, same_name, same_reference, Own, Foreign, NoObject, spot_of, Coming, IsRoot, IsOwn, IsAnswer, IsGift, IsLearnt, name_of, Local, Obj, Prom, Far, Mess, Sent, Mailing, IsSent, IsCarried, mail_of, local_spot, same_local, numbering, naming}
+use Rattle.def_machine.specs.Values.{Name, Msg, Root, Object, same_name, same_reference, Own, Foreign, NoObject, spot_of, Coming, IsRoot, name_of, Local, Obj, Prom, Far, Mess, Sent, Mailing, IsSent, IsCarried, mail_of, local_spot, same_local, numbering, naming}
 use Rattle.def_machine.specs.State.{Vat, Known, Act, Done, Gives, Throws, Ejects, Stops}
 use Rattle.std.proofs.lemmas.Bool.{eqb-true, eq-eqb}
 use Rattle.def_machine.specs.Maps as maps

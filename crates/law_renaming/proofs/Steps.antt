@@ -1,7 +1,7 @@
 -- Each kind of step of a vat under its own numbers stands for that step under names.
 use Rattle.std.proofs.Common.{◌≡◌, map}
 use Rattle.def_machine.specs.Values.{Name, numbering, naming}
-use Rattle.def_machine.specs.State.{Done, Gives, Throws, Ejects, Stops}
+use Rattle.def_machine.specs.State.{Done, Gives}
 use Rattle.def_machine.specs.Arrive.{arrive, notice}
 use Rattle.def_machine.specs.Eval.{opening, taking}
 use Rattle.def_machine.specs.Maps as maps

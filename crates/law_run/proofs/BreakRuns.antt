@@ -1,9 +1,9 @@
 -- The laws of broken references in runs, from what no step undoes.
-use Rattle.std.proofs.Common.{◌≡◌, ℕ, ◌≤◌, zero, suc, Bool, true, false, List, [], ◌∷◌, Option, Some, None, refl, length, map, arith}
-use Rattle.def_machine.specs.Values.{Words, Value, Null, Flag, Number, Letter, Text, Prim, Broken, Items, Ref, Name, Root, Object, Promise, Answer, Gift, Sent, Naming, Foreign, NoObject, Own, naming, spot_of, same_name, same_reference}
-use Rattle.def_machine.specs.State.{Known, Standing, Unsettled, WaitsOn, Viewed, Settled, Vat, begun, is_in}
-use Rattle.def_machine.specs.Refs.{entry_of, standing_of, standing_in, follow_at}
-use Rattle.law_machine.specs.Laws.{SettledStays, BrokenStays}
+use Rattle.std.proofs.Common.{◌≡◌, ℕ, ◌≤◌, Bool, true, false, List, [], ◌∷◌, Option, Some, None, refl, length, map, arith}
+use Rattle.def_machine.specs.Values.{Name, Root, Object, Naming, Foreign, naming, spot_of, same_name, same_reference}
+use Rattle.def_machine.specs.State.{Known, Unsettled, Viewed, Vat, begun, is_in}
+use Rattle.def_machine.specs.Refs.{entry_of, standing_of, standing_in}
+use Rattle.law_machine.specs.Laws.{BrokenStays}
 use Rattle.law_machine.specs.Breaks.{still_waits, SettledBreakStays, SeveredObjectStays, FollowedBreakStays, SeveredStays, AtRest}
 use Rattle.law_machine.proofs.StepLaws.{broken_from}
 use Rattle.law_machine.proofs.BreakLaws.{Firm, firm_stays, settled_break, object_break, followed_break, severed_stays}

@@ -3,7 +3,7 @@ use Rattle.std.proofs.Common.{◌≡◌, ℕ, zero, suc, List, [], ◌∷◌, �
 use Rattle.def_machine.specs.Values.{Name}
 use Rattle.def_machine.specs.State.{Note, Vat}
 use Rattle.def_run.specs.World as world
-use Rattle.def_run.specs.World.{Script, Program, Entry, Turn, Carry, CutLink, NoticeLink, World, Run, Goes as Going, Stopped}
+use Rattle.def_run.specs.World.{Script, Program, Entry, CutLink, NoticeLink, World, Run, Goes as Going, Stopped}
 use Rattle.law_run.specs.Moves.{Deed, Move, Opened, Stepped, IsHonest, Follows, Reached, MovesLift, Nobody, AnyNotice, IsReached, HonestRunsAreReached}
 
 abbrev pub NoDeed : World → ℕ → Vat Name → Deed → Type 0

@@ -1,7 +1,7 @@
 -- Each law of runs, from the law of steps.
 use Rattle.std.proofs.Common.{◌≡◌, ℕ, ◌≤◌, List, [], ◌++◌, refl, sym, ap, ◌∙◌, append_assoc, append-nil, arith}
 use Rattle.def_machine.specs.Values.{Name}
-use Rattle.def_machine.specs.State.{Vat, Done, Gives, Throws, Ejects, Stops}
+use Rattle.def_machine.specs.State.{Vat, Done, Gives}
 use Rattle.law_machine.specs.Steps.{does, After}
 use Rattle.law_machine.specs.Laws.{NoMoreFuel, SameObjects, SameResolvers, DeadEjectors, DeadAuditions, SameLists, SameGuards, SameNames, SettledStays, NoticedStays}
 use Rattle.law_machine.proofs.StepLaws.{fuel_stays, objects_stays, resolvers_stays, ejectors_stays, auditions_stays, lists_stays, guards_stays, names_stays, settled_stays, noticed_stays}

@@ -2,13 +2,13 @@
 use Rattle.std.proofs.Common.{◌≡◌, ℕ, Bool, true, false, List, [], ◌∷◌, ◌++◌, Option, Some, None, refl, sym, length}
 use Rattle.std.specs.Prelude.{slice_get}
 use Rattle.def_machine.specs.Values.{Name, Root}
-use Rattle.def_machine.specs.State.{Message, Note, Vat, Done, Gives, Throws, Ejects, Stops}
+use Rattle.def_machine.specs.State.{Message, Note, Vat, Done, Gives}
 use Rattle.def_machine.specs.Eval.{opening}
 use Rattle.def_machine.specs.Arrive.{notice}
 use Rattle.law_machine.specs.Steps.{Step, Opens as Starts, Takes, Receives, Notices, does}
 use Rattle.def_run.specs.World as world
-use Rattle.def_run.specs.World.{Script, Program, Opens, Entry, Turn, Carry, CutLink, NoticeLink, Event, Turned, Idle, Carried, NoticedAt, Link, World, Run, Goes as Going, Stopped, names, names_of, read_note, readied, put_at, push_all, with_link, with_notes, link_at}
-use Rattle.law_run.specs.Moves.{Deed, Move, Opened, Stepped, Swallowed, Says, Moved, Still, Severs, Drops, Steps, Arrives, Hears, Tells, IsAlone, MayBegin, Does, IsHonest, EachMoveIsTold, TellsOfNoNote, went, without}
+use Rattle.def_run.specs.World.{Script, Program, Opens, Entry, Turn, Carry, CutLink, NoticeLink, Event, Turned, Idle, Carried, NoticedAt, Link, World, Goes as Going, names, names_of, read_note, readied, with_link, with_notes, link_at}
+use Rattle.law_run.specs.Moves.{Deed, Move, Opened, Stepped, Swallowed, Says, Moved, Still, Severs, Drops, Steps, Arrives, Hears, Tells, IsAlone, MayBegin, Does, IsHonest, EachMoveIsTold, TellsOfNoNote, went}
 
 going_is : (w x : World) → Going w ≡ Going x → x ≡ w
 going_is w x e = cc

@@ -3,7 +3,7 @@ use Rattle.std.proofs.Common.{◌≡◌, ℕ, zero, suc, ◌≤◌, arith, Bool,
 use Rattle.std.specs.Prelude.{slice_get}
 use Rattle.def_kernel.specs.declared.node.Node.{Node}
 use Rattle.def_machine.specs.Values.{Name, Root, Naming}
-use Rattle.def_machine.specs.State.{Binding, Message, Happened, Posted, Vat, Done, Gives, Throws, Ejects, Stops, ◌>>=◌, and_then, give, new_activation}
+use Rattle.def_machine.specs.State.{Binding, Message, Happened, Posted, Vat, Done, Gives, ◌>>=◌, and_then, give, new_activation}
 use Rattle.def_machine.specs.Eval as eval
 use Rattle.law_machine.specs.Steps.{Step, does, After}
 use Rattle.law_machine.proofs.Walks.{walk_bind}

@@ -2,10 +2,10 @@
 use Rattle.std.proofs.Common.{◌≡◌, ℕ, zero, suc, ◌<◌, true, false, List, [], ◌∷◌, ◌++◌, Option, Some, None, refl, sym, ap, ◌∙◌, subst, inl, inr, ◌==◌}
 use lib.Dec.{eqb-zero-suc, eqb-suc-suc}
 use Rattle.std.specs.Prelude.{slice_get}
-use Rattle.def_machine.specs.Values.{Value, Name, Root, Object, Promise, Answer, Gift, Sent, Naming, naming, name_of, host_of, same_name, same_reference}
+use Rattle.def_machine.specs.Values.{Value, Name, Root, Object, Promise, Answer, Sent, Naming, naming, name_of, host_of, same_name, same_reference}
 use Rattle.def_machine.specs.State.{Message, Known, Resolver, Standing, Unsettled, Viewed, Settled, Happened, Vat, WhereSome}
 use Rattle.def_machine.specs.Refs.{standing_in, entry_of, standing_of}
-use Rattle.law_machine.specs.Steps.{Step, Opens, Takes, Receives, Notices}
+use Rattle.law_machine.specs.Steps.{Step, Opens, Takes}
 use Rattle.def_run.specs.World as world
 use Rattle.def_run.specs.World.{Script, Program, Entry, Event, World, Goes, names, begins}
 use Rattle.law_name.specs.Names as name

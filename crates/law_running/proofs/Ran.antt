@@ -3,7 +3,7 @@ use Rattle.std.proofs.Common.{◌≡◌, ℕ, ◌+◌, Bool, true, false, List, 
 use Rattle.ev_base.specs.declared.names.Name.{Name as ShownName}
 use Rattle.def_event.specs.declared.event.Event.{Event as ShownEvent}
 use Rattle.def_event.specs.declared.event.Event.TheVariants as event
-use Rattle.def_machine.specs.Values.{Words, Value, Prim, Ref, Name, Root, Object, Promise, Answer, Gift, Sent, Spot, Own, Foreign, NoObject, naming, spot_of}
+use Rattle.def_machine.specs.Values.{Words, Value, Ref, Name, Object, Spot, Own, Foreign, NoObject, naming, spot_of}
 use Rattle.def_machine.specs.State.{Message, Known, Settled, Happened, Took, Called, Settles}
 use Rattle.def_machine.specs.Refs.{standing_of}
 use Rattle.def_run.specs.World as world
@@ -19,7 +19,7 @@ use Rattle.law_connected.specs.Begotten.{LineOf}
 use Rattle.law_connected.proofs.Events.{here_event}
 use Rattle.law_connected.proofs.FineSteps.{among_left, among_right}
 use Rattle.def_trace.specs.Uses as uses
-use Rattle.def_trace.specs.Uses.{Line, line_after, and_lines, place_after, place_of, Activation, Begun, IsTold, IsNext, IsFollowed, there, further}
+use Rattle.def_trace.specs.Uses.{Line, line_after, and_lines, place_after, place_of, Activation, Begun, IsTold, IsFollowed, there, further}
 use Rattle.law_uses.proofs.Shown.{lines}
 use Rattle.law_uses.proofs.Texts.{lines_stand}
 use Rattle.law_running.specs.Facts.{activation}

@@ -1,9 +1,9 @@
 -- In a turn no name settles to what is not broken, but the vat's own and those that are new.
 use Rattle.std.proofs.Common.{◌≡◌, ℕ, ◌≤◌, arith, true, List, [], ◌∷◌, ◌++◌, Some, refl, sym, ap, ◌∙◌, subst, ◌⊎◌, inl, inr}
-use Rattle.def_machine.specs.Values.{Words, Value, Prim, Broken, Ref, Name, Object, Answer, Own as IsOwn, Naming, naming, spot_of, answer_of, mail_of, name_of}
+use Rattle.def_machine.specs.Values.{Words, Value, Broken, Ref, Name, Object, Answer, Own as IsOwn, Naming, naming, spot_of, answer_of, mail_of, name_of}
 use Rattle.def_machine.specs.State.{Message, Known, Viewed, Settled, Happened, Sends, Settles, Waits, Views, PromiseMade, Vat}
 use Rattle.def_machine.specs.Refs.{standing_of}
-use Rattle.law_machine.specs.Steps.{Step, Opens, Takes, Receives, Notices}
+use Rattle.law_machine.specs.Steps.{Step, Receives, Notices}
 use Rattle.def_run.specs.World as world
 use Rattle.def_run.specs.World.{Script, World, names}
 use Rattle.law_name.proofs.SameNames.{reference_is}

@@ -1,15 +1,15 @@
 -- What is known of a line's step in a run: what takes a message is an object, and what settled before was told.
 use Rattle.std.proofs.Common.{◌≡◌, ℕ, suc, Bool, true, false, List, [], ◌∷◌, ◌++◌, Option, Some, None, refl, sym, ap, ◌∙◌, subst, inl, inr}
 use Rattle.def_kernel.specs.declared.node.Node.{Node}
-use Rattle.def_machine.specs.Values.{Words, Value, Ref, Name, Spot, Own, Foreign, NoObject, Naming, naming}
+use Rattle.def_machine.specs.Values.{Words, Value, Ref, Name, Spot, Own, Naming, naming}
 use Rattle.def_machine.specs.State.{Message, Standing, Unsettled, Settled, Known, Happened, Took, Called, Settles, Astray, Vat, Done, Gives, Stops, Act, ◌>>=◌, ◌>>◌, and_then, end_by, ending, tell, stop, new_activation}
 use Rattle.def_machine.specs.Refs.{standing_in, entry_of, standing_of}
 use Rattle.def_machine.specs.Scopes.{Evaluator}
 use Rattle.def_machine.specs.Calls as calls
 use Rattle.def_machine.specs.Eval as eval
-use Rattle.law_machine.specs.Steps.{Step, Opens, Takes, Receives, Notices, does}
+use Rattle.law_machine.specs.Steps.{Step, Takes, Receives, Notices, does}
 use Rattle.def_run.specs.World as world
-use Rattle.def_run.specs.World.{Script, World, Goes, names}
+use Rattle.def_run.specs.World.{Script, World, names}
 use Rattle.law_name.proofs.SameNames.{reference_is}
 use Rattle.law_connected.specs.Known.{IsAmong}
 use Rattle.law_connected.specs.Begotten.{LineOf}

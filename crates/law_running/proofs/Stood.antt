@@ -2,9 +2,9 @@
 use Rattle.std.proofs.Common.{◌≡◌, ℕ, zero, suc, List, [], ◌∷◌, ◌++◌, Some, refl, sym, ◌∙◌, subst, ◌⊎◌, inl, inr}
 use Rattle.std.specs.Prelude.{slice_get}
 use Rattle.def_machine.specs.Values.{Value, Name, Root, Naming}
-use Rattle.def_machine.specs.State.{Message, Standing, Settled, Happened, Settles, Vat, Done, Gives, Throws, Ejects, Stops}
+use Rattle.def_machine.specs.State.{Message, Standing, Settled, Happened, Settles, Vat, Done, Gives}
 use Rattle.def_machine.specs.Refs.{standing_of}
-use Rattle.law_machine.specs.Steps.{Step, Opens as Starts, Takes, Receives, Notices, does, After}
+use Rattle.law_machine.specs.Steps.{Step, Opens as Starts, Takes, does, After}
 use Rattle.def_run.specs.World as world
 use Rattle.def_run.specs.World.{Script, Event, Opens, Here, Link, World, Run, Goes, Stopped, names, begins, run}
 use Rattle.def_run.specs.Text.{history_of}

@@ -2,11 +2,11 @@
 use Rattle.std.proofs.Common.{◌≡◌, ℕ, zero, ◌+◌, false, List, ◌∷◌, ◌++◌, Option, Some, sym, ap, subst, inl, inr}
 use Rattle.std.specs.Prelude.{slice_get}
 use Rattle.def_machine.specs.Values.{Words, Value, Ref, Name, Object}
-use Rattle.def_machine.specs.State.{Known, Settled, Happened, Called, Settles, Vat, Done, Gives, Throws, Ejects, Stops}
+use Rattle.def_machine.specs.State.{Known, Settled, Happened, Called, Settles, Vat, Done, Gives}
 use Rattle.def_machine.specs.Refs.{standing_of}
 use Rattle.law_machine.specs.Steps.{does, After}
 use Rattle.def_run.specs.World as world
-use Rattle.def_run.specs.World.{Script, Program, Entry, Event, Here, World, Run, Goes, Stopped, names, begins, run}
+use Rattle.def_run.specs.World.{Script, Event, Here, World, Run, Goes, Stopped, names, begins, run}
 use Rattle.def_run.specs.Shown.{shown_name}
 use Rattle.def_run.specs.Text.{history_of}
 use Rattle.law_name.specs.Names.{IsEventual}

@@ -1,7 +1,7 @@
 -- A note from a vat that has not a key in hand, where no gift that is provided is of that key, brings none of it.
 use Rattle.std.proofs.Common.{◌≡◌, ℕ, List}
 use Rattle.def_machine.specs.Values.{Name}
-use Rattle.def_machine.specs.State.{Passed, Passeds, Plain, AGift, Many, NoMore, More, Note, Deliver, Open, Ask, SettledTo, Elsewhere, Shorten}
+use Rattle.def_machine.specs.State.{Passed, Passeds, Plain, AGift, Many, NoMore, More, Note, Deliver, Open, SettledTo}
 use Rattle.law_name.specs.Names.{PassedOk, PassedsOk, NoteOk}
 use Rattle.law_reference.specs.GiftPassing.{IsProvidedBy, PassesFrom, AllPassFrom, Provides}
 use Rattle.law_reference.specs.Hiding.{IsNotOf, Spares}

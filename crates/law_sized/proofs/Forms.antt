@@ -1,5 +1,5 @@
 -- What a node expands to weighs no more than its parts, each with one node more, and thirteen nodes.
-use Rattle.std.proofs.Common.{◌≡◌, ℕ, suc, ◌+◌, ◌-◌, ◌≤◌, List, [], ◌∷◌, Bool, true, false, cond, map, drop, length, slice_get, Some, None, option_map, codes, sym, subst, arith}
+use Rattle.std.proofs.Common.{◌≡◌, ℕ, suc, ◌+◌, ◌-◌, ◌≤◌, List, ◌∷◌, Bool, true, false, cond, map, drop, length, slice_get, Some, None, option_map, codes, sym, subst, arith}
 use Rattle.std.proofs.lemmas.List.{length-map}
 use Rattle.def_syntax.specs.declared.token.Token.{Token}
 use Rattle.def_syntax.specs.declared.token.TokenKind.{TokenKind}

@@ -1,9 +1,9 @@
 -- A piece that is placed weighs what it did, and a tree that weighs little has few nodes and short texts.
 use Rattle.std.proofs.Common.{◌≡◌, ℕ, suc, ◌^◌, ◌≤◌, ◌<◌, List, [], ◌∷◌, length, refl, arith}
 use Rattle.def_kernel.specs.declared.node.Literal.{Literal}
-use Rattle.def_kernel.specs.declared.node.Literal.TheVariants.{Int, Char, Text}
+use Rattle.def_kernel.specs.declared.node.Literal.TheVariants.{Int, Text}
 use Rattle.def_kernel.specs.declared.node.Node.{Node}
-use Rattle.def_kernel.specs.declared.node.Node.TheVariants.{Lit, Noun, Set, Def, Call, Sequence, If, Escape, Try, Finally, Hide, MatchBind, Object, Method, Matcher, Final, Var, Any, ListPattern, Via}
+use Rattle.def_kernel.specs.declared.node.Node.TheVariants.{Lit, Noun, Set, Call, Method, Final, Var}
 use Rattle.ev_piece.specs.Placed.{node_at, placed}
 use Rattle.law_text.specs.Feeds.{AllOf}
 use Rattle.law_text_runs.specs.Laws.{IsShortLiteral, IsShort}

@@ -2,7 +2,7 @@
 use Rattle.std.proofs.Common.{◌≡◌, ℕ, zero, ◌<◌, List, [], ◌∷◌, ◌++◌, Some, sym, subst, length}
 use Rattle.std.specs.Prelude.{slice_get}
 use Rattle.def_machine.specs.Values.{Name, Gift, host_of}
-use Rattle.def_machine.specs.State.{Note, Deliver, Open, Ask, SettledTo, Elsewhere, Shorten, Put, Vat}
+use Rattle.def_machine.specs.State.{Note, Deliver, Ask, Put, Vat}
 use Rattle.def_run.specs.World as machine
 use Rattle.def_run.specs.World.{Script, Program, Entry, World, Goes}
 use Rattle.law_name.specs.Names.{AllOf, NoteOk, GoesOk, PutOk, names_in}

@@ -2,7 +2,7 @@
 use Rattle.std.proofs.Common.{◌≡◌, ℕ, ◌≤◌, Bool, true, false, List, [], ◌∷◌, ◌++◌, refl, sym, ap, subst, ◌∙◌, ◌⊎◌, inl, inr, append_assoc, append-nil, arith, ◌==◌}
 use Rattle.std.proofs.lemmas.Bool.{eqb-true, eq-eqb}
 use Rattle.def_machine.specs.Values.{Name, Answer, Gift, Sent, Msg, answer_of}
-use Rattle.def_machine.specs.State.{Note, Deliver, Open, Ask, SettledTo, Elsewhere, Shorten, Put}
+use Rattle.def_machine.specs.State.{Note, Deliver, Ask, Put}
 use Rattle.def_run.specs.World.{Link, with_link, pushed, push_all}
 use Rattle.law_fate.specs.Fate.{total, of_note}
 use Rattle.law_name.specs.Names.{AllOf, IsAmong, Once}

@@ -17,7 +17,7 @@ use Rattle.law_local.specs.Runs.{EachStepMirrors}
 use Rattle.law_local.proofs.WholeRuns.{each_step_mirrors}
 use Rattle.def_local.specs.Vats.{Member, connection_for, heard_in, heard_on}
 use Rattle.def_local.specs.Numbers as numbers
-use Rattle.def_local.specs.Numbers.{Vats, Runs, Way, Frame, Brought, way_at, with_way, left_by, all_written}
+use Rattle.def_local.specs.Numbers.{Vats, Runs, Way, Frame, Brought, way_at, with_way, left_by}
 use Rattle.law_peers.specs.Asking.{AskAnew}
 use Rattle.law_steady.specs.Statements.{TurnAsksAnew, EntryAsksAnew, RunsAreSteady, LawfulRunsAreSteady}
 use Rattle.law_steady.proofs.Abroad.{AllAbroad, opened_abroad, stepped_abroad}

@@ -6,7 +6,7 @@ use Rattle.def_run.specs.Connections as tables
 use Rattle.def_run.specs.Wire as conn
 use Rattle.def_run.specs.Wire.{Connected, connected_at, with_connected}
 use Rattle.def_run.specs.World as world
-use Rattle.def_run.specs.World.{Script, Program, Opens, Entry, CutLink, Event, Carried, Link, World, Goes as Going, link_at, with_link, with_notes, push_all}
+use Rattle.def_run.specs.World.{Script, Program, Opens, Entry, CutLink, Event, Carried, Link, World, Goes as Going, link_at, with_link, with_notes}
 use Rattle.law_run.specs.Moves as run
 use Rattle.law_run.specs.Moves.{IsReached, Stepped, Nobody, AnyNotice, went}
 use Rattle.law_run.proofs.Honest.{NoDeed, NoWord, honest_reached}

@@ -10,7 +10,7 @@ use Rattle.def_run.specs.Connections.{Heard, asked_in}
 use Rattle.def_run.specs.Draws.{draw_word}
 use Rattle.def_run.specs.Wire.{connected_at}
 use Rattle.def_run.specs.World as machine
-use Rattle.def_run.specs.World.{Script, Program, Entry, Turn, Carry, NoticeLink, Event, Opens, Turned, NoticedAt, Link, World, Goes, link_at, readied, put_back, put_at, within, tree_at}
+use Rattle.def_run.specs.World.{Script, Program, Entry, Turn, Carry, NoticeLink, Event, Opens, Turned, NoticedAt, Link, World, Goes, link_at, readied, put_back, within, tree_at}
 use Rattle.law_name.specs.Names.{AllOf, names_in}
 use Rattle.law_name.specs.Runs.{KnowsOnce}
 use Rattle.law_name.proofs.Among.{get_put}

@@ -3,7 +3,7 @@ use Rattle.std.proofs.Common.{◌≡◌, ℕ, zero, ◌<◌, true, List, [], ◌
 use Rattle.def_machine.specs.Values.{Name, host_of}
 use Rattle.def_machine.specs.State.{Note, Vat, is_in}
 use Rattle.def_run.specs.World as machine
-use Rattle.def_run.specs.World.{Script, Program, Entry, World, Goes, link_at}
+use Rattle.def_run.specs.World.{Script, Program, Entry, World, Goes}
 use Rattle.law_name.specs.Names.{AllOf}
 use Rattle.law_name.specs.Runs.{KnowsOnce}
 use Rattle.law_run.specs.Moves.{Deed, Nobody, AnyNotice, IsReached, Reached, Move, Opened, Stepped, Swallowed, Says, IsHonest, Follows}

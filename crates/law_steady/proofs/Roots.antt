@@ -1,6 +1,6 @@
 -- What a vat was told from the start are roots, and no vat asks for one.
 use Rattle.std.proofs.Common.{◌≡◌, ℕ, zero, suc, Bool, true, false, List, [], ◌∷◌, ◌++◌, Option, Some, None, refl, sym, subst, ◌==◌}
-use Rattle.def_machine.specs.Values.{Name, Root, Object, Promise, Answer, Gift, Sent, answer_of}
+use Rattle.def_machine.specs.Values.{Name, Root, Gift, Sent, answer_of}
 use Rattle.def_machine.specs.State.{Note, Deliver, Open, Ask, SettledTo, Elsewhere, Shorten, Put, is_in}
 use Rattle.def_run.specs.World as machine
 use Rattle.def_run.specs.World.{Script, Program, Entry, Link, World, Goes, link_at}

@@ -1,6 +1,6 @@
 -- What a vat asked another for stands among what that one told it only where the two were cut off from one another.
 use Rattle.std.proofs.Common.{◌≡◌, ℕ, ◌<◌, Bool, true, false, List, [], ◌∷◌, ◌++◌, ◌⊎◌, inl, inr, Some, refl, sym, subst, length, ◌==◌}
-use Rattle.def_machine.specs.Values.{Value, Null, Flag, Number, Letter, Text, Prim, Broken, Items, Ref, Name, host_of}
+use Rattle.def_machine.specs.Values.{Value, Ref, Name, host_of}
 use Rattle.def_machine.specs.State.{Passed, Passeds, Plain, AGift, Many, NoMore, More, Note, Deliver, Open, Ask, SettledTo, Elsewhere, Shorten}
 use Rattle.def_run.specs.Wire.{connected_at}
 use Rattle.def_run.specs.World.{Script, Link, World, link_at, has_name}

@@ -1,7 +1,7 @@
 -- A step by names that are marked, each by whether its word was drawn in the end: so each name in what the step leaves, lines too, is no gift or one under a word that was drawn.
 use Rattle.std.proofs.Common.{◌≡◌, ℕ, Bool, true, false, List, [], ◌∷◌, ◌++◌, refl, sym, ap, subst, ◌∙◌, map}
-use Rattle.def_machine.specs.Values.{Name, Root, Object, Promise, Answer, Gift, Sent, same_reference, spot_of, Naming, Coming, IsRoot, IsOwn, IsAnswer, IsGift, IsLearnt, Mailing, IsSent, IsCarried, mail_of, name_of, naming, word_of}
-use Rattle.def_machine.specs.State.{Known, Vat, Done, Gives, Throws, Ejects, Stops, Act, is_in}
+use Rattle.def_machine.specs.Values.{Name, Root, Object, Gift, Sent, same_reference, spot_of, Naming, Coming, IsRoot, Mailing, IsSent, IsCarried, mail_of, name_of, naming, word_of}
+use Rattle.def_machine.specs.State.{Known, Vat, Done, Gives, Act, is_in}
 use Rattle.def_run.specs.World.{World, readied}
 use Rattle.law_name.specs.Names.{AllOf, IsAmong, IsMessageName, IsMessageMade, WasMade, IsMade, KnownOk, Parts}
 use Rattle.def_machine.specs.Maps as maps

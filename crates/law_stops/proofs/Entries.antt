@@ -3,7 +3,7 @@ use Rattle.std.proofs.Common.{◌≡◌, ℕ, zero, ◌+◌, ◌≤◌, Bool, tr
 use Rattle.std.specs.Prelude.{slice_get}
 use Rattle.std.proofs.lemmas.Bool.{eqb-true, eq-eqb}
 use Rattle.def_machine.specs.Values.{Name, Local, naming, numbering}
-use Rattle.def_machine.specs.State.{Message, Note, Vat, Stop, Done, Gives, Throws, Ejects, Stops, Act}
+use Rattle.def_machine.specs.State.{Message, Note, Vat, Stop, Done, Gives, Stops, Act}
 use Rattle.def_machine.specs.Arrive as arrive
 use Rattle.def_machine.specs.Arrive.{Incoming}
 use Rattle.def_machine.specs.Eval.{taking}
@@ -13,7 +13,7 @@ use Rattle.law_machine.proofs.StepLaws.{names_stays, mails_stays}
 use Rattle.law_machine.proofs.StepEnds.{step_ends}
 use Rattle.def_run.specs.Draws.{draw_word}
 use Rattle.def_run.specs.World as world
-use Rattle.def_run.specs.World.{Script, Entry, Turn, Carry, CutLink, NoticeLink, Event, Turned, Idle, Carried, NoticedAt, Link, World, Run, Goes as Going, Stopped, readied, names_of, read_note, link_at}
+use Rattle.def_run.specs.World.{Script, Entry, Turn, Carry, CutLink, NoticeLink, Event, Turned, Carried, NoticedAt, Link, World, Goes as Going, Stopped, readied, names_of, read_note, link_at}
 use Rattle.law_name.specs.Names.{AllOf, IsEventual, IsMessageName, IsMade, NoteOk, names_in}
 use Rattle.law_name.specs.Runs.{KnowsOnce}
 use Rattle.law_name.proofs.Facts.{MayBe, note_up}

@@ -2,7 +2,7 @@
 use Rattle.std.proofs.Common.{◌≡◌, ℕ, zero, suc, Bool, true, false, List, [], ◌∷◌, ◌++◌, Option, Some, None, refl, sym, ap, ◌∙◌, append_assoc, append-nil}
 use Rattle.std.specs.Prelude.{slice_get}
 use Rattle.def_machine.specs.Values.{Name, Root, Naming}
-use Rattle.def_machine.specs.State.{Message, Note, Vat, Done, Gives, Throws, Ejects, Stops}
+use Rattle.def_machine.specs.State.{Message, Note, Vat, Done, Gives, Stops}
 use Rattle.law_machine.specs.Steps.{Step, Opens as Starts, Takes, Receives, Notices, After, does}
 use Rattle.law_machine.specs.Laws.{SameDraws}
 use Rattle.law_machine.proofs.StepLaws.{draws_stays}

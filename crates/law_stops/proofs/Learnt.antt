@@ -1,13 +1,13 @@
 -- What a vat learns from a note whose names were made: no message comes to be known, and what it carries is a message.
 use Rattle.std.proofs.Common.{ℕ, Bool, true, false, List, [], ◌∷◌, ◌++◌, Some, None, refl, if◌then◌else◌}
-use Rattle.def_machine.specs.Values.{Words, Value, Null, Flag, Number, Letter, Text, Prim, Broken, Items, Ref, Name, Root, Object, Promise, Answer, Gift, Sent, Naming, IsAnswer, IsGift, IsLearnt, IsCarried, host_of, answer_of, mail_of, name_of, naming}
+use Rattle.def_machine.specs.Values.{Words, Value, Null, Flag, Number, Letter, Text, Prim, Broken, Items, Ref, Name, Gift, Sent, Naming, IsAnswer, IsGift, IsLearnt, IsCarried, host_of, answer_of, mail_of, name_of, naming}
 use Rattle.def_machine.specs.State.{Passed, Passeds, Plain, AGift, Many, NoMore, More, Note, Deliver, Open, Ask, SettledTo, Elsewhere, Shorten, Change, ToTell, ListCame, Vat, Act, ◌>>=◌, and_then, give, with_change, alter, come, mail, begun, is_in}
 use Rattle.def_machine.specs.Refs as refs
 use Rattle.def_machine.specs.Arrive as arrive
-use Rattle.def_machine.specs.Arrive.{Incoming, Old, New}
+use Rattle.def_machine.specs.Arrive.{Old, New}
 use Rattle.def_run.specs.World as world
 use Rattle.law_machine.proofs.Keeps.{Keeps, keeps_bind, keeps_then, keeps_if, keeps_give, keeps_look, keeps_list, keeps_tell, keeps_out}
-use Rattle.law_name.specs.Names.{Bit, Named, Mail, Drew, At, Off, Entered, Owns, Gave, IsMessageName, IsMessageMade, WasMade, IsMade, ValueOk, PassedOk, PassedsOk, NoteOk}
+use Rattle.law_name.specs.Names.{Bit, Named, Mail, IsMessageName, IsMessageMade, WasMade, IsMade, ValueOk, PassedOk, PassedsOk, NoteOk}
 use Rattle.law_name.proofs.Tracked.{names_change}
 use Rattle.law_stops.proofs.Parted.{IsNoMessage, Parted, stays, grown, posted, base, answered, settles, sends, arrives_closed}
 

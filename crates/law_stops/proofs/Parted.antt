@@ -1,6 +1,6 @@
 -- Whatever a vat does by names that it has, and however that ends: messages stay messages, and no message comes to be known.
 use Rattle.std.proofs.Common.{◌≡◌, ℕ, suc, ◌-◌, true, false, List, [], ◌∷◌, ◌++◌, refl, sym, ap, subst, ◌∙◌, map}
-use Rattle.def_machine.specs.Values.{Value, Name, Root, Object, Promise, Answer, Gift, Sent, same_reference, spot_of, Naming, Coming, IsRoot, IsOwn, IsAnswer, IsGift, IsLearnt, Mailing, IsSent, IsCarried, answer_of, mail_of, name_of, naming}
+use Rattle.def_machine.specs.Values.{Value, Name, Object, Promise, Answer, Sent, same_reference, spot_of, Naming, Coming, IsAnswer, IsLearnt, Mailing, IsSent, IsCarried, answer_of, mail_of, name_of, naming}
 use Rattle.def_machine.specs.State.{Binding, Message, Thing, Made, Known, Change, Note, Vat, Done, Gives, Throws, Ejects, Stops, Act, Took, change, dead, holding, with_opened, changed, with_change, alter, come, mail, new_promise, new_message, new_lone_message, begun}
 use Rattle.def_machine.specs.Refs as refs
 use Rattle.def_machine.specs.Arrive as arrive

@@ -1,6 +1,6 @@
 -- The names and messages of a state at which a step stopped make a table, with what others exported before.
 use Rattle.std.proofs.Common.{◌≡◌, ℕ, ◌+◌, ◌≤◌, List, [], ◌∷◌, Some, refl, sym, subst, ◌==◌, ◌&&◌, inl, inr, arith}
-use Rattle.def_machine.specs.Values.{Name, Root, Object, Promise, Answer, Gift, Sent, same_name, spot_of, Foreign, naming}
+use Rattle.def_machine.specs.Values.{Name, Object, Sent, same_name, spot_of, Foreign, naming}
 use Rattle.def_machine.specs.State.{Vat, Stop, Done, Stops}
 use Rattle.law_machine.specs.Steps.{Step, After, does}
 use Rattle.law_name.specs.Names.{AllOf, IsAmong, IsEventual, IsMessageName, Once, names_in}

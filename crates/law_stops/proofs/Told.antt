@@ -1,8 +1,8 @@
 -- In every world of a run each event shows the same by the words drawn so far as by those of any later time, since each gift that it names is under a word that was drawn.
 use Rattle.std.proofs.Common.{◌≡◌, ℕ, Bool, true, false, List, [], ◌∷◌, ◌++◌, Option, Some, None, refl, sym, ap, subst, ◌∙◌, map}
 use Rattle.std.specs.Prelude.{slice_get}
-use Rattle.def_machine.specs.Values.{Value, Null, Flag, Number, Letter, Text, Prim, Broken, Items, Ref, Name, Root, host_of, naming}
-use Rattle.def_machine.specs.State.{Binding, Message, Passed, Passeds, Plain, AGift, Many, NoMore, More, Note, Deliver, Open, Ask, SettledTo, Elsewhere, Shorten, Vat, Done, Gives, Throws, Ejects, Stops, Act}
+use Rattle.def_machine.specs.Values.{Value, Ref, Name, Root, host_of, naming}
+use Rattle.def_machine.specs.State.{Binding, Message, Passed, Passeds, Plain, AGift, Many, NoMore, More, Note, Deliver, Open, Ask, SettledTo, Elsewhere, Shorten, Vat, Done, Gives, Act}
 use Rattle.def_machine.specs.Arrive.{Incoming, Old, New, arrive, notice}
 use Rattle.def_machine.specs.Scopes.{any_guard}
 use Rattle.def_machine.specs.Eval.{opening, taking}
@@ -13,7 +13,7 @@ use Rattle.law_machine.proofs.StepLaws.{draws_stays}
 use Rattle.def_run.specs.Draws.{draw_word}
 use Rattle.def_run.specs.Shown.{shown_event}
 use Rattle.def_run.specs.World as world
-use Rattle.def_run.specs.World.{Script, Program, Opens, Entry, Turn, Carry, CutLink, NoticeLink, Event, Turned, Idle, Carried, CutAt, NoticedAt, Link, World, Run, Goes as Going, Stopped, names_of, read_note, readied, put_at, events_of}
+use Rattle.def_run.specs.World.{Script, Program, Opens, Entry, Turn, Carry, CutLink, NoticeLink, Event, Turned, Idle, Carried, NoticedAt, Link, World, Goes as Going, names_of, read_note, readied, put_at, events_of}
 use Rattle.law_name.specs.Names.{AllOf, IsAmong, IsMessageName, WasMade, IsMade, ValueOk, PassedOk, PassedsOk, NoteOk, MessageOk, KnownOk, Parts}
 use Rattle.law_name.proofs.Facts.{MayBe, all_map, all_append, note_up}
 use Rattle.law_name.proofs.Care.{parts_up}

@@ -2,7 +2,7 @@
 use Rattle.std.proofs.Common.{◌≡◌, ℕ, cond, Bool, true, false, List, [], ◌∷◌, ◌++◌, refl, sym, map, ap, ◌∙◌}
 use Rattle.std.specs.Prelude.{decimal, codes, bytes_eq}
 use Rattle.def_event.specs.declared.event.Event.{Event}
-use Rattle.def_event.specs.declared.event.Event.TheVariants.{Open, Turn, Idle, Carry, Cut, Notice, Frame, Take, Call, Back, Thrown, Gone, Got, Slot as SlotMade, Read, Wrote, List as ListMade, Arrived, Ejector, Audition, Promise, Made, Send, SendOnly, When, Done, Threw, Settle, Wait, View, LostCut, LostBroken, LeftQueue, LeftHeld, LeftWait, LeftLink, End}
+use Rattle.def_event.specs.declared.event.Event.TheVariants.{Turn, Idle, Carry, Cut, Notice}
 use Rattle.def_event.specs.Lines.{vat, note_words, words}
 use Rattle.law_text.specs.Kinds.{kind, kind_in, first_of, second_of, is_number, is_activation, WordsTellKinds, TextsTellKinds}
 use Rattle.law_text.proofs.Front.{true_false, cons_is}

@@ -4,9 +4,9 @@ use Rattle.std.specs.Prelude.{decimal, codes, bytes_eq, filter}
 use Rattle.std.proofs.lemmas.Fmt.{decimal_injective}
 use Rattle.def_text.specs.Keywords.{printed_verb}
 use Rattle.def_event.specs.declared.shown.Shown.{Shown}
-use Rattle.def_event.specs.declared.note.ShownNote.TheVariants.{Deliver, DeliverOnly, Settled, Elsewhere, Open as Opens, Ask, Shorten}
+use Rattle.def_event.specs.declared.note.ShownNote.TheVariants.{Deliver}
 use Rattle.def_event.specs.declared.event.Event.{Event}
-use Rattle.def_event.specs.declared.event.Event.TheVariants.{Open, Turn, Idle, Carry, Cut, Notice, Frame, Take, Call, Back, Thrown, Gone, Got, Slot as SlotMade, Read, Wrote, List as ListMade, Arrived, Ejector, Audition, Promise, Made, Send, SendOnly, When, Done, Threw, Settle, Wait, View, LostCut, LostBroken, LeftQueue, LeftHeld, LeftWait, LeftLink, End}
+use Rattle.def_event.specs.declared.event.Event.TheVariants.{Open, Carry, LeftLink}
 use Rattle.def_event.specs.Lines.{hex, activation, begun_words, vat, numbered, message, name, value, values as value_words, part, words, is_no_frame}
 use Rattle.law_text.specs.Feeds.{AllOf}
 use Rattle.law_text.specs.Words.{WordsFit}

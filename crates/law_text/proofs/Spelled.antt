@@ -9,7 +9,7 @@ use Rattle.ev_base.specs.declared.names.Name.TheVariants.{Object, Own, Answer, G
 use Rattle.ev_base.specs.declared.names.Msg.{Msg}
 use Rattle.def_text.specs.Quoting.{shortened, quoted_character}
 use Rattle.def_text.specs.Keywords.{printed_verb}
-use Rattle.def_event.specs.declared.shown.Shown.{Shown, Null, Bool, Int, Char, Text, Broken, Prim, List as ListOf, Slot, Name as Named, Members', Row_of-Shown, end_of-Shown, more_of-Shown}
+use Rattle.def_event.specs.declared.shown.Shown.{Shown, Bool, Int, Char, Text, Broken, Prim, List as ListOf, Slot, Name as Named, Members', Row_of-Shown, end_of-Shown, more_of-Shown}
 use Rattle.def_event.specs.declared.note.ShownNote.{ShownNote}
 use Rattle.def_event.specs.declared.note.ShownNote.TheVariants.{Deliver, DeliverOnly, Settled, Elsewhere, Open as Opens, Ask, Shorten}
 use Rattle.def_event.specs.declared.event.Event.{Event}

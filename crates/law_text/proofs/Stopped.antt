@@ -4,7 +4,7 @@ use Rattle.std.specs.Prelude.{decimal, codes, bytes_eq, filter, flat_map}
 use Rattle.std.proofs.lemmas.List.{append-nil}
 use Rattle.def_machine.specs.State.{Stop, Fuel, Deep, Repeated, Astray}
 use Rattle.def_event.specs.declared.event.Event.{Event}
-use Rattle.def_event.specs.declared.event.Event.TheVariants.{Open, Turn, Idle, Carry, Cut, Notice, Frame, Take, Call, Back, Thrown, Gone, Got, Slot as SlotMade, Read, Wrote, List as ListMade, Arrived, Ejector, Audition, Promise, Made, Send, SendOnly, When, Done, Threw, Settle, Wait, View, LostCut, LostBroken, LeftQueue, LeftHeld, LeftWait, LeftLink, End}
+use Rattle.def_event.specs.declared.event.Event.TheVariants.{Open}
 use Rattle.def_event.specs.Lines.{spaced, words, render, is_no_frame}
 use Rattle.def_run.specs.World.{Run, Goes, Stopped}
 use Rattle.def_run.specs.Text.{vat_names, stop_line, stop_text, text, wire_text}

@@ -1,9 +1,9 @@
 -- Auditors, auditions, ejectors, resolvers and objects; and how objects are made.
 use Rattle.std.proofs.Common.{◌≡◌, ◌||◌, ℕ, zero, suc, ◌<◌, Bool, true, false, List, [], ◌∷◌, ◌++◌, Option, Some, None, if◌then◌else◌, ◌==◌, refl, length, map, codes, arith}
 use Rattle.std.specs.Prelude.{slice_get}
-use Rattle.def_machine.specs.Values.{Words, Value, Null, Flag, Number, Letter, Text, Prim, Broken, Items, Ref, Name, Naming, naming, Spot, Own, Foreign, NoObject}
-use Rattle.def_machine.specs.State.{Bound, Fixed, Slot, Binding, Scope, Freedom, IsSafe, IsItself, IsFinal, IsVar, FreeName, View, Thing, Made, Ejector, Audition, Resolver, Standing, Unsettled, Called, Back, Thrown, Left, Got, EjectorMade, AuditionMade, Astray, Vat, Act, WhereSome, look, eject}
-use Rattle.def_machine.specs.Refs.{Place, Near, Mine, Away, Gone}
+use Rattle.def_machine.specs.Values.{Words, Value, Null, Flag, Number, Letter, Text, Prim, Broken, Items, Ref, Name, Naming, naming, Spot, Own}
+use Rattle.def_machine.specs.State.{Bound, Fixed, Binding, Scope, Freedom, IsItself, IsFinal, IsVar, FreeName, View, Thing, Made, Ejector, Audition, Resolver, Standing, Unsettled, Called, Back, Thrown, Left, Got, EjectorMade, AuditionMade, Astray, Vat, Act, WhereSome, look, eject}
+use Rattle.def_machine.specs.Refs.{Place, Near}
 use Rattle.def_machine.specs.Free.{same_words}
 use Rattle.def_machine.specs.Form as form
 use Rattle.def_machine.specs.Form.{Item, Begin, End, Word, Fact, literal_value}
@@ -13,7 +13,7 @@ use Rattle.def_machine.specs.Scopes as scopes
 use Rattle.def_machine.specs.Scopes.{Answer, Answers, Evaluator, Caller, Body, Case, AuditionAsk, GetsForm, GetsGuard, Asks, NoAuditionAsk, ResolverAsk, Resolves, Smashes, NoResolverAsk}
 use Rattle.def_machine.specs.Calls as calls
 use Rattle.def_kernel.specs.declared.node.Node.{Node}
-use Rattle.def_kernel.specs.declared.node.Node.TheVariants.{Lit, Noun, Set, Def, Call, Sequence, If, Escape, Try, Finally, Hide, MatchBind, Object, Method, Matcher, Final, Var, Any, ListPattern, Via}
+use Rattle.def_kernel.specs.declared.node.Node.TheVariants.{Hide, Final}
 use Rattle.def_kernel.specs.declared.node.Literal.{Literal}
 use Rattle.def_kernel.specs.declared.node.Literal.TheVariants as literal
 use Rattle.def_text.specs.Keywords.{is_identifier}
@@ -70,25 +70,8 @@ module _ (rec : form.Former) (each : (e : ℕ) → ItemsFit (rec e)) where
 
   node_form_fits : (n : Node) → NodeFits n → ItemsFit (form.node_form rec n)
   unfolding form.node_form
-  node_form_fits (Set x e) f = headed_fits _ _ (plain _ refl) (f, each e)
-  node_form_fits (Def p j e) f = headed_fits _ _ (plain _ refl) (both (rec p ++ form.exit_form rec j) (rec e) (both (rec p) (form.exit_form rec j) (each p) (exit_fits j)) (each e))
-  node_form_fits (Call r v es) f = headed_fits _ _ (plain _ refl) (both (rec r) (Word v ∷ form.forms rec es) (each r) (f, forms_fit es))
-  node_form_fits (Sequence es) f = headed_fits _ _ (plain _ refl) (forms_fit es)
-  node_form_fits (If t a b) f = headed_fits _ _ (plain _ refl) (both (rec t ++ rec a) (rec b) (both (rec t) (rec a) (each t) (each a)) (each b))
-  node_form_fits (Escape p b c) f = headed_fits _ _ (plain _ refl) (both (rec p ++ rec b) (form.caught_form rec c) (both (rec p) (rec b) (each p) (each b)) (caught_fits c))
-  node_form_fits (Try b p h) f = headed_fits _ _ (plain _ refl) (both (rec b ++ rec p) (rec h) (both (rec b) (rec p) (each b) (each p)) (each h))
-  node_form_fits (Finally a b) f = headed_fits _ _ (plain _ refl) (both (rec a) (rec b) (each a) (each b))
-  node_form_fits (Hide e) f = headed_fits _ _ (plain _ refl) (each e)
-  node_form_fits (MatchBind e p) f = headed_fits _ _ (plain _ refl) (both (rec e) (rec p) (each e) (each p))
-  node_form_fits (Object p auditors members) f = headed_fits _ _ (plain _ refl) (both (rec p ++ form.group (form.forms rec auditors)) (form.forms rec members) (both (rec p) (form.group (form.forms rec auditors)) (each p) (group_fits (form.forms rec auditors) (forms_fit auditors))) (forms_fit members))
-  node_form_fits (Method v ps b) f = headed_fits _ _ (plain _ refl) (f, both (form.group (form.forms rec ps)) (rec b) (group_fits (form.forms rec ps) (forms_fit ps)) (each b))
-  node_form_fits (Matcher p b) f = headed_fits _ _ (plain _ refl) (both (rec p) (rec b) (each p) (each b))
-  node_form_fits (Final x g) f = headed_fits _ _ (plain _ refl) (f.0, option_fits g)
-  node_form_fits (Var x g) f = headed_fits _ _ (plain _ refl) (f, option_fits g)
-  node_form_fits (Any g) f = headed_fits _ _ (plain _ refl) (option_fits g)
-  node_form_fits (ListPattern ps) f = headed_fits _ _ (plain _ refl) (forms_fit ps)
-  node_form_fits (Via e p) f = headed_fits _ _ (plain _ refl) (both (rec e) (rec p) (each e) (each p))
-  node_form_fits other f = headed_fits _ _ (plain _ refl) (f, tt)
+  node_form_fits (Hide e) f = search (headed_fits, group_fits, both, forms_fit, option_fits, exit_fits, caught_fits, each, plain) depth 14
+  node_form_fits other f = search (headed_fits, group_fits, both, forms_fit, option_fits, exit_fits, caught_fits, each, plain) depth 14
 
 form_found_fits : (tree : List Node) (rec : form.Former) → ((e : ℕ) → ItemsFit (rec e)) → (o : Option Node) → WhereSome NodeFits o → ItemsFit (form.form_found rec o)
 unfolding form.form_found

@@ -1,27 +1,57 @@
 -- All of evaluation, and whole turns.
 use Rattle.std.proofs.Common.{ℕ, zero, suc, ◌<◌, Bool, true, false, List, [], ◌∷◌, Option, Some, None, ◌==◌, refl, length, codes}
 use Rattle.std.specs.Prelude.{slice_get}
-use Rattle.def_machine.specs.Values.{Words, Value, Null, Flag, Text, Prim, Broken, Items, Ref, Name, Naming, naming}
-use Rattle.def_machine.specs.State.{Bound, Fixed, Slot, Binding, Scope, Cell, Message, Took, Finished, Threw, Got, SlotMade, SlotRead, SlotWrote, Deep, Astray, Vat, Act, WhereSome, ◌>>=◌, look}
-use Rattle.def_machine.specs.Free.{BoundNoun, bound_nouns, free_nouns}
+use Rattle.def_machine.specs.Values.{Words, Value, Null, Flag, Text, Broken, Items, Ref, Name, Naming, naming}
+use Rattle.def_machine.specs.State.{Bound, Fixed, Slot, Binding, Scope, Cell, Message, Took, Finished, Threw, Got, SlotRead, SlotWrote, Deep, Astray, Vat, Happened, Stop, Act, WhereSome, ◌>>=◌, ◌>>◌, give, stop, look, tell, new_slot}
+use Rattle.def_machine.specs.Free.{BoundNoun, bound_nouns}
 use Rattle.def_machine.specs.Form.{literal_value}
 use Rattle.def_machine.specs.Native as native
+use Rattle.def_machine.specs.Refs as refs
+use Rattle.def_kernel.specs.declared.node.Literal.{Literal}
 use Rattle.def_machine.specs.Scopes as scopes
 use Rattle.def_machine.specs.Scopes.{Answer, Answers, Evaluator}
 use Rattle.def_machine.specs.Perform as perform
 use Rattle.def_machine.specs.Calls as calls
 use Rattle.def_machine.specs.Eval as eval
 use Rattle.def_kernel.specs.declared.node.Node.{Node}
-use Rattle.def_kernel.specs.declared.node.Node.TheVariants.{Lit, Noun, Set, Def, Call, Sequence, If, Escape, Try, Finally, Hide, MatchBind, Object, Method, Matcher, Final, Var, Any, ListPattern, Via}
+use Rattle.def_kernel.specs.declared.node.Node.TheVariants.{Hide, Any}
 use Rattle.law_text.specs.Feeds.{AllOf}
-use Rattle.law_text_runs.specs.Fitting.{Limits, IsLow, NameFits, ValueFits, ValuesFit, BoundFits, NounsFit, CellFits, MessageFits}
-use Rattle.law_text_runs.specs.Spelled.{NodeFits, TreeFits}
-use Rattle.law_text_runs.proofs.Fine.{Fine, nothing, fine_bind, fine_then, fine_give, fine_throw, fine_eject, fine_stop, fine_look, fine_sees, fine_some, fine_if, fine_ending, fine_tell, fine_spend, fine_activation, fine_slot, fine_write}
+use Rattle.law_text_runs.specs.Fitting.{Limits, TextFits, LineFits, IsLow, NameFits, ValueFits, ValuesFit, BoundFits, NounsFit, CellFits, MessageFits}
+use Rattle.law_text_runs.specs.Spelled.{LiteralFits, NodeFits, TreeFits}
+use Rattle.law_text_runs.proofs.Fine.{Fine, nothing, fine_bind, fine_then, fine_give, fine_throw, fine_eject, fine_stop, fine_look, fine_some, fine_if, fine_ending, fine_tell, fine_spend, fine_activation, fine_slot, fine_write}
 use Rattle.law_text_runs.proofs.Texts.{plain}
 use Rattle.law_text_runs.proofs.Natives.{entry_has, list_at_fits}
 use Rattle.law_text_runs.proofs.Refs.{where_is, fine_settle, fine_resolve, look_follow}
 use Rattle.law_text_runs.proofs.Perform.{GoodCaller, fine_failed, fine_handed, fine_coerce}
 use Rattle.law_text_runs.proofs.Calls.{ScopeFits, AnswerFits, AnswersFit, GoodEvaluator, bound_fits, literal_fits, made_object, fine_answered, fine_leave, fine_ejector, fine_bind_all, fine_unless, fine_call, fine_turn_value, fine_make_object, node_at}
+
+-- what is known where the first has a member
+record Knows (C D : Type 0) : Type 0 where
+  pub from : C → D
+
+known_last : {C D : Type 0} → Knows (C × D) D
+known_last = record { from = λ c. c.1 }
+
+known_left : {C D F : Type 0} → Knows C F → Knows (C × D) F
+known_left h = record { from = λ c. h.from c.0 }
+
+known_right : {C D F : Type 0} → Knows D F → Knows (C × D) F
+known_right h = record { from = λ c. h.from c.1 }
+
+known_itself : {C : Type 0} → Knows C C
+known_itself = record { from = λ c. c }
+
+known_text : {C : Type 0} {t : Words} → TextFits t → Knows C (TextFits t)
+known_text h = record { from = λ c. h }
+
+known_nothing : {C : Type 0} → Knows C (Unit {0})
+known_nothing = record { from = λ c. tt }
+
+known_both : {C D F : Type 0} → Knows C D → Knows C F → Knows C (D × F)
+known_both h k = record { from = λ c. (h.from c, k.from c) }
+
+known_three : {C D F G : Type 0} → Knows C D → Knows C F → Knows C G → Knows C (D × F × G)
+known_three h k l = record { from = λ c. (h.from c, k.from c, l.from c) }
 
 module _ (L : Limits) (word : ℕ → ℕ) (v : ℕ) (inside : v < L.many) (tree : List Node) (good_tree : TreeFits tree) where
   abbrev K : Naming Name Name
@@ -132,31 +162,6 @@ module _ (L : Limits) (word : ℕ → ℕ) (v : ℕ) (inside : v < L.many) (tree
             (λ w. fine_then L (fine_write L k w (λ c. c.1)) (fine_then L (fine_tell L (SlotWrote act k w) (λ c. (a c.0.0, f c.0.0, c.1))) (fine_give L w (λ c. c.1))))
     write_bound act None x a f h = fine_stop L Astray
 
-    -- ---- nodes
-
-    step : {C : Type 0} (id : ℕ) (n : Node) (here : Scope Name) → NodeFits n → (C → ScopeFits L here) → Fine L C (eval.step K tree rec id n here) (AnswerFits L)
-    unfolding eval.step
-    step id (Lit l) here f h = answered here (literal_value l) h (λ c. literal_fits L l f)
-    step id (Noun x) here f h = fine_bind L (ValueFits L) (read_bound here.act (scopes.bound_in here.nouns x) x (λ c. (h c).0) (λ c. bound_fits L here.nouns x (h c).1)) (λ y. answered here y (λ c. h c.0) (λ c. c.1))
-    step id (Set x e) here f h = fine_bind L (AnswerFits L) (good.expression _ e here h)
-        (λ y. fine_bind L (ValueFits L) (write_bound here.act (scopes.bound_in here.nouns x) y.value (λ c. (h c.0).0) (λ c. bound_fits L here.nouns x (h c.0).1) (λ c. c.1.0)) (λ w. answered y.scope w (λ c. c.0.1.1) (λ c. c.1)))
-    step id (Def p j e) here f h = fine_bind L (AnswerFits L) (exit_of j here h) (λ k. fine_bind L (AnswerFits L) (good.expression _ e k.scope (λ c. c.1.1))
-        (λ x. fine_bind L (ScopeFits L) (good.pattern _ p x.value k.value x.scope (λ c. c.1.0) (λ c. c.0.1.0) (λ c. c.1.1)) (λ after. answered after x.value (λ c. c.1) (λ c. c.0.1.0))))
-    step id (Call r verb args) here f h = fine_bind L (AnswerFits L) (good.expression _ r here h) (λ x. fine_bind L (AnswersFit L) (all_of args x.scope (λ c. c.1.1))
-        (λ xs. fine_bind L (ValueFits L) (again _ here.act x.value verb xs.values (λ c. (h c.0.0).0) (λ c. c.0.1.0) (λ c. f) (λ c. c.1.0)) (λ y. answered xs.scope y (λ c. c.0.1.1) (λ c. c.1))))
-    step id (Sequence es) here f h = last_of _ es (λ c. (tt, h c))
-    step id (If t a b) here f h = fine_bind L (AnswerFits L) (good.expression _ t here h) (λ x. fine_bind L (nothing L) (fine_sees L _) (λ y. choose a b here x.scope y (λ c. h c.0.0) (λ c. c.0.1.1)))
-    step id (Escape p body o) here f h = fine_bind L (IsLow L) (fine_ejector L word v inside tree good_tree here.act (λ c. (h c).0)) (λ j. escaped j here o (λ c. h c.0)
-        (fine_bind L (ScopeFits L) (good.pattern _ p (Ref (K.object j)) Null here (λ c. made_object L word v inside tree good_tree j c.1) (λ c. tt) (λ c. h c.0)) (λ inner. good.expression _ body inner (λ c. c.1))))
-    step id (Try body p b) here f h = tried p b here h (good.expression _ body here h)
-    step id (Finally a b) here f h = at_last b here h (good.expression _ a here h)
-    step id (Hide e) here f h = fine_bind L (AnswerFits L) (good.expression _ e here h) (λ x. answered here x.value (λ c. h c.0) (λ c. c.1.0))
-    step id (MatchBind e p) here f h = fine_bind L (AnswerFits L) (good.expression _ e here h) (λ x. fine_bind L (IsLow L) (fine_ejector L word v inside tree good_tree here.act (λ c. (h c.0).0))
-        (λ j. match_ended j p x.scope (λ c. c.0.1.1) (good.pattern _ p x.value (Ref (K.object j)) x.scope (λ c. c.0.1.0) (λ c. made_object L word v inside tree good_tree j c.1) (λ c. c.0.1.1))))
-    step id (Object p auditors members) here f h = fine_bind L (AnswersFit L) (all_of auditors here h)
-        (λ xs. fine_make_object L word v inside tree good_tree (calls.call K tree rec) again id (slice_get tree p) (free_nouns tree members) xs.values xs.scope (node_at tree p good_tree) (λ c. c.1.0) (λ c. c.1.1))
-    step id other here f h = fine_stop L Astray
-
     -- ---- patterns
 
     guard_of : {C : Type 0} (o : Option ℕ) (here : Scope Name) → (C → ScopeFits L here) → Fine L C (eval.guard_of K tree rec o here) (AnswerFits L)
@@ -176,16 +181,122 @@ module _ (L : Limits) (word : ℕ → ℕ) (v : ℕ) (inside : v < L.many) (tree
         (λ vs. fine_if L (length vs == length ps) (fine_bind_all L word v inside tree good_tree rec good ps vs j here (λ c. c.1) (λ c. f c.0) (λ c. h c.0)) (no_list here.act j (λ c. (h c.0).0) (λ c. f c.0)))
     bind_items ps j here _ f h = no_list here.act j (λ c. (h c).0) f
 
-    bind_step : {C : Type 0} (n : Node) (x j : Value Name) (here : Scope Name) → NodeFits n → (C → ValueFits L x) → (C → ValueFits L j) → (C → ScopeFits L here) → Fine L C (eval.bind_step K tree rec n x j here) (ScopeFits L)
+    -- ---- nodes: what each is put together from, over what is known where the first type has a member
+
+    bind_answer : {B C : Type 0} {m : Act Name (Answer Name)} {f : Answer Name → Act Name B} {H : B → Type 0} → Fine L C m (AnswerFits L) → ((x : Answer Name) → Fine L (C × AnswerFits L x) (f x) H) → Fine L C (m >>= f) H
+    bind_answer h k = fine_bind L (AnswerFits L) h k
+
+    bind_answers : {B C : Type 0} {m : Act Name (Answers Name)} {f : Answers Name → Act Name B} {H : B → Type 0} → Fine L C m (AnswersFit L) → ((x : Answers Name) → Fine L (C × AnswersFit L x) (f x) H) → Fine L C (m >>= f) H
+    bind_answers h k = fine_bind L (AnswersFit L) h k
+
+    bind_scope : {B C : Type 0} {m : Act Name (Scope Name)} {f : Scope Name → Act Name B} {H : B → Type 0} → Fine L C m (ScopeFits L) → ((x : Scope Name) → Fine L (C × ScopeFits L x) (f x) H) → Fine L C (m >>= f) H
+    bind_scope h k = fine_bind L (ScopeFits L) h k
+
+    bind_value : {B C : Type 0} {m : Act Name (Value Name)} {f : Value Name → Act Name B} {H : B → Type 0} → Fine L C m (ValueFits L) → ((x : Value Name) → Fine L (C × ValueFits L x) (f x) H) → Fine L C (m >>= f) H
+    bind_value h k = fine_bind L (ValueFits L) h k
+
+    bind_low : {B C : Type 0} {m : Act Name ℕ} {f : ℕ → Act Name B} {H : B → Type 0} → Fine L C m (IsLow L) → ((x : ℕ) → Fine L (C × IsLow L x) (f x) H) → Fine L C (m >>= f) H
+    bind_low h k = fine_bind L (IsLow L) h k
+
+    tells : {C B : Type 0} {H : B → Type 0} {n : Act Name B} (t : Happened Name) → Knows C (LineFits L t) → Fine L C n H → Fine L C (tell t >> n) H
+    tells t h k = fine_then L (fine_tell L t h.from) k
+
+    gives : {C A : Type 0} {G : A → Type 0} (x : A) → Knows C (G x) → Fine L C (give x) G
+    gives x h = fine_give L x h.from
+
+    stops : {C A : Type 0} {G : A → Type 0} (d : Stop) → Fine L C (stop {A = A} d) G
+    stops d = fine_stop L d
+
+    makes_slot : {C : Type 0} (g x : Value Name) → Knows C (ValueFits L g) → Knows C (ValueFits L x) → Fine L C (new_slot g x) (IsLow L)
+    makes_slot g x h f = fine_slot L g x h.from f.from
+
+    makes_ejector : {C : Type 0} (act : ℕ) → Knows C (IsLow L act) → Fine L C (calls.new_ejector K tree act) (IsLow L)
+    makes_ejector act a = fine_ejector L word v inside tree good_tree act a.from
+
+    makes_object : {C : Type 0} (node p : ℕ) (free : List Words) (auditors : List (Value Name)) (here : Scope Name) → Knows C (ValuesFit L auditors) → Knows C (ScopeFits L here) → Fine L C (calls.make_object K tree (calls.call K tree rec) node (slice_get tree p) free auditors here) (AnswerFits L)
+    makes_object node p free auditors here f h = fine_make_object L word v inside tree good_tree (calls.call K tree rec) again node (slice_get tree p) free auditors here (node_at tree p good_tree) f.from h.from
+
+    follows : {C : Type 0} (x : Value Name) → Knows C (ValueFits L x) → Fine L C (look (λ s. refs.follow K s x)) (ValueFits L)
+    follows x h = look_follow L word v inside x h.from
+
+    calls_any : {C : Type 0} (act : ℕ) (x : Value Name) (verb : Words) (args : List (Value Name)) → Knows C (IsLow L act) → Knows C (ValueFits L x) → Knows C (TextFits verb) → Knows C (ValuesFit L args) → Fine L C (calls.call K tree rec act x verb args) (ValueFits L)
+    calls_any act x verb args a f t g = again _ act x verb args a.from f.from t.from g.from
+
+    hands : {C : Type 0} (j : Value Name) → Knows C (ValueFits L j) → Fine L C (perform.handed K tree j) (ValueFits L)
+    hands j h = fine_handed L word v inside tree j h.from
+
+    coerces : {C : Type 0} (act : ℕ) (g j x : Value Name) → Knows C (IsLow L act) → Knows C (ValueFits L g) → Knows C (ValueFits L j) → Knows C (ValueFits L x) → Fine L C (perform.coerce K tree (calls.call K tree rec) act g j x) (ValueFits L)
+    coerces act g j x a e f h = coerced act g j x a.from e.from f.from h.from
+
+    evaluates : {C : Type 0} (e : ℕ) (here : Scope Name) → Knows C (ScopeFits L here) → Fine L C (rec.expression e here) (AnswerFits L)
+    evaluates e here h = good.expression _ e here h.from
+
+    evaluates_all : {C : Type 0} (es : List ℕ) (here : Scope Name) → Knows C (ScopeFits L here) → Fine L C (eval.all_of K tree rec es here) (AnswersFit L)
+    evaluates_all es here h = all_of es here h.from
+
+    evaluates_last : {C : Type 0} (x : Answer Name) (es : List ℕ) → Knows C (AnswerFits L x) → Fine L C (eval.last_of K tree rec x es) (AnswerFits L)
+    evaluates_last x es h = last_of x es h.from
+
+    binds : {C : Type 0} (p : ℕ) (x j : Value Name) (here : Scope Name) → Knows C (ValueFits L x) → Knows C (ValueFits L j) → Knows C (ScopeFits L here) → Fine L C (rec.pattern p x j here) (ScopeFits L)
+    binds p x j here f g h = good.pattern _ p x j here f.from g.from h.from
+
+    binds_items : {C : Type 0} (ps : List ℕ) (j : Value Name) (here : Scope Name) (y : Value Name) → Knows C (ValueFits L j) → Knows C (ScopeFits L here) → Fine L C (eval.bind_items K tree rec ps j here y) (ScopeFits L)
+    binds_items ps j here y f h = bind_items ps j here y f.from h.from
+
+    answers : {C : Type 0} (here : Scope Name) (x : Value Name) → Knows C (ScopeFits L here) → Knows C (ValueFits L x) → Fine L C (scopes.answered here x) (AnswerFits L)
+    answers here x h f = answered here x h.from f.from
+
+    reads : {C : Type 0} (act : ℕ) (o : Option (Bound Name)) (x : Words) → Knows C (IsLow L act) → Knows C (WhereSome (BoundFits L) o) → Fine L C (scopes.read_bound act o x) (ValueFits L)
+    reads act o x a f = read_bound act o x a.from f.from
+
+    writes : {C : Type 0} (act : ℕ) (o : Option (Bound Name)) (x : Value Name) → Knows C (IsLow L act) → Knows C (WhereSome (BoundFits L) o) → Knows C (ValueFits L x) → Fine L C (eval.write_bound K tree rec act o x) (ValueFits L)
+    writes act o x a f h = write_bound act o x a.from f.from h.from
+
+    exits : {C : Type 0} (o : Option ℕ) (here : Scope Name) → Knows C (ScopeFits L here) → Fine L C (eval.exit_of K tree rec o here) (AnswerFits L)
+    exits o here h = exit_of o here h.from
+
+    escapes : {C : Type 0} (j : ℕ) (here : Scope Name) (o : Option (ℕ × ℕ)) {m : Act Name (Answer Name)} → Knows C (ScopeFits L here) → Fine L C m (AnswerFits L) → Fine L C (eval.escaped K tree rec j here o m) (AnswerFits L)
+    escapes j here o h k = escaped j here o h.from k
+
+    tries : {C : Type 0} (p b : ℕ) (here : Scope Name) {m : Act Name (Answer Name)} → Knows C (ScopeFits L here) → Fine L C m (AnswerFits L) → Fine L C (eval.tried K tree rec p b here m) (AnswerFits L)
+    tries p b here h k = tried p b here h.from k
+
+    closes_with : {C : Type 0} (b : ℕ) (here : Scope Name) {m : Act Name (Answer Name)} → Knows C (ScopeFits L here) → Fine L C m (AnswerFits L) → Fine L C (eval.at_last K tree rec b here m) (AnswerFits L)
+    closes_with b here h k = at_last b here h.from k
+
+    chooses : {C : Type 0} (a b : ℕ) (here inner : Scope Name) (y : Value Name) → Knows C (ScopeFits L here) → Knows C (ScopeFits L inner) → Fine L C (eval.choose K tree rec a b here inner y) (AnswerFits L)
+    chooses a b here inner y h i = choose a b here inner y h.from i.from
+
+    matches : {C : Type 0} (j p : ℕ) (here : Scope Name) {m : Act Name (Scope Name)} → Knows C (ScopeFits L here) → Fine L C m (ScopeFits L) → Fine L C (eval.match_ended K tree j p here m) (AnswerFits L)
+    matches j p here h k = match_ended j p here h.from k
+
+    guards : {C : Type 0} (o : Option ℕ) (here : Scope Name) → Knows C (ScopeFits L here) → Fine L C (eval.guard_of K tree rec o here) (AnswerFits L)
+    guards o here h = guard_of o here h.from
+
+    known_ejector : {C : Type 0} (j : ℕ) → Knows C (IsLow L j) → Knows C (ValueFits L (Ref (K.object j)))
+    known_ejector j h = record { from = λ c. made_object L word v inside tree good_tree j (h.from c) }
+
+    known_literal : {C : Type 0} (l : Literal) → LiteralFits l → Knows C (ValueFits L (literal_value l))
+    known_literal l f = record { from = λ c. literal_fits L l f }
+
+    -- a node that is put together from these is no more text here
+    ruleset nodes = (bind_answer, bind_answers, bind_scope, bind_value, bind_low, tells, gives, stops, makes_slot, makes_ejector, makes_object, follows, calls_any, hands, coerces, evaluates, evaluates_all, evaluates_last, binds, binds_items, answers, reads, writes, exits, escapes, tries, closes_with, chooses, matches, guards, known_itself, known_last, known_left, known_right, known_ejector, known_literal, known_text, known_nothing, known_both, known_three, plain)
+
+    node_fits : {C : Type 0} (id : ℕ) (n : Node) (here : Scope Name) → NodeFits n → Knows C (ScopeFits L here) → Knows C (IsLow L here.act) → ((x : Words) → Knows C (WhereSome (BoundFits L) (scopes.bound_in here.nouns x))) → Fine L C (eval.step K tree rec id n here) (AnswerFits L)
+    unfolding eval.step
+    node_fits id (Hide e) here f h a noun = search nodes depth 30
+    node_fits id other here f h a noun = search nodes depth 30
+
+    step : {C : Type 0} (id : ℕ) (n : Node) (here : Scope Name) → NodeFits n → (C → ScopeFits L here) → Fine L C (eval.step K tree rec id n here) (AnswerFits L)
+    step id n here f h = node_fits id n here f (record { from = h }) (record { from = λ c. (h c).0 }) (λ x. record { from = λ c. bound_fits L here.nouns x (h c).1 })
+
+    pattern_fits : {C : Type 0} (n : Node) (x j : Value Name) (here : Scope Name) → NodeFits n → Knows C (ValueFits L x) → Knows C (ValueFits L j) → Knows C (ScopeFits L here) → Knows C (IsLow L here.act) → Fine L C (eval.bind_step K tree rec n x j here) (ScopeFits L)
     unfolding eval.bind_step scopes.with_noun
-    bind_step (Final y g) x j here f e k h = fine_bind L (AnswerFits L) (guard_of g here h) (λ d. fine_bind L (ValueFits L) (coerced here.act d.value j x (λ c. (h c.0).0) (λ c. c.1.0) (λ c. k c.0) (λ c. e c.0)) (λ w. fine_give L _ (λ c. (c.0.1.1.0, ((c.1, c.0.1.0), c.0.1.1.1)))))
-    bind_step (Var y g) x j here f e k h = fine_bind L (AnswerFits L) (guard_of g here h) (λ d. fine_bind L (ValueFits L) (coerced here.act d.value j x (λ c. (h c.0).0) (λ c. c.1.0) (λ c. k c.0) (λ c. e c.0))
-        (λ w. fine_bind L (IsLow L) (fine_slot L d.value w (λ c. c.0.1.0) (λ c. c.1)) (λ z. fine_then L (fine_tell L (SlotMade here.act z w) (λ c. ((h c.0.0.0).0, c.1, c.0.1))) (fine_give L _ (λ c. (c.0.0.1.1.0, (c.1, c.0.0.1.1.1)))))))
-    bind_step (Any g) x j here f e k h = fine_bind L (AnswerFits L) (guard_of g here h) (λ d. fine_bind L (ValueFits L) (coerced here.act d.value j x (λ c. (h c.0).0) (λ c. c.1.0) (λ c. k c.0) (λ c. e c.0)) (λ w. fine_give L d.scope (λ c. c.0.1.1)))
-    bind_step (ListPattern ps) x j here f e k h = fine_bind L (nothing L) (fine_sees L _) (λ y. bind_items ps j here y (λ c. k c.0) (λ c. h c.0))
-    bind_step (Via a p) x j here f e k h = fine_bind L (AnswerFits L) (good.expression _ a here h) (λ q. fine_bind L (ValueFits L) (fine_handed L word v inside tree j (λ c. k c.0))
-        (λ d. fine_bind L (ValueFits L) (again _ here.act q.value (codes "run") (x ∷ d ∷ []) (λ c. (h c.0.0).0) (λ c. c.0.1.0) (λ c. plain _ refl) (λ c. (e c.0.0, (c.1, tt)))) (λ y. good.pattern _ p y j q.scope (λ c. c.1) (λ c. k c.0.0.0) (λ c. c.0.0.1.1))))
-    bind_step _ x j here f e k h = fine_stop L Astray
+    pattern_fits (Any g) x j here f e k h a = search nodes depth 30
+    pattern_fits other x j here f e k h a = search nodes depth 30
+
+    bind_step : {C : Type 0} (n : Node) (x j : Value Name) (here : Scope Name) → NodeFits n → (C → ValueFits L x) → (C → ValueFits L j) → (C → ScopeFits L here) → Fine L C (eval.bind_step K tree rec n x j here) (ScopeFits L)
+    bind_step n x j here f e k h = pattern_fits n x j here f (record { from = e }) (record { from = k }) (record { from = h }) (record { from = λ c. (h c).0 })
 
     -- ---- depth
 

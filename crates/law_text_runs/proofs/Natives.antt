@@ -13,9 +13,9 @@ use Rattle.std.proofs.lemmas.Str.{IsUtf8-append, IsUtf8-encode}
 use Rattle.def_machine.specs.Values.{Words, Value, Null, Flag, Number, Letter, Text, Prim, Items, Name}
 use Rattle.def_machine.specs.Free.{entry, same_words}
 use Rattle.def_machine.specs.Ints as ints
-use Rattle.def_machine.specs.Ints.{IntOp, Add, Subtract, Multiply, FloorDivide, Remainder, Mod, Pow, And, Or, Xor}
+use Rattle.def_machine.specs.Ints.{IntOp, FloorDivide, Remainder, Mod, Pow, And, Or, Xor}
 use Rattle.def_machine.specs.Native as native
-use Rattle.def_machine.specs.Native.{list_at, Reply, Says, Writes, Lists as Listed, Iterates, Fails, IntVerb, Applies, Negates, AsChar, NoIntVerb, FlagVerb, Both, Either, Unlike, NoFlagVerb, SeqVerb, Gets, Adds, AddsOne, Steps, NoSeqVerb, Order, Guard, AnyGuard, VoidGuard, IntGuard, BooleanGuard, CharGuard, TextGuard, ListGuard, NullGuard, NearGuard, FrozenGuard, OrNull, Primitive, MakeList, Equalizer, Comparer, Looper, Sender, References, Thrower, StampReader, Guarding, Judging, NoPrimitive, Asked, MakesList, Ranges, Same, Compares, Loops, SendsTo, CallsTo, MakesPromise, Breaks, Tells, Whens, ThrowsIt, IsStamped, Coerces, AddsNull, NoMethod}
+use Rattle.def_machine.specs.Native.{list_at, Reply, Says, Writes, Lists as Listed, Iterates, Fails, IntVerb, Applies, Negates, AsChar, FlagVerb, Both, Either, Unlike, NoFlagVerb, SeqVerb, Gets, Adds, AddsOne, Steps, NoSeqVerb, Order, Guard, AnyGuard, VoidGuard, IntGuard, BooleanGuard, CharGuard, TextGuard, ListGuard, NullGuard, NearGuard, FrozenGuard, OrNull, Primitive, MakeList, Equalizer, Comparer, Looper, Sender, References, Thrower, StampReader, Guarding, Judging, NoPrimitive, Asked, MakesList, Ranges, Loops, SendsTo, CallsTo, Breaks, Tells, Whens, ThrowsIt, Coerces, AddsNull}
 use Rattle.law_text.specs.Feeds.{AllOf}
 use Rattle.law_text_runs.specs.Fitting.{Limits, ValueFits, ValuesFit, spread, TextFits}
 use Rattle.law_text_runs.proofs.Fine.{all_append, all_end}

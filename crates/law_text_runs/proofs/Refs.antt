@@ -1,9 +1,9 @@
 -- References: what they lead to fits, and so does all that is sent, passed and settled.
 use Rattle.std.proofs.Common.{◌≡◌, ℕ, zero, suc, ◌<◌, Bool, true, false, List, [], ◌∷◌, ◌++◌, Option, Some, None, ◌==◌, refl, subst, length, map, codes, arith}
-use Rattle.def_machine.specs.Values.{Words, Value, Null, Flag, Number, Letter, Text, Prim, Broken, Items, Ref, Name, Root, Object, Promise, Answer, Gift, Sent, Spot, Own, Foreign, NoObject, Coming, IsAnswer, Mailing, Naming, naming, name_of, answer_of, mail_of, spot_of}
+use Rattle.def_machine.specs.Values.{Words, Value, Null, Broken, Items, Ref, Name, Root, Object, Promise, Answer, Gift, Sent, Spot, Own, Foreign, NoObject, Coming, IsAnswer, Mailing, Naming, naming, name_of, answer_of, mail_of, spot_of}
 use Rattle.def_machine.specs.State.{Message, Standing, Unsettled, WaitsOn, Viewed, Settled, Known, Change, Hold, Wait, WaitOn, See, React, ToTell, Settle, Passed, Passeds, Plain, AGift, Many, NoMore, More, Deliver, Open, SettledTo, Elsewhere, Sends, Lost, Posted, Vat, Act, Astray, WhereSome, each, look, draw, draws, come, mail, alter, with_change, changed, changed_to, unless_settled, with_vat, is_in, begun, new_promise, new_message, new_lone_message}
 use Rattle.def_machine.specs.Refs as refs
-use Rattle.def_machine.specs.Refs.{Place, Near, Mine, Away, Gone, Parcel}
+use Rattle.def_machine.specs.Refs.{Place, Near, Mine, Away, Gone}
 use Rattle.def_machine.specs.Native.{list_at}
 use Rattle.law_machine.specs.Steps.{After}
 use Rattle.law_text.specs.Feeds.{AllOf}

@@ -7,9 +7,9 @@ use Rattle.def_event.specs.declared.shown.Shown.TheBlock.{hidden-the_row-Shown-0
 use denote.Hole.Carrier.{roll, hidden}
 use Rattle.def_event.specs.declared.note.ShownNote.{ShownNote}
 use Rattle.def_event.specs.Lines.{members}
-use Rattle.def_machine.specs.Values.{Words, Value, Null, Flag, Number, Letter, Text, Prim, Broken, Items, Ref, Name, Root, Object, Promise, Answer, Gift, Sent, word_of}
-use Rattle.def_machine.specs.State.{Bound, Fixed, Slot, Message, Passed, Passeds, Plain, AGift, Many, NoMore, More, Note, Deliver, Open, Ask, SettledTo, Elsewhere, Shorten, Happened, Took, Called, Back, Thrown, Left, Got, SlotMade, SlotRead, SlotWrote, ListMade, ListCame, EjectorMade, AuditionMade, PromiseMade, ObjectMade, Sends, Reacts, Finished, Threw, Settles, Waits, Views, Lost, Posted, WhereSome}
-use Rattle.def_run.specs.World.{Event, Opens, Turned, Idle, Carried, CutAt, NoticedAt, Here, LostCut, LeftQueue, LeftHeld, LeftWait, LeftLink, Ends}
+use Rattle.def_machine.specs.Values.{Words, Value, Number, Items, Ref, Name, Root, Object, Promise, Answer, Gift, Sent, word_of}
+use Rattle.def_machine.specs.State.{Bound, Fixed, Slot, Message, Passed, Passeds, Plain, AGift, Many, NoMore, More, Note, Deliver, Open, Ask, SettledTo, Elsewhere, Shorten, Happened, Took, Called, Back, Left, Got, SlotMade, SlotRead, SlotWrote, ListMade, ListCame, EjectorMade, AuditionMade, PromiseMade, ObjectMade, Sends, Reacts, Finished, Settles, Waits, Views, Lost, Posted, WhereSome}
+use Rattle.def_run.specs.World.{Event, Opens, Turned, Idle, Carried, Here, LostCut, LeftQueue, LeftHeld, LeftWait, LeftLink, Ends}
 use Rattle.def_run.specs.Shown.{msg_of, place_of, shown_gift, shown_name, shown_msg, shown_value, shown_values, shown_slot, shown_capture, shown_passed, shown_all, shown_delivery, shown_note, shown_send, shown_reaction, shown_happened, shown_event}
 use Rattle.def_run.specs.Text.{shown_events}
 use Rattle.law_text.specs.Feeds.{AllOf}

@@ -1,7 +1,7 @@
 -- A kernel tree is such that lines can tell it.
 use Rattle.std.specs.Str.{IsUtf8, bytes_eq}
 use Rattle.std.proofs.lemmas.Slice.Eq.{bytes_eq-Decides}
-use Rattle.def_kernel.specs.declared.node.Node.TheVariants.{Lit, Noun, Set, Def, Call, Sequence, If, Escape, Try, Finally, Hide, MatchBind, Object, Method, Matcher, Final, Var, Any, ListPattern, Via}
+use Rattle.def_kernel.specs.declared.node.Node.TheVariants.{Lit, Noun, Set, Call, Method, Final, Var}
 use Rattle.law_text.specs.Feeds.{AllOf}
 use Rattle.law_text_runs.specs.Laws.{IsShortLiteral, IsShort}
 use Rattle.std.proofs.Common.{◌≡◌, ◌⊎◌, ◌||◌, inl, inr, ℕ, zero, suc, ◌≤◌, ◌<◌, Bool, true, false, List, [], ◌∷◌, Option, Some, if◌then◌else◌, refl, subst, sym, length, codes, arith}
@@ -10,7 +10,7 @@ use Rattle.std.proofs.lemmas.Bool.{cases_lt}
 use Rattle.def_text.specs.Keywords.{is_identifier}
 use Rattle.def_text.specs.Quoting.{quoted}
 use Rattle.def_kernel.specs.declared.node.Literal.{Literal}
-use Rattle.def_kernel.specs.declared.node.Literal.TheVariants.{Int, Char, Text}
+use Rattle.def_kernel.specs.declared.node.Literal.TheVariants.{Text}
 use Rattle.def_kernel.specs.declared.node.Node.{Node}
 use Rattle.def_kernel_form.specs.declared.shape.Kind.{Kind}
 use Rattle.law_kernel_form.specs.Trees.{IsLiteral, IsName, Has, Tree, Row, IsTree, literal, noun, set, def, def_exit, call, sequence, choice, escape, escape_catch, try_catch, finally, hide, match_bind, object, method, matcher, final, final_guarded, variable, variable_guarded, any, any_guarded, list, via, named, unnamed, none, one_more}

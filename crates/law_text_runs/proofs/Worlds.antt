@@ -3,13 +3,13 @@ use Rattle.std.proofs.Common.{◌≡◌, ℕ, zero, suc, ◌+◌, ◌≤◌, ◌
 use Rattle.std.specs.Prelude.{slice_get}
 use Rattle.std.proofs.lemmas.Bool.{eqb-true}
 use Rattle.def_machine.specs.Values.{Name, Root}
-use Rattle.def_machine.specs.State.{Message, Known, Note, Deliver, Open, Ask, SettledTo, Elsewhere, Shorten, Put, Happened, Posted, Vat, Done, Gives, Throws, Ejects, Stops, Act, is_in, begun}
+use Rattle.def_machine.specs.State.{Message, Known, Note, Deliver, Open, Ask, SettledTo, Elsewhere, Shorten, Put, Happened, Posted, Vat, Done, Gives, Act, is_in, begun}
 use Rattle.def_machine.specs.Arrive.{notice}
 use Rattle.def_machine.specs.Scopes.{any_guard}
 use Rattle.def_machine.specs.Eval.{opening}
 use Rattle.def_run.specs.Draws.{draw_word}
 use Rattle.def_run.specs.World as world
-use Rattle.def_run.specs.World.{Script, Program, Entry, Turn, Carry, CutLink, NoticeLink, Link, Event, Opens, Turned, Idle, Carried, CutAt, NoticedAt, Here, LostCut, LeftQueue, LeftHeld, LeftWait, LeftLink, Ends, World, Run, Goes, Stopped, begins, put_at, with_link, with_notes, is_link, link_at}
+use Rattle.def_run.specs.World.{Script, Program, Entry, Turn, Carry, CutLink, NoticeLink, Link, Event, Opens, Turned, Idle, NoticedAt, LostCut, LeftQueue, LeftHeld, LeftWait, LeftLink, Ends, World, Run, Goes, Stopped, begins, put_at, with_link, with_notes, is_link, link_at}
 use Rattle.law_machine.specs.Steps.{After}
 use Rattle.law_text.specs.Feeds.{AllOf}
 use Rattle.law_text_runs.specs.Fitting.{Limits, size, IsVat, NameFits, MessageFits, KnownFits, NoteFits, LineFits, NounsFit, VatFits}

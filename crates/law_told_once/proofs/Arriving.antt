@@ -1,9 +1,9 @@
 -- What a vat is told as it asks for a gift, and as it asks the provider of one.
 use Rattle.std.proofs.Common.{◌≡◌, ℕ, true, false, List, [], ◌∷◌, ◌++◌, Option, Some, None, refl, sym, ap, subst, ◌∙◌, ◌⊎◌, inl, inr, append_assoc}
 use Rattle.def_machine.specs.Values.{Name, Gift, Naming, naming, name_of}
-use Rattle.def_machine.specs.State.{Standing, Unsettled, WaitsOn, Viewed, Settled, ToTell, Note, Open, GiftEntry, Vat, Done, Gives, Throws, Ejects, Stops, Act, WhereSome, ◌>>=◌, ◌>>◌, and_then, give, look, alter, come, new_gift, begun}
+use Rattle.def_machine.specs.State.{Standing, Settled, ToTell, Note, Open, GiftEntry, Vat, Done, Gives, Act, WhereSome, ◌>>=◌, ◌>>◌, and_then, give, look, alter, come, new_gift, begun}
 use Rattle.def_machine.specs.Refs as refs
-use Rattle.def_machine.specs.Refs.{Place, Near, Mine, Away, Gone, standing_of}
+use Rattle.def_machine.specs.Refs.{Place, Away, standing_of}
 use Rattle.def_machine.specs.Arrive as arrive
 use Rattle.def_machine.specs.Arrive.{Incoming, gift_at}
 use Rattle.law_machine.specs.Laws.{SettledStays}

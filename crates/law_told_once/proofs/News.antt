@@ -2,7 +2,7 @@
 use Rattle.std.proofs.Common.{◌≡◌, ℕ, zero, suc, false, List, [], ◌∷◌, ◌++◌, Some, refl, sym, ap, subst, ◌∙◌, ◌⊎◌, inl, inr, map}
 use Rattle.std.specs.Prelude.{slice_get}
 use Rattle.def_machine.specs.Values.{Name, Root, Promise, Answer, Gift, Msg, naming, host_of}
-use Rattle.def_machine.specs.State.{Note, Deliver, Open, Ask, SettledTo, Elsewhere, Shorten, Vat, begun}
+use Rattle.def_machine.specs.State.{Note, Deliver, Open, SettledTo, Elsewhere, Vat, begun}
 use Rattle.law_machine.specs.Steps.{Receives}
 use Rattle.def_machine.specs.Refs.{standing_of, standing_in}
 use Rattle.def_run.specs.Draws.{draw_word}

@@ -1,8 +1,8 @@
 -- In every run a gift of a vat for which no note that opens it has arrived neither waits nor settled, but to what is broken.
 use Rattle.std.proofs.Common.{◌≡◌, ℕ, zero, ◌+◌, ◌≤◌, Bool, true, false, List, [], ◌∷◌, ◌++◌, Option, Some, None, refl, sym, ap, subst, ◌∙◌, ◌⊎◌, inl, inr, arith, eq-eqb}
 use Rattle.std.specs.Prelude.{slice_get}
-use Rattle.def_machine.specs.Values.{Name, Root, Object, Promise, Answer, Gift, Sent, naming, host_of}
-use Rattle.def_machine.specs.State.{Note, Deliver, Open, Ask, SettledTo, Elsewhere, Shorten, Put, Vat}
+use Rattle.def_machine.specs.Values.{Name, Gift, Sent, naming, host_of}
+use Rattle.def_machine.specs.State.{Note, Deliver, Open, SettledTo, Elsewhere, Put, Vat}
 use Rattle.def_machine.specs.Refs.{standing_of, standing_in}
 use Rattle.def_run.specs.Draws.{draw_word}
 use Rattle.def_run.specs.World as world

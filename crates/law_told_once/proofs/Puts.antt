@@ -2,7 +2,7 @@
 use Rattle.std.proofs.Common.{◌≡◌, ℕ, Bool, true, false, List, [], ◌∷◌, ◌++◌, refl, sym, ap, ◌∙◌, ◌⊎◌, inl, inr, append_assoc, append-nil, ◌==◌}
 use Rattle.std.proofs.lemmas.Bool.{eqb-true, eq-eqb}
 use Rattle.def_machine.specs.Values.{Name}
-use Rattle.def_machine.specs.State.{Note, Deliver, Open, Ask, SettledTo, Elsewhere, Shorten, Put}
+use Rattle.def_machine.specs.State.{Note, SettledTo, Elsewhere, Put}
 use Rattle.def_run.specs.World.{Link, with_link, pushed, push_all}
 use Rattle.law_name.specs.Names.{AllOf, IsAmong}
 use Rattle.law_reference.proofs.LinksCut.{fits_pushed}

@@ -2,7 +2,7 @@
 use Rattle.std.proofs.Common.{◌≡◌, ℕ, zero, suc, ◌+◌, ◌≤◌, Bool, true, false, List, [], ◌∷◌, ◌++◌, Option, Some, None, refl, sym, ap, subst, ◌∙◌, ◌⊎◌, inl, inr, append-nil, map, arith}
 use Rattle.std.specs.Prelude.{slice_get}
 use Rattle.def_machine.specs.Values.{Name, Gift, Naming, naming}
-use Rattle.def_machine.specs.State.{Note, Deliver, Open, Ask, SettledTo, Elsewhere, Shorten, Vat, is_in, begun}
+use Rattle.def_machine.specs.State.{Note, Ask, Vat, is_in, begun}
 use Rattle.def_machine.specs.Refs.{entry_of}
 use Rattle.law_machine.specs.Laws.{SettledStays}
 use Rattle.law_machine.specs.Steps.{Receives}

@@ -1,7 +1,7 @@
 -- A vat is told once of each name that settles in a step: a relation that all changes keep, where a settling is one block.
 use Rattle.std.proofs.Common.{◌≡◌, ℕ, suc, List, [], ◌∷◌, ◌++◌, Some, refl, sym, ap, subst, ◌∙◌, ◌⊎◌, inl, inr, append-nil, append_assoc}
 use Rattle.def_machine.specs.Values.{Value, Name, Naming, under}
-use Rattle.def_machine.specs.State.{Message, Standing, Unsettled, WaitsOn, Viewed, Settled, Known, Settle, Settles, Deliver, Ask, Shorten, Vat, Done, Gives, Throws, Ejects, Stops, Act, ◌>>◌, and_then, tell, alter, each, enqueue, with_change, changed, changed_to, unless_settled, begun}
+use Rattle.def_machine.specs.State.{Message, Standing, Unsettled, Settled, Known, Settle, Settles, Deliver, Ask, Shorten, Vat, Done, Gives, Throws, Ejects, Stops, Act, ◌>>◌, and_then, tell, alter, each, enqueue, with_change, changed, changed_to, unless_settled, begun}
 use Rattle.def_machine.specs.Refs as refs
 use Rattle.def_machine.specs.Refs.{entry_of, standing_of}
 use Rattle.law_machine.specs.Laws.{SettledStays}

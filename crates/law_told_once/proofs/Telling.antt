@@ -3,9 +3,9 @@ use Rattle.std.proofs.Common.{◌≡◌, ℕ, ◌-◌, Bool, true, false, List, 
 use Rattle.std.specs.Prelude.{◌==◌}
 use Rattle.std.proofs.lemmas.Bool.{eqb-true}
 use Rattle.def_machine.specs.Values.{Value, Name, Naming, Coming, Mailing}
-use Rattle.def_machine.specs.State.{Message, Settled, Known, Change, Hold, Wait, WaitOn, See, React, ToTell, Settle, Passed, AGift, Note, Open, SettledTo, Elsewhere, Put, Vat, Done, Gives, Throws, Ejects, Stops, Act, ◌>>=◌, ◌>>◌, and_then, give, look, each, enqueue, send_out, new_gift, open_gift, mark, alter, with_change, changed, changed_to, with_vat, is_in, come, mail, new_message, new_lone_message, draw, draws, begun}
+use Rattle.def_machine.specs.State.{Message, Settled, Known, Change, ToTell, Settle, Passed, AGift, Note, Open, SettledTo, Elsewhere, Put, Vat, Done, Gives, Throws, Ejects, Stops, Act, ◌>>=◌, ◌>>◌, and_then, give, look, each, enqueue, send_out, new_gift, open_gift, mark, alter, with_change, changed, changed_to, with_vat, is_in, come, mail, new_message, new_lone_message, draw, draws, begun}
 use Rattle.def_machine.specs.Refs as refs
-use Rattle.def_machine.specs.Refs.{Place, Near, Mine, Away, Gone, entry_of, standing_of}
+use Rattle.def_machine.specs.Refs.{Place, Away, entry_of, standing_of}
 use Rattle.law_machine.specs.Laws.{SettledStays}
 use Rattle.law_machine.specs.Steps.{After}
 use Rattle.law_machine.proofs.StepLaws.{settled_names, settled_entry, standing_found, entry_append}

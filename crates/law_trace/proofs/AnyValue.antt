@@ -4,9 +4,9 @@ use Rattle.std.specs.Prelude.{chars, decimal, take, Ok}
 use Rattle.std.specs.List.{flat_map}
 use Rattle.std.specs.Str.{encode_utf8_all}
 use Rattle.ev_base.specs.declared.names.Name.{Name}
-use Rattle.ev_base.specs.declared.names.Name.TheVariants.{Object, Own, Answer, Gift, Root}
+use Rattle.ev_base.specs.declared.names.Name.TheVariants.{Answer}
 use Rattle.def_text.specs.Quoting.{escaped, quoted, shortened, shown_length}
-use Rattle.def_event.specs.declared.shown.Shown.{Shown, Null, Bool, Int, Char, Text, Broken, Prim, List as ListOf, Slot, Name as Named, Members'}
+use Rattle.def_event.specs.declared.shown.Shown.{Shown, Bool, Int, Char, Text, Broken, Prim, List as ListOf, Slot, Name as Named, Members'}
 use Rattle.def_event.specs.Lines as lines
 use Rattle.ev_trace_words.specs.Laws.{AreNames, FitsName}
 use Rattle.ev_trace_words.specs.Texts.{shown_text}

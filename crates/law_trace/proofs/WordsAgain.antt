@@ -10,9 +10,9 @@ use Rattle.std.proofs.lemmas.Slice.Eq.{bytes_eq-Decides}
 use Rattle.def_text.specs.Quoting.{quoted}
 use Rattle.def_text.specs.Keywords.{is_identifier, printed_verb}
 use Rattle.def_event.specs.declared.note.ShownNote.{ShownNote}
-use Rattle.def_event.specs.declared.note.ShownNote.TheVariants.{Deliver, DeliverOnly, Settled, Elsewhere, Open as Opens, Ask, Shorten}
+use Rattle.def_event.specs.declared.note.ShownNote.TheVariants.{Deliver, DeliverOnly}
 use Rattle.def_event.specs.declared.event.Event.{Event}
-use Rattle.def_event.specs.declared.event.Event.TheVariants.{Open, Turn, Idle, Carry, Cut, Notice, Frame, Take, Call, Back, Thrown, Gone, Got, Slot as SlotMade, Read, Wrote, List as ListMade, Arrived, Ejector, Audition, Promise, Made, Send, SendOnly, When, Done, Threw, Settle, Wait, View, LostCut, LostBroken, LeftQueue, LeftHeld, LeftWait, LeftLink, End}
+use Rattle.def_event.specs.declared.event.Event.TheVariants.{Carry, Take, Call, Made, Send, SendOnly, LeftLink}
 use Rattle.def_event.specs.Lines.{spaced, words}
 use Rattle.ev_script.specs.Vats.{is_lower_or_digit, is_vat_name}
 use Rattle.law_text.specs.Feeds.{AllOf, FitsAs, NoteFits}

@@ -2,7 +2,7 @@
 use Rattle.std.proofs.Common.{◌≡◌, ℕ, true, List, [], ◌∷◌, refl, sym, subst, ◌⊎◌, inl, inr}
 use Rattle.ev_base.specs.declared.names.Name.{Name as ShownName}
 use Rattle.ev_base.specs.declared.names.Name.TheVariants as name
-use Rattle.def_machine.specs.Values.{Value, Null, Flag, Number, Letter, Text, Prim, Broken, Items, Ref, Name, Gift, word_of}
+use Rattle.def_machine.specs.Values.{Value, Items, Ref, Name, Gift, word_of}
 use Rattle.def_machine.specs.State.{Passed, Passeds, Plain, AGift, Many, NoMore, More, Happened, Settles, Views}
 use Rattle.def_run.specs.World.{Event, Here}
 use Rattle.def_run.specs.Shown as show

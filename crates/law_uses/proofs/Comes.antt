@@ -7,7 +7,7 @@ use Rattle.def_event.specs.declared.shown.Shown.TheViews.{roll-Shown}
 use Rattle.def_event.specs.declared.shown.Shown.TheBlock.{hidden-the_row-Shown-0}
 use denote.Hole.Carrier.{roll, hidden}
 use Rattle.def_event.specs.Lines.{members}
-use Rattle.def_machine.specs.Values.{Value, Null, Flag, Number, Letter, Text, Prim, Broken, Items, Ref, Name, Gift}
+use Rattle.def_machine.specs.Values.{Value, Null, Items, Ref, Name, Gift}
 use Rattle.def_machine.specs.State.{Passed, Passeds, Plain, AGift, Many, NoMore, More, Happened}
 use Rattle.def_run.specs.World.{Event}
 use Rattle.def_run.specs.Shown as show

@@ -7,7 +7,7 @@ use Rattle.def_event.specs.declared.shown.Shown.{Shown}
 use Rattle.def_event.specs.declared.event.Event.{Event as ShownEvent}
 use Rattle.def_event.specs.declared.event.Event.TheVariants as event
 use Rattle.def_machine.specs.Values.{Value, Name, Sent, Msg, same_name}
-use Rattle.def_machine.specs.State.{Message, Happened, Sends, Reacts, Posted, Note, Deliver, Open, Ask, SettledTo, Elsewhere, Shorten}
+use Rattle.def_machine.specs.State.{Message, Happened, Sends, Reacts, Posted, Note, Deliver, Open}
 use Rattle.def_machine.specs.Values.{Words}
 use Rattle.def_run.specs.World.{Event, Here, Carried}
 use Rattle.def_run.specs.Shown as show

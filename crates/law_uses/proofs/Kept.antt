@@ -5,7 +5,7 @@ use Rattle.ev_base.specs.declared.names.Name.{Name as ShownName}
 use Rattle.def_event.specs.declared.event.Event.{Event as ShownEvent}
 use Rattle.def_event.specs.declared.event.Event.TheVariants as event
 use Rattle.def_machine.specs.Values.{Words, Value, Ref, Name}
-use Rattle.def_machine.specs.State.{Message, Known, Passeds, Delivery, Note, Deliver, Open, Ask, SettledTo, Elsewhere, Shorten, Put, Happened, Took, Sends, Reacts, ListMade, ListCame, Posted, Vat}
+use Rattle.def_machine.specs.State.{Message, Known, Passeds, Delivery, Note, Deliver, Open, Put, Happened, Took, Sends, Reacts, ListMade, ListCame, Posted, Vat}
 use Rattle.def_run.specs.World as world
 use Rattle.def_run.specs.World.{Event, Here, LostCut, Carried, Link, World}
 use Rattle.def_run.specs.Shown as show

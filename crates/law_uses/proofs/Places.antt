@@ -3,7 +3,7 @@ use Rattle.std.proofs.Common.{◌≡◌, ℕ, ◌+◌, Bool, true, false, List, 
 use Rattle.def_machine.specs.Values.{Value, Name}
 use Rattle.def_machine.specs.State.{Message, Note, Happened, Sends, Reacts, Posted}
 use Rattle.def_run.specs.World as world
-use Rattle.def_run.specs.World.{Event, Opens, Turned, Carried, NoticedAt, Here, LostCut, Link}
+use Rattle.def_run.specs.World.{Event, Opens, Turned, Carried, NoticedAt, LostCut, Link}
 use Rattle.def_run.specs.Shown as show
 use Rattle.def_run.specs.Text.{shown_events}
 use Rattle.law_fate.proofs.RunCounts.{pick}

@@ -2,11 +2,11 @@
 use Rattle.std.proofs.Common.{◌≡◌, ℕ, zero, suc, ◌+◌, ◌≤◌, arith, Bool, true, false, List, [], ◌∷◌, ◌++◌, ◌==◌, Option, Some, None, refl, sym, ap, ◌∙◌, subst, map, ◌⊎◌, inl, inr}
 use Rattle.std.specs.Prelude.{slice_get}
 use Rattle.def_machine.specs.Values.{Words, Value, Ref, Name, Root}
-use Rattle.def_machine.specs.State.{Message, Passeds, Delivery, Note, Deliver, Open, Ask, SettledTo, Elsewhere, Shorten, Vat, Done, Gives, Throws, Ejects, Stops, begun}
+use Rattle.def_machine.specs.State.{Message, Passeds, Delivery, Note, Deliver, Vat, Done, Gives, Throws, begun}
 use Rattle.def_machine.specs.Arrive.{notice}
 use Rattle.def_machine.specs.Eval.{opening}
 use Rattle.def_run.specs.World as world
-use Rattle.def_run.specs.World.{Script, Program, Opens, Entry, Turn, Carry, CutLink, NoticeLink, Event, Here, Turned, Idle, Carried, CutAt, NoticedAt, LostCut, LeftQueue, LeftHeld, LeftWait, LeftLink, Ends as IsEnd, Link, World, Run, Goes, Stopped, names, names_of, read_note, begins}
+use Rattle.def_run.specs.World.{Script, Program, Opens, Entry, Turn, Carry, CutLink, NoticeLink, Event, Turned, Idle, Carried, CutAt, NoticedAt, LeftQueue, LeftHeld, LeftWait, LeftLink, Ends as IsEnd, Link, World, Run, Goes, Stopped, names, names_of, read_note, begins}
 use Rattle.def_run.specs.Shown as show
 use Rattle.def_run.specs.Text.{shown_events}
 use Rattle.law_machine.specs.Steps.{Step, Opens as Starts, Takes, Receives, Notices, does, After}
