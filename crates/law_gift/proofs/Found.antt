@@ -12,7 +12,7 @@ use Rattle.law_reference.specs.ListRingless.{IsNamed}
 use Rattle.law_reference.specs.Standing.{HasWord, WordsDiffer}
 use Rattle.law_reference.proofs.Kept.{is}
 use Rattle.law_reference.proofs.OwnTurns.{where_map}
-use Rattle.law_gift.proofs.Kept.{IsBreak, IsCalm, MayAnswer, Entry, Kept}
+use Rattle.law_gift.proofs.Kept.{settling, IsBreak, IsCalm, MayAnswer, Entry, Kept}
 use Rattle.law_gift.proofs.Opened.{IsOpenedBy, opened_later}
 
 -- Names that may settle at vat v, whose gifts are those: all but its own gifts that were not opened.
@@ -27,17 +27,17 @@ may_later v s t same other f = tt
 -- ---- where more may settle
 
 module _ (word : ℕ → ℕ) (v : ℕ) (M O : Name → Type 0) (more : (n : Name) → M n → O n) where
-  answer_more : (m : Message Name) → MayAnswer word v M m → MayAnswer word v O m
+  answer_more : (m : Message Name) → MayAnswer word v (settling word v M) m → MayAnswer word v (settling word v O) m
   answer_more m h = where_map M O more m.answer h
 
-  entry_more : (k : Known Name) → Entry word v M k → Entry word v O k
+  entry_more : (k : Known Name) → Entry word v (settling word v M) k → Entry word v (settling word v O) k
   entry_more k h = (pick h.0, all_map answer_more k.held h.1, all_map more k.waiting h.2, all_map answer_more k.reactions h.3)
     where
       pick : IsCalm k.standing ⊎ M k.name → IsCalm k.standing ⊎ O k.name
       pick (inl i) = inl i
       pick (inr i) = inr (more k.name i)
 
-  pub kept_more : (s : Vat Name) → Kept word v M s → Kept word v O s
+  pub kept_more : (s : Vat Name) → Kept word v (settling word v M) s → Kept word v (settling word v O) s
   kept_more s h = (h.0, all_map entry_more s.known h.1, all_map answer_more s.queue h.2, h.3)
 
 -- ---- gifts by their keys
@@ -93,16 +93,16 @@ module _ (word : ℕ → ℕ) (v : ℕ) where
     entry_so k e (inl h) = calm_so k k.standing refl h
     entry_so k e (inr h) = absurd (cannot (subst May e h))
 
-    calm_head : (b : Bool) (k : Known Name) (o : Option (Known Name)) → (b ≡ true → k.name ≡ n) → Entry word v May k → Calms n o → Calms n (elim b [ true ↦ Some k | false ↦ o ])
+    calm_head : (b : Bool) (k : Known Name) (o : Option (Known Name)) → (b ≡ true → k.name ≡ n) → Entry word v (settling word v May) k → Calms n o → Calms n (elim b [ true ↦ Some k | false ↦ o ])
     calm_head true k o e h i = entry_so k (e refl) h.0
     calm_head false k o e h i = i
 
-    pub calms : (ks : List (Known Name)) → AllOf (Entry word v May) ks → Calms n (entry_of K ks n)
+    pub calms : (ks : List (Known Name)) → AllOf (Entry word v (settling word v May)) ks → Calms n (entry_of K ks n)
     unfolding entry_of standing_in
     calms [] h = inl refl
     calms (k ∷ ks) h = calm_head (K.same k.name n) k (entry_of K ks n) (is word v k.name n) h.0 (calms ks h.1)
 
-  pub unopened_rests : (s : Vat Name) (i : ℕ) (g : GiftEntry Name) → Kept word v (MaySettle v s.gifts) s → WordsDiffer s.gifts → slice_get s.gifts i ≡ Some g → IsNamed v g → g.opened ≡ false
+  pub unopened_rests : (s : Vat Name) (i : ℕ) (g : GiftEntry Name) → Kept word v (settling word v (MaySettle v s.gifts)) s → WordsDiffer s.gifts → slice_get s.gifts i ≡ Some g → IsNamed v g → g.opened ≡ false
       → (standing_of K s.known g.name ≡ Unsettled) ⊎ IsBroken K s g.name
   unfolding standing_of
   unopened_rests s i g h d e named o = calms (MaySettle v s.gifts) g.name (λ may. no_opening (subst (MaySettle v s.gifts) named may refl)) s.known h.1

@@ -10,7 +10,7 @@ use Rattle.law_frozen.specs.Frozen.{AllOf as EachOf, MessageThere, NotePasses, S
 use Rattle.law_frozen.specs.Laws.{StepWell}
 use Rattle.law_frozen.proofs.RunSound.{note_read, given_well}
 use Rattle.law_reference.proofs.Moves.{IsAlone, Does}
-use Rattle.law_gift.proofs.Kept.{MayAnswer, Kept}
+use Rattle.law_gift.proofs.Kept.{settling, MayAnswer, Kept}
 use Rattle.law_gift.proofs.Rests as rests
 use Rattle.law_gift.proofs.Steps as steps
 
@@ -25,11 +25,11 @@ module _ (script : Script) (v : ℕ) (w : World) (May : Name → Type 0) (answer
   N = naming word v
 
   abbrev Well : Vat Name → Type 0
-  Well s = Kept word v May s
+  Well s = Kept word v (settling word v May) s
 
-  stepped : (q t : Vat Name) (what : Step Name Name) → does (names script v) what (readied w q) ≡ Gives tt t → steps.StepMay word v May answers promises what → Sound N (readied w q) → StepWell N (readied w q) what → Well (readied w q) → Well t
+  stepped : (q t : Vat Name) (what : Step Name Name) → does (names script v) what (readied w q) ≡ Gives tt t → steps.StepMay word v (settling word v May) answers promises what → Sound N (readied w q) → StepWell N (readied w q) what → Well (readied w q) → Well t
   unfolding names
-  stepped q t what gives may sound well h = after_given (λ r u. Well u) (readied w q) (does N what (readied w q)) t (steps.step_keeps word v May answers promises what (readied w q) may sound well h) gives
+  stepped q t what gives may sound well h = after_given (λ r u. Well u) (readied w q) (does N what (readied w q)) t (steps.step_keeps word v (settling word v May) answers promises what (readied w q) may sound well h) gives
 
   well_ready : (q : Vat Name) → Well q → Well (readied w q)
   unfolding readied
@@ -53,11 +53,11 @@ module _ (script : Script) (v : ℕ) (w : World) (May : Name → Type 0) (answer
   alone_kept s q t (Takes tree depth m) a d root_may sound h = let b = d.begins in let r : Vat Name = record s { queue = b.0 } in
       let gives : does (names script v) (Takes tree depth m) (readied w r) ≡ Gives tt t = subst (λ z. does (names script v) (Takes tree depth m) (readied w z) ≡ Gives tt t) b.2 d.gives in
       let there : EachOf (MessageThere s.lists) (m ∷ b.0) = subst (λ ms. EachOf (MessageThere s.lists) ms) b.1 sound.queue in
-      let may : AllOf (λ n. MayAnswer word v May n) (m ∷ b.0) = subst (λ ms. AllOf (λ n. MayAnswer word v May n) ms) b.1 h.2 in
+      let may : AllOf (λ n. MayAnswer word v (settling word v May) n) (m ∷ b.0) = subst (λ ms. AllOf (λ n. MayAnswer word v (settling word v May) n) ms) b.1 h.2 in
       stepped r t (Takes tree depth m) gives may.0 (sound_ready s b.0 sound there.1) there.0 (well_ready r (h.0, h.1, may.1, h.3))
   alone_kept s q t (Receives from n) a d root_may sound h = absurd a
   alone_kept s q t (Notices to) a d root_may sound h = stepped s t (Notices to) (subst (λ z. does (names script v) (Notices to) (readied w z) ≡ Gives tt t) d.begins d.gives) tt (sound_same s sound) tt (well_ready s h)
 
   -- a note that arrives
-  pub arrive_kept : (from : ℕ) (s t : Vat Name) (n : Note Name) → does (names script v) (Receives from (read_note (names_of s) n)) (readied w s) ≡ Gives tt t → rests.NoteMay word v May answers (read_note (names_of s) n) → NotePasses n → Sound N s → Well s → Well t
+  pub arrive_kept : (from : ℕ) (s t : Vat Name) (n : Note Name) → does (names script v) (Receives from (read_note (names_of s) n)) (readied w s) ≡ Gives tt t → rests.NoteMay word v (settling word v May) answers (read_note (names_of s) n) → NotePasses n → Sound N s → Well s → Well t
   arrive_kept from s t n gives may passes sound h = stepped s t (Receives from (read_note (names_of s) n)) gives may (sound_same s sound) (note_read (names_of s) n passes) (well_ready s h)

@@ -1,5 +1,5 @@
--- All that a vat does with references, with notes and with cuts keeps that, where what settles may settle or breaks.
-use Rattle.std.proofs.Common.{◌≡◌, ℕ, zero, suc, Bool, true, false, List, [], ◌∷◌, Option, Some, None, refl, sym, subst, ◌⊎◌, inl, inr}
+-- All that a vat does with references, with notes and with cuts keeps that, where what waits, is told of and settles may do so.
+use Rattle.std.proofs.Common.{◌≡◌, ℕ, zero, suc, Bool, true, false, List, [], ◌∷◌, Option, Some, None, refl, sym, subst}
 use Rattle.std.specs.Prelude.{nat_le}
 use Rattle.def_machine.specs.Values.{Words, Value, Broken, Ref, Name, Answer, Gift, Sent, Naming, Coming, Mailing, IsOwn, IsAnswer, IsLearnt, Msg, naming, name_of, answer_of, mail_of}
 use Rattle.def_machine.specs.State.{Message, Standing, Viewed, Settled, Known, Hold, Wait, WaitOn, See, React, ToTell, Settle, Passed, Passeds, Plain, AGift, Many, NoMore, More, Delivery, Deliver, Open, Ask, SettledTo, Elsewhere, Shorten, Note, GiftEntry, Happened, Vat, Stop, Done, Gives, Act, ◌>>=◌, ◌>>◌, and_then, for_some, each, give, stop, look, tell, spend, spent, new_list, enqueue, send_out, new_gift, open_gift, mark, draws, alter, come, mail, new_promise, new_message, new_lone_message, draw, begun, WhereSome}
@@ -11,24 +11,27 @@ use Rattle.law_machine.proofs.Walks.{Property, Holds, IsClosed, walk, walk_bind,
 use Rattle.law_name.specs.Names.{AllOf, IsMessageName}
 use Rattle.law_name.proofs.Facts.{all_end}
 use Rattle.law_reference.specs.ListRingless.{IsNamed, told_name}
-use Rattle.law_gift.proofs.Kept.{IsBreak, opened_named, found_named}
+use Rattle.law_gift.proofs.Kept.{Rule, opened_named, found_named}
 use Rattle.law_gift.proofs.Kept as kept
 
-module _ (word : ℕ → ℕ) (v : ℕ) (May : Name → Type 0) (answers : (m : Msg) → May (Answer v m)) where
+module _ (word : ℕ → ℕ) (v : ℕ) (R : Rule word v) (answers : (m : Msg) → R.May (Answer v m)) where
+  abbrev May : Name → Type 0
+  May n = R.May n
+
   abbrev N : Naming Name Name
-  N = kept.N word v May
+  N = kept.N word v R
 
   abbrev Kept : Vat Name → Type 0
-  Kept s = kept.Kept word v May s
+  Kept s = kept.Kept word v R s
 
   abbrev Entry : Known Name → Type 0
-  Entry k = kept.Entry word v May k
+  Entry k = kept.Entry word v R k
 
   abbrev MayAnswer : Message Name → Type 0
-  MayAnswer m = kept.MayAnswer word v May m
+  MayAnswer m = kept.MayAnswer word v R m
 
   abbrev Leaves : {A : Type 0} → (A → Type 0) → Done Name A → Type 0
-  Leaves G d = kept.Leaves word v May G d
+  Leaves G d = kept.Leaves word v R G d
 
   abbrev any : {A : Type 0} → A → Type 0
   any a = Unit {0}
@@ -130,9 +133,9 @@ module _ (word : ℕ → ℕ) (v : ℕ) (May : Name → Type 0) (answers : (m : 
   unfolding draw
   rest_draw = record { after = λ s h. drawn_leaves s _ _ h }
 
-  alter_so : (c : _) (n : Name) → kept.Fair word v May c n → Holds Keeps (alter N c n)
+  alter_so : (c : _) (n : Name) → kept.Fair word v R c n → Holds Keeps (alter N c n)
   unfolding alter
-  alter_so c n f = record { after = λ s h. ((h.0, kept.changes word v May c n s.known f h.1, h.2, h.3), tt) }
+  alter_so c n f = record { after = λ s h. ((h.0, kept.changes word v R c n s.known f h.1, h.2, h.3), tt) }
 
   rest_hold : (m : Message Name) (n : Name) → MayAnswer m → Holds Keeps (alter N (Hold m) n)
   rest_hold m n i = alter_so (Hold m) n i
@@ -145,7 +148,7 @@ module _ (word : ℕ → ℕ) (v : ℕ) (May : Name → Type 0) (answers : (m : 
 
   begun_entry : (n : Name) (h : ℕ) → Entry (begun n h)
   unfolding begun
-  begun_entry n h = (inl tt, tt, tt, tt)
+  begun_entry n h = (R.unsettled n, tt, tt, tt)
 
   comes : (c : Coming Name Name) (h : ℕ) → Yields (λ n. n ≡ name_of v c) (come N c h)
   unfolding come naming
@@ -225,16 +228,16 @@ module _ (word : ℕ → ℕ) (v : ℕ) (May : Name → Type 0) (answers : (m : 
 
   -- ---- settling
 
-  -- what may settle does so, and everything breaks
+  -- what may settle does so
   abbrev Settler : Type 0
   Settler = Name → Value Name → Act Name (Unit {0})
 
   abbrev Good : Settler → Type 0
-  Good settle = (p : Name) (y : Value Name) → IsBreak y ⊎ May p → Holds Keeps (settle p y)
+  Good settle = (p : Name) (y : Value Name) → R.Settles p y → Holds Keeps (settle p y)
 
   rest_wait_on : (p q : Name) → May p → Holds Keeps (refs.wait_on N p q)
   unfolding refs.wait_on
-  rest_wait_on p q i = let on = alter_so (WaitOn q) p i in let back = alter_so (Wait p) q i in search rests depth 14
+  rest_wait_on p q i = let on = alter_so (WaitOn q) p i in let back = alter_so (Wait p) q (R.may_wait p i) in search rests depth 14
 
   rest_pass_on : (m : Message Name) (h : ℕ) (n : Name) → MayAnswer m → Holds Keeps (refs.pass_on N m h n)
   unfolding refs.pass_on
@@ -245,43 +248,43 @@ module _ (word : ℕ → ℕ) (v : ℕ) (May : Name → Type 0) (answers : (m : 
   rest_send_to settle good m y Near i = rest_queue (record m { target = y }) i
   rest_send_to settle good m y (Mine n) i = rest_hold (record m { target = y }) n i
   rest_send_to settle good m y (Away h n o) i = rest_pass_on m h n i
-  rest_send_to settle good m y (Gone t) i = let break = λ (a : Name). good a (Broken t) (inl tt) in search rests depth 14
+  rest_send_to settle good m y (Gone t) i = let break = λ (a : Name). good a (Broken t) (R.breaks a t) in search rests depth 14
 
   rest_send_on : (settle : Settler) → Good settle → (m : Message Name) → MayAnswer m → Holds Keeps (refs.send_on N settle m)
   unfolding refs.send_on
   rest_send_on settle good m i = let to = λ (y : Value Name) (p : Place Name). rest_send_to settle good m y p i in search rests depth 14
 
-  rest_settle_known : (settle : Settler) → Good settle → (p : Name) (y : Value Name) (k : Known Name) → IsBreak y ⊎ May p → Entry k → Holds Keeps (refs.settle_known N settle p y k)
+  rest_settle_known : (settle : Settler) → Good settle → (p : Name) (y : Value Name) (k : Known Name) → R.Settles p y → Entry k → Holds Keeps (refs.settle_known N settle p y k)
   unfolding refs.settle_known
   rest_settle_known settle good p y k f h = let now = alter_so (Settle y) p f in
-      let held = each_so MayAnswer k.held h.1 (λ m i. rest_send_on settle good m i) in let waiting = each_so May k.waiting h.2 (λ q i. good q y (inr i)) in
+      let held = each_so MayAnswer k.held h.1 (λ m i. rest_send_on settle good m i) in let waiting = each_so R.Waits k.waiting h.2 (λ q i. good q y (R.waiter_settles q y i)) in
       let reacting = each_so MayAnswer k.reactions h.3 (λ m i. rest_queue m i) in search (rests, rest_inform) depth 16
 
-  rest_settle_standing : (settle : Settler) → Good settle → (p : Name) (y : Value Name) (k : Known Name) (t : Standing Name) → IsBreak y ⊎ May p → Entry k → Holds Keeps (refs.settle_standing N settle p y k t)
+  rest_settle_standing : (settle : Settler) → Good settle → (p : Name) (y : Value Name) (k : Known Name) (t : Standing Name) → R.Settles p y → Entry k → Holds Keeps (refs.settle_standing N settle p y k t)
   unfolding refs.settle_standing
   rest_settle_standing settle good p y k (Settled z) f h = rest_give tt
   rest_settle_standing settle good p y k other f h = rest_settle_known settle good p y k f h
 
-  rest_settle_entry : (settle : Settler) → Good settle → (p : Name) (y : Value Name) (o : Option (Known Name)) → IsBreak y ⊎ May p → WhereSome Entry o → Holds Keeps (refs.settle_entry N settle p y o)
+  rest_settle_entry : (settle : Settler) → Good settle → (p : Name) (y : Value Name) (o : Option (Known Name)) → R.Settles p y → WhereSome Entry o → Holds Keeps (refs.settle_entry N settle p y o)
   unfolding refs.settle_entry
   rest_settle_entry settle good p y None f h = rest_give tt
   rest_settle_entry settle good p y (Some k) f h = rest_settle_standing settle good p y k k.standing f h
 
-  rest_settle_one : (settle : Settler) → Good settle → (p : Name) (x : Value Name) → IsBreak x ⊎ May p → Holds Keeps (refs.settle_one N settle p x)
+  rest_settle_one : (settle : Settler) → Good settle → (p : Name) (x : Value Name) → R.Settles p x → Holds Keeps (refs.settle_one N settle p x)
   unfolding refs.settle_one ◌>>=◌ look and_then
-  rest_settle_one settle good p x f = record { after = λ s h. (rest_settle_entry settle good p (target_of N s p x) (entry_of N s.known p) (kept.target_fair word v May s p x f) (kept.found word v May s.known p h.1)).after s h }
+  rest_settle_one settle good p x f = record { after = λ s h. (rest_settle_entry settle good p (target_of N s p x) (entry_of N s.known p) (R.aimed s p x f) (kept.found word v R s.known p h.1)).after s h }
 
-  rest_settle_at : (d : ℕ) (p : Name) (y : Value Name) → IsBreak y ⊎ May p → Holds Keeps (refs.settle_at N d p y)
+  rest_settle_at : (d : ℕ) (p : Name) (y : Value Name) → R.Settles p y → Holds Keeps (refs.settle_at N d p y)
   unfolding refs.settle_at
   rest_settle_at zero p y f = search rests
   rest_settle_at (suc d) p y f = rest_settle_one (λ q z. refs.settle_at N d q z) (λ q z g. rest_settle_at d q z g) p y f
 
-  pub rest_settle : (p : Name) (y : Value Name) → IsBreak y ⊎ May p → Holds Keeps (refs.settle N p y)
+  pub rest_settle : (p : Name) (y : Value Name) → R.Settles p y → Holds Keeps (refs.settle N p y)
   unfolding refs.settle
   rest_settle p y f = let at = λ (d : ℕ). rest_settle_at d p y f in search rests depth 14
 
   pub rest_break : (p : Name) (t : Words) → Holds Keeps (refs.settle N p (Broken t))
-  rest_break p t = rest_settle p (Broken t) (inl tt)
+  rest_break p t = rest_settle p (Broken t) (R.breaks p t)
 
   rest_wait_unless_cycle : (p q : Name) → May p → Holds Keeps (refs.wait_unless_cycle N p q)
   unfolding refs.wait_unless_cycle
@@ -291,7 +294,7 @@ module _ (word : ℕ → ℕ) (v : ℕ) (May : Name → Type 0) (answers : (m : 
   unfolding refs.resolve_to
   rest_resolve_to p y (Mine q) i = rest_wait_unless_cycle p q i
   rest_resolve_to p y (Away h q false) i = rest_wait_unless_cycle p q i
-  rest_resolve_to p y other i = rest_settle p y (inr i)
+  rest_resolve_to p y other i = rest_settle p y (R.may_settle p y i)
 
   pub rest_resolve : (p : Name) (x : Value Name) → May p → Holds Keeps (refs.resolve N p x)
   unfolding refs.resolve
@@ -448,25 +451,25 @@ module _ (word : ℕ → ℕ) (v : ℕ) (May : Name → Type 0) (answers : (m : 
   unfolding arrive.arrive_ask
   rest_arrive_ask from p i = search (rests, rest_have_gift, rest_break_orphan, rest_tell_asker) depth 14
 
-  rest_arrive_settled : (from : ℕ) (x : Incoming Name Name) (y : Passed (Incoming Name Name)) → May (told_name x) → Holds Keeps (arrive.arrive_settled N from x y)
+  rest_arrive_settled : (from : ℕ) (x : Incoming Name Name) (y : Passed (Incoming Name Name)) → R.Sees (told_name x) → Holds Keeps (arrive.arrive_settled N from x y)
   unfolding arrive.arrive_settled
-  rest_arrive_settled from x y may = bind_so (λ n. n ≡ told_name x) (learnt x) (λ n e. let settles = λ (z : Value Name). rest_settle n z (inr (subst May (sym e) may)) in search (rests, rest_learn) depth 14)
+  rest_arrive_settled from x y may = bind_so (λ n. n ≡ told_name x) (learnt x) (λ n e. let settles = λ (z : Value Name). rest_settle n z (R.seen_settles n z (subst R.Sees (sym e) may)) in search (rests, rest_learn) depth 14)
 
-  rest_see : (n g : Name) → May n → Holds Keeps (arrive.see N n g)
+  rest_see : (n g : Name) → R.Sees n → Holds Keeps (arrive.see N n g)
   unfolding arrive.see
-  rest_see n g may = let sees = alter_so (See g) n may in let waits = alter_so (Wait n) g may in search rests depth 14
+  rest_see n g may = let sees = alter_so (See g) n may in let waits = alter_so (Wait n) g (R.seen_waits n may) in search rests depth 14
 
   rest_gift_there : (u h c i : ℕ) → Holds Keeps (arrive.gift_there N u h c i)
   unfolding arrive.gift_there
   rest_gift_there u h c i = search (rests, rest_have_gift) depth 14
 
-  rest_view_there : (n : Name) (c : ℕ) → May n → Holds Keeps (arrive.view_there N n c)
+  rest_view_there : (n : Name) (c : ℕ) → R.Sees n → Holds Keeps (arrive.view_there N n c)
   unfolding arrive.view_there
   rest_view_there n c may = let sees = λ (g : Name). rest_see n g may in search (rests, rest_gift_there) depth 14
 
-  rest_arrive_elsewhere : (x : Incoming Name Name) (c : ℕ) → May (told_name x) → Holds Keeps (arrive.arrive_elsewhere N x c)
+  rest_arrive_elsewhere : (x : Incoming Name Name) (c : ℕ) → R.Sees (told_name x) → Holds Keeps (arrive.arrive_elsewhere N x c)
   unfolding arrive.arrive_elsewhere
-  rest_arrive_elsewhere x c may = bind_so (λ n. n ≡ told_name x) (learnt x) (λ n e. let view = rest_view_there n c (subst May (sym e) may) in search (rests, rest_break) depth 14)
+  rest_arrive_elsewhere x c may = bind_so (λ n. n ≡ told_name x) (learnt x) (λ n e. let view = rest_view_there n c (subst R.Sees (sym e) may) in search (rests, rest_break) depth 14)
 
   rest_shorten_to : (i : ℕ) (p : Place Name) → Holds Keeps (arrive.shorten_to N i p)
   unfolding arrive.shorten_to
@@ -481,8 +484,8 @@ module _ (word : ℕ → ℕ) (v : ℕ) (May : Name → Type 0) (answers : (m : 
   abbrev pub NoteMay : Note (Incoming Name Name) → Type 0
   NoteMay (Deliver d x verb ys) = IsMessageName (told_name d.message)
   NoteMay (Open i x) = May (Gift v i)
-  NoteMay (SettledTo x y) = May (told_name x)
-  NoteMay (Elsewhere x c) = May (told_name x)
+  NoteMay (SettledTo x y) = R.Sees (told_name x)
+  NoteMay (Elsewhere x c) = R.Sees (told_name x)
   NoteMay other = Unit {0}
 
   pub rest_arrive : (from : ℕ) (n : Note (Incoming Name Name)) → NoteMay n → Holds Keeps (arrive.arrive N from n)

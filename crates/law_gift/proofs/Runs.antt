@@ -30,7 +30,7 @@ use Rattle.law_reference.proofs.Moves.{Moved, Still, Severs, Drops, Steps, Arriv
 use Rattle.law_reference.proofs.LegRuns.{MailBits, Before, stands_of, self_none, first_mails}
 use Rattle.law_reference.proofs.LegMoves.{opened_before, stepped_before}
 use Rattle.law_gift.specs.Unopened.{UnopenedRest, UnopenedGiftsRest}
-use Rattle.law_gift.proofs.Kept.{Entry as Fits, MayAnswer, Kept}
+use Rattle.law_gift.proofs.Kept.{settling, Entry as Fits, MayAnswer, Kept}
 use Rattle.law_gift.proofs.Rests as rests
 use Rattle.law_gift.proofs.Opened.{IsOpenedBy, opens}
 use Rattle.law_gift.proofs.Keeps.{after_given, alone_kept, arrive_kept}
@@ -63,7 +63,7 @@ module _ (script : Script) where
   N v = naming word v
 
   abbrev Well : ℕ → Vat Name → Type 0
-  Well v s = Kept word v (MaySettle v s.gifts) s
+  Well v s = Kept word v (settling word v (MaySettle v s.gifts)) s
 
   abbrev AllWell : World → Type 0
   AllWell w = (v : ℕ) (s : Vat Name) → slice_get w.vats v ≡ Some s → Well v s
@@ -105,7 +105,7 @@ module _ (script : Script) where
     told_may : (x : Name) → IsBetween from v (Elsewhere x v) → (from ≡ v → ⊥) → May (told_name (world.read_name (names_of s) x))
     told_may x b apart = subst May (sym (told_is (names_of s) x)) (inl (far_may v s.gifts x (λ e. apart (sym b ∙ e))))
 
-    note_may : (k : Note Name) → k ≡ n → NoteOk MailBits k → IsBetween from v k → (from ≡ v → ⊥) → rests.NoteMay word v May (λ m. inl tt) (read_note (names_of s) k)
+    note_may : (k : Note Name) → k ≡ n → NoteOk MailBits k → IsBetween from v k → (from ≡ v → ⊥) → rests.NoteMay word v (settling word v May) (λ m. inl tt) (read_note (names_of s) k)
     unfolding read_note
     note_may (Deliver d x verb ys) e ok b apart = ok.0
     note_may (Open i x) e ok b apart = inr (subst (λ z. OpensIt v z (Gift v i)) e refl)
@@ -162,13 +162,13 @@ module _ (script : Script) where
 
   -- ---- the start
 
-  roots_fit : (v : ℕ) (May : Name → Type 0) (us : List ℕ) → AllOf (Fits word v May) (map world.known_root us)
+  roots_fit : (v : ℕ) (May : Name → Type 0) (us : List ℕ) → AllOf (Fits word v (settling word v May)) (map world.known_root us)
   unfolding world.known_root begun
   roots_fit v May [] = tt
   roots_fit v May (u ∷ us) = ((inl tt, tt, tt, tt), roots_fit v May us)
 
   abbrev Fresh : ℕ → Vat Name → Type 0
-  Fresh v s = AllOf (Fits word v (MaySettle v s.gifts)) s.known × AllOf (λ m. MayAnswer word v (MaySettle v s.gifts) m) s.queue × AllOf (IsNamed v) s.gifts
+  Fresh v s = AllOf (Fits word v (settling word v (MaySettle v s.gifts))) s.known × AllOf (λ m. MayAnswer word v (settling word v (MaySettle v s.gifts)) m) s.queue × AllOf (IsNamed v) s.gifts
 
   fresh_fits : (v u : ℕ) (p : Program) → Fresh v (world.fresh script u p)
   unfolding world.fresh world.known_root begun

@@ -27,17 +27,15 @@ promises_put : (vats : List (Vat Name)) (v : ℕ) (s t : Vat Name) (u : ℕ) →
 unfolding put_at promises_of
 promises_put [] v s t u e h = cc
 promises_put (x ∷ xs) zero s t zero e h = let same : x ≡ s = cc in rw (sym same) at h
-promises_put (x ∷ xs) zero s t (suc u) e h = omega arith
-promises_put (x ∷ xs) (suc v) s t zero e h = omega arith
 promises_put (x ∷ xs) (suc v) s t (suc u) e h = promises_put xs v s t u e h
+promises_put (x ∷ xs) other s t another e h = omega arith
 
 messages_put : (vats : List (Vat Name)) (v : ℕ) (s t : Vat Name) (u : ℕ) → slice_get vats v ≡ Some s → s.messages ≤ t.messages → messages_of vats u ≤ messages_of (put_at v t vats) u
 unfolding put_at messages_of
 messages_put [] v s t u e h = cc
 messages_put (x ∷ xs) zero s t zero e h = let same : x ≡ s = cc in rw (sym same) at h
-messages_put (x ∷ xs) zero s t (suc u) e h = omega arith
-messages_put (x ∷ xs) (suc v) s t zero e h = omega arith
 messages_put (x ∷ xs) (suc v) s t (suc u) e h = messages_put xs v s t u e h
+messages_put (x ∷ xs) other s t another e h = omega arith
 
 abbrev Holding : (Note Name → Type 0) → Link → Type 0
 Holding P l = AllOf P l.notes

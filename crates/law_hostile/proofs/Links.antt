@@ -9,8 +9,7 @@ use Rattle.law_name.specs.Names.{AllOf}
 
 ends_at : (b c : Bool) (l : Link) (v w : ℕ) → (l.from == v) ≡ b → (l.to == w) ≡ c → elim b [ true ↦ c | false ↦ false ] ≡ true → (l.from ≡ v) × (l.to ≡ w)
 ends_at true true l v w e f i = (eqb-true l.from v e, eqb-true l.to w f)
-ends_at true false l v w e f i = cc
-ends_at false c l v w e f i = cc
+ends_at other another l v w e f i = cc
 
 ends_are : (l : Link) (v w : ℕ) → world.is_link v w l ≡ true → (l.from ≡ v) × (l.to ≡ w)
 unfolding world.is_link

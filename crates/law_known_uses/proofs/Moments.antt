@@ -49,7 +49,7 @@ goes_at : (P : World → Type 0) (o : Run) (x : World) → o ≡ Goes x → Reac
 goes_at P (Goes y) x e h = let same : y ≡ x = cc in subst P same h
 goes_at P (Stopped c n y) x e h = cc
 
-stem_at : (script : Script) (w : World) → IsPassed script w → AllStem w
+pub stem_at : (script : Script) (w : World) → IsPassed script w → AllStem w
 stem_at script w (inl r) = goes_at AllStem (world.open_from script zero r.0 (world.begins script)) w r.3 ((messages_stem script).0 r.0)
 stem_at script w (inr r) = goes_at AllStem (world.steps_from script r.1 r.3 r.0) w r.6 ((messages_stem script).1 r.0 r.1 r.3 r.5)
 

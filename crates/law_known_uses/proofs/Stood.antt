@@ -1,19 +1,22 @@
 -- Each line of the history of a run stands in a step of its vat, at that place.
 use Rattle.std.proofs.Common.{◌≡◌, ℕ, zero, suc, ◌+◌, ◌≤◌, arith, Bool, true, false, List, [], ◌∷◌, ◌++◌, Some, refl, sym, ap, ◌∙◌, subst, length, ◌⊎◌, inl, inr, append_assoc, append-nil}
 use Rattle.std.specs.Prelude.{slice_get}
-use Rattle.def_machine.specs.Values.{Name}
+use Rattle.def_machine.specs.Values.{Name, Root}
 use Rattle.def_machine.specs.State.{Message, Happened, Posted, Vat, Gives}
 use Rattle.law_machine.specs.Steps.{Step, does}
 use Rattle.def_run.specs.World as world
 use Rattle.def_run.specs.World.{Script, Program, Entry, Event, Here, LostCut, Ends as IsEnd, Link, World, Run, Goes, Stopped, names, events_of, event_of, begins}
 use Rattle.def_run.specs.Text.{history_of}
 use Rattle.law_fate.specs.FateRuns.{Reached}
-use Rattle.law_fate.proofs.RunCounts.{pick}
+use Rattle.law_fate.specs.Fate.{total}
+use Rattle.law_fate.proofs.RunCounts.{pick, total_append}
+use Rattle.law_fate.proofs.RunFates.{none_vats, none_links}
 use Rattle.law_connected.specs.Known.{IsAmong}
 use Rattle.law_connected.specs.Begotten.{IsTaken, IsReached, start, opened, entered, LineOf, InEachRun}
 use Rattle.law_connected.proofs.Knowing.{among_mid}
 use Rattle.law_connected.proofs.Events.{among_either, IsNobodys, nobodys_join, vats_nobodys, links_nobodys}
 use Rattle.law_connected.proofs.RunStems.{one_line}
+use Rattle.law_uses.proofs.Kept.{is_carry}
 use Rattle.law_uses.proofs.Steps.{Parted, parted}
 use Rattle.law_running.specs.Running.{HasEachLine}
 use Rattle.law_known_uses.specs.Told.{IsPassed, lines_so}
@@ -162,7 +165,7 @@ module _ (script : Script) where
   no_line (y ∷ h) k x q = cc
 
   lined_on : (w x : World) → Came w → Lined w → IsPassed script x → Leads script w x → Lined x
-  lined_on w x a lines r (quiet es none more) = quiet_lined w x es lines none more
+  lined_on w x a lines r (quiet es none few more) = quiet_lined w x es lines none more
   lined_on w x a lines r (steps u s t ms head step links at taken none d new there more) = step_lined w x a lines r u s t ms head step links at taken none d new there more
 
   pub came_lined : (w : World) → Came w → Lined w
@@ -175,12 +178,13 @@ module _ (script : Script) where
   goes_is : (x y : World) → Goes x ≡ Goes y → x ≡ y
   goes_is x y e = cc
 
-  -- a world that the run came to, with lines of no vat behind
+  -- a world that the run came to, with lines of no vat behind, which carry nothing
   abbrev pub Ended : World → Type 0
-  Ended x = (w : World) × (es : List Event) × Came w × IsNobodys es × (x.history ≡ w.history ++ es)
+  Ended x = (w : World) × (es : List Event) × Came w × IsNobodys es × (x.history ≡ w.history ++ es) × (total is_carry es ≡ 0)
 
   stopped_at : (w x : World) → Came w → x.history ≡ w.history → Ended x
-  stopped_at w x c e = (w, [], c, λ u f i. i, e ∙ sym (append-nil w.history))
+  unfolding total
+  stopped_at w x c e = (w, [], c, λ u f i. i, e ∙ sym (append-nil w.history), refl)
 
   then_is : (r : Run) (f : World → Run) (x y : World) → r ≡ Goes x → f x ≡ Goes y → world.then_goes r f ≡ Goes y
   unfolding world.then_goes
@@ -282,12 +286,21 @@ module _ (script : Script) where
       on (Stopped i j x) e c h = stopped_at w x a c
 
   -- the closing list
+  close_carries : (w : World) → total is_carry (world.left_vats script w.vats ++ (world.left_links script w.links ++ IsEnd ∷ [])) ≡ 0
+  unfolding total is_carry
+  close_carries w =
+      let a = none_vats (Root 0) script is_carry (λ v m. refl) (λ v n m. refl) (λ v n m. refl) (λ v u n. refl) w.vats in
+      let b = none_links (Root 0) script is_carry (λ v m. refl) (λ v n m. refl) (λ v n m. refl) (λ v u n. refl) w.links in
+      let c = total_append is_carry (world.left_vats script w.vats) (world.left_links script w.links ++ IsEnd ∷ []) in
+      let d = total_append is_carry (world.left_links script w.links) (IsEnd ∷ []) in
+      omega arith
+
   close_came : (w : World) → Came w → Reached Ended (world.close script w)
   unfolding world.close
   close_came w a = let vats : List Event = world.left_vats script w.vats in let links : List Event = world.left_links script w.links in
       let none : IsNobodys (vats ++ (links ++ IsEnd ∷ [])) = nobodys_join vats (links ++ IsEnd ∷ []) (vats_nobodys script w.vats) (nobodys_join links (IsEnd ∷ []) (links_nobodys script w.links) (one_line IsEnd (λ u e i. cc))) in
       let more : ((w.history ++ vats) ++ links) ++ IsEnd ∷ [] ≡ w.history ++ (vats ++ (links ++ IsEnd ∷ [])) = append_assoc (w.history ++ vats) links (IsEnd ∷ []) ∙ append_assoc w.history vats (links ++ IsEnd ∷ []) in
-      let ended : Ended (record w { history = ((w.history ++ vats) ++ links) ++ IsEnd ∷ [] }) = (w, vats ++ (links ++ IsEnd ∷ []), a, none, more) in ended
+      let ended : Ended (record w { history = ((w.history ++ vats) ++ links) ++ IsEnd ∷ [] }) = (w, vats ++ (links ++ IsEnd ∷ []), a, none, more, close_carries w) in ended
 
   -- in a whole run, also in one that stopped
   pub run_ended : Reached Ended (world.run script)
@@ -314,7 +327,7 @@ module _ (script : Script) where
   last_world = by (world.run script) run_ended
     where
       has : (x : World) → Ended x → (w : World) × IsPassed script w × ((v : ℕ) (e : Happened Name) → IsAmong (Here v e) x.history → IsAmong (Here v e) w.history)
-      has x (w, es, c, none, q) = (w, is_run w c, λ v e i. own v e (among_either (Here v e) w.history es (subst (λ zs. IsAmong (Here v e) zs) q i)))
+      has x (w, es, c, none, q, few) = (w, is_run w c, λ v e i. own v e (among_either (Here v e) w.history es (subst (λ zs. IsAmong (Here v e) zs) q i)))
         where
           own : (v : ℕ) (e : Happened Name) → IsAmong (Here v e) w.history ⊎ IsAmong (Here v e) es → IsAmong (Here v e) w.history
           own v e (inl i) = i

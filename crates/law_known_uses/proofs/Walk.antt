@@ -1,4 +1,4 @@
--- What an opening turn and an entry make of a world: lines of no vat, or the lines of one step of one vat, behind the line that tells which step it is.
+-- What an opening turn and an entry make of a world: lines of no vat that carry nothing, or the lines of one step of one vat, behind the line that tells which step it is.
 use Rattle.std.proofs.Common.{◌≡◌, ℕ, zero, suc, Bool, true, false, List, [], ◌∷◌, ◌++◌, Option, Some, None, refl, ◌⊎◌, inl, inr, subst, ap, sym}
 use Rattle.std.specs.Prelude.{slice_get}
 use Rattle.def_machine.specs.Values.{Name, Root}
@@ -8,11 +8,13 @@ use Rattle.def_machine.specs.Arrive.{notice}
 use Rattle.law_machine.specs.Steps.{Step, Opens as Starts, Takes, Receives, Notices, does}
 use Rattle.def_run.specs.World as world
 use Rattle.def_run.specs.World.{Script, Program, Opens, Entry, Turn, Carry, CutLink, NoticeLink, Event, Turned, Idle, Carried, CutAt, NoticedAt, Link, World, Run, Goes, Stopped, names, names_of, read_note, events_of}
+use Rattle.law_fate.specs.Fate.{total}
+use Rattle.law_fate.proofs.RunAccount.{no_cut_line}
 use Rattle.law_fate.proofs.RunCounts.{pick}
 use Rattle.law_connected.specs.Begotten.{AreRoots, IsTaken}
 use Rattle.law_connected.proofs.Events.{IsNobodys, nobodys_join, lost_on_nobodys}
 use Rattle.law_connected.proofs.RunStems.{one_line}
-use Rattle.law_uses.proofs.Kept.{put_either}
+use Rattle.law_uses.proofs.Kept.{is_carry, put_either}
 
 -- a vat that is there is there as it was put
 put_there : {A : Type 0} (v : ℕ) (t : A) (xs : List A) (s : A) → slice_get xs v ≡ Some s → slice_get (world.put_at v t xs) v ≡ Some t
@@ -28,7 +30,7 @@ FirstIs _ s = Unit {0}
 
 module _ (script : Script) (w : World) where
   pub data Leads (x : World) : Type 0 where
-    quiet : (es : List Event) → IsNobodys es → x.history ≡ w.history ++ es → Leads x
+    quiet : (es : List Event) → IsNobodys es → total is_carry es ≡ 0 → x.history ≡ w.history ++ es → Leads x
     steps : (v : ℕ) (s t : Vat Name) (ms : List (Message Name)) (head : List Event) (step : Step Name Name) (links : List Link) → slice_get w.vats v ≡ Some s → IsTaken script w v s ms head step → IsNobodys head
         → does (names script v) step (world.readied w (record s { queue = ms })) ≡ Gives tt t → FirstIs step s → slice_get x.vats v ≡ Some t → x.history ≡ w.history ++ head ++ events_of links v t.happened → Leads x
 
@@ -42,8 +44,8 @@ module _ (script : Script) (w : World) where
   With ls = record w { links = ls }
 
   idle_comes : (k : ℕ) (ls : List Link) → Comes (world.idle script k (With ls))
-  unfolding world.idle
-  idle_comes k ls = quiet (Idle k ∷ []) (one_line (Idle k) (λ u f e. cc)) refl
+  unfolding world.idle total is_carry
+  idle_comes k ls = quiet (Idle k ∷ []) (one_line (Idle k) (λ u f e. cc)) refl refl
 
   back_comes : (v : ℕ) (ls : List Link) (head : List Event) (n : ℕ) (s : Vat Name) (ms : List (Message Name)) (step : Step Name Name) → FirstIs step s → slice_get w.vats v ≡ Some s → IsTaken script w v s ms head step → IsNobodys head
       → (d : Done Name (Unit {0})) → does (names script v) step (world.readied w (record s { queue = ms })) ≡ d → Comes (world.put_back v (With ls) head n d)
@@ -88,10 +90,10 @@ module _ (script : Script) (w : World) where
   link_comes k v to (Some l) at = uncut_comes k v to l at l.cut refl
 
   cut_comes : (k v to : ℕ) → Comes (world.cut script k v to w)
-  unfolding world.cut
+  unfolding world.cut is_carry
   cut_comes k v to = let one : List Event = world.lost_on script (world.link_at v to w.links) in let other : List Event = world.lost_on script (world.link_at to v w.links) in
       quiet (CutAt k v to ∷ (one ++ other)) (nobodys_join (CutAt k v to ∷ []) (one ++ other) (one_line (CutAt k v to) (λ u f e. cc))
-      (nobodys_join one other (lost_on_nobodys script (world.link_at v to w.links)) (lost_on_nobodys script (world.link_at to v w.links)))) refl
+      (nobodys_join one other (lost_on_nobodys script (world.link_at v to w.links)) (lost_on_nobodys script (world.link_at to v w.links)))) (no_cut_line (Root 0) script v to k w.links is_carry refl (λ m. refl)) refl
 
   notice_comes : (k v to : ℕ) (o : Option (Vat Name)) → slice_get w.vats v ≡ o → Comes (world.within v w (NoticedAt k v to ∷ []) (world.step_number script k) (notice (names script v) to) o)
   unfolding does world.within

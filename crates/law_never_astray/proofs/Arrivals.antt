@@ -2,11 +2,11 @@
 use Rattle.std.proofs.Common.{◌≡◌, ℕ, Bool, true, false, List, [], ◌∷◌, Option, Some, None, refl, sym, ◌∙◌, append-nil}
 use Rattle.std.specs.Prelude.{slice_get}
 use Rattle.def_machine.specs.Values.{Name, naming}
-use Rattle.def_machine.specs.State.{Note, Vat, Stop, Astray, Done, Gives, Throws, Ejects, Stops}
+use Rattle.def_machine.specs.State.{Note, Vat, Stop, Astray, Done, Gives, Stops}
 use Rattle.def_machine.specs.Arrive.{arrive, notice}
 use Rattle.def_run.specs.Draws.{draw_word}
 use Rattle.def_run.specs.World as world
-use Rattle.def_run.specs.World.{Script, Program, Entry, Turn, Carry, CutLink, NoticeLink, Event, Link, World, Run, Goes, Stopped, names, names_of, read_note, readied}
+use Rattle.def_run.specs.World.{Script, Entry, Turn, Carry, CutLink, NoticeLink, Event, Link, World, Goes, Stopped, names, names_of, read_note, readied}
 use Rattle.law_machine.specs.Steps.{Receives, Notices, IsQuiet, does}
 use Rattle.law_machine.proofs.StepEnds.{step_ends}
 use Rattle.law_name.specs.Names.{AllOf, NoteOk, names_in}

@@ -8,7 +8,7 @@ use Rattle.def_machine.specs.Refs.{settle, resolve, send, send_only, react}
 use Rattle.def_machine.specs.Scopes.{ended}
 use Rattle.def_machine.specs.Calls.{leave, leaving, new_ejector}
 use Rattle.def_kernel.specs.declared.node.Node.{Node}
-use Rattle.law_machine.proofs.Walks.{Property, Holds, IsClosed, InRefs, InRefsUnder, InSettling, InSending, InEval, walk, walk_then}
+use Rattle.law_machine.proofs.Walks.{Property, Holds, IsClosed, InRefs, InRefsUnder, InSettling, InSending, walk, walk_then}
 use Rattle.law_machine.proofs.RefsWalk.{settles_by_lines, walk_settle, walk_resolve, walk_send, walk_send_only, walk_react}
 use Rattle.law_name.specs.Names.{IsAmong}
 

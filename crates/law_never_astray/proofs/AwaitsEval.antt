@@ -1,18 +1,18 @@
 -- All of evaluation leaves by ejectors alone that are awaited.
 use Rattle.std.proofs.Common.{◌≡◌, ℕ, zero, suc, Bool, true, false, List, [], ◌∷◌, Option, Some, None, refl, ap}
-use Rattle.def_machine.specs.Values.{Words, Value, Null, Flag, Text, Prim, Broken, Items, Ref, Naming, Spot, Own}
-use Rattle.def_machine.specs.State.{Bound, Fixed, Slot, Scope, Binding, Cell, View, Thing, Made, Ejector, Audition, Resolver, Standing, Unsettled, Act, Got, ◌>>=◌, ◌>>◌, give, throw, tell}
+use Rattle.def_machine.specs.Values.{Words, Value, Null, Flag, Text, Prim, Items, Ref, Naming, Spot, Own}
+use Rattle.def_machine.specs.State.{Bound, Slot, Scope, Binding, Cell, View, Thing, Made, Ejector, Audition, Resolver, Standing, Unsettled, Act, Got, ◌>>=◌, ◌>>◌, give, throw, tell}
 use Rattle.def_machine.specs.Refs.{Place, Near}
 use Rattle.def_machine.specs.Form.{Item, Begin, End, Word, Fact}
 use Rattle.def_machine.specs.Free.{BoundNoun}
-use Rattle.def_machine.specs.Native.{Reply, Says, Writes, Lists, Iterates, Fails, Guard, Asked, MakesList, Ranges, Same, Compares, Loops, SendsTo, CallsTo, MakesPromise, Breaks, Tells, Whens, ThrowsIt, IsStamped, Coerces, AddsNull, NoMethod}
+use Rattle.def_machine.specs.Native.{Reply, Writes, Guard, Asked, MakesList}
 use Rattle.def_machine.specs.Scopes as scopes
 use Rattle.def_machine.specs.Perform as perform
 use Rattle.def_machine.specs.Calls as calls
 use Rattle.def_machine.specs.Eval as eval
-use Rattle.def_machine.specs.Scopes.{Answer, Answers, Evaluator, Caller, Body, Case, AuditionAsk, GetsForm, GetsGuard, Asks, NoAuditionAsk, ResolverAsk, Resolves, Smashes, NoResolverAsk}
+use Rattle.def_machine.specs.Scopes.{Answer, Evaluator, Caller, Body, Case, AuditionAsk, GetsForm, NoAuditionAsk, ResolverAsk, Resolves}
 use Rattle.def_kernel.specs.declared.node.Node.{Node}
-use Rattle.def_kernel.specs.declared.node.Node.TheVariants.{Lit, Noun, Set, Def, Call, Sequence, If, Escape, Try, Finally, Hide, MatchBind, Object, Final, Var, Any, ListPattern, Via}
+use Rattle.def_kernel.specs.declared.node.Node.TheVariants.{Escape, MatchBind, Any}
 use Rattle.law_machine.proofs.Walks.{walk_bind, walk_then}
 use Rattle.law_name.specs.Names.{IsAmong}
 use Rattle.law_never_astray.proofs.Awaits.{Awaited, AwaitedBy, awaited_closed, awaits, await_ending, await_eject, await_look_thing, await_escape, await_break, await_resolve, await_send, await_send_only, await_react, await_ended, await_leaving}
@@ -78,9 +78,8 @@ module _ {N W : Type 0} (K : Naming N W) (tree : List Node) where
 
   pub await_coerce : (esc : List ℕ) → (x1 : Caller N) → GoodCaller x1 → (x2 : ℕ) → (x3 : Value N) → (x4 : Value N) → (x5 : Value N) → Awaited esc (perform.coerce K tree x1 x2 x3 x4 x5)
   unfolding perform.coerce
-  await_coerce esc again h1 act (Prim n) j x = search (awaits, await_coerce_native) depth 14
-  await_coerce esc again h1 act (Ref n) j x = search (awaits, await_coerce_near) depth 14
-  await_coerce esc again h1 act _ j x = search (awaits) depth 14
+  await_coerce esc again h1 act (Prim n) j x = search (awaits, await_coerce_native, await_coerce_near) depth 14
+  await_coerce esc again h1 act other j x = search (awaits, await_coerce_native, await_coerce_near) depth 14
 
   pub await_store : (esc : List ℕ) → (x1 : ℕ) → (x2 : List (Value N)) → Awaited esc (perform.store K tree x1 x2)
   unfolding perform.store
@@ -105,10 +104,8 @@ module _ {N W : Type 0} (K : Naming N W) (tree : List Node) where
 
   pub await_reply : (esc : List ℕ) → (x1 : Caller N) → GoodCaller x1 → (x2 : ℕ) → (x3 : Reply N) → Awaited esc (perform.reply K tree x1 x2 x3)
   unfolding perform.reply
-  await_reply esc again h1 act (Writes t) = search (awaits, await_write_text) depth 14
-  await_reply esc again h1 act (Lists vs) = search (awaits, await_make_list) depth 14
-  await_reply esc again h1 act (Iterates o vs) = search (awaits, await_iterate) depth 14
-  await_reply esc again h1 act other = search (awaits) depth 14
+  await_reply esc again h1 act (Writes t) = search (awaits, await_write_text, await_make_list, await_iterate) depth 14
+  await_reply esc again h1 act other = search (awaits, await_write_text, await_make_list, await_iterate) depth 14
 
   pub await_data_answer : (esc : List ℕ) → (x1 : Caller N) → GoodCaller x1 → (x2 : ℕ) → (x3 : Value N) → (x4 : Words) → (x5 : List (Value N)) → Awaited esc (perform.data_answer K tree x1 x2 x3 x4 x5)
   unfolding perform.data_answer
@@ -151,9 +148,8 @@ module _ {N W : Type 0} (K : Naming N W) (tree : List Node) where
 
   pub await_after_turn : (esc : List ℕ) → (x1 : Act N (Value N)) → Awaited esc x1 → (x2 : Value N) → Awaited esc (perform.after_turn K tree x1 x2)
   unfolding perform.after_turn
-  await_after_turn esc more h1 (Flag true) = search (awaits) depth 14
-  await_after_turn esc more h1 (Flag false) = search (awaits) depth 14
-  await_after_turn esc more h1 _ = search (awaits) depth 14
+  await_after_turn esc more h1 (Flag true) = search awaits depth 14
+  await_after_turn esc more h1 other = search awaits depth 14
 
   pub await_turns : (esc : List ℕ) → (x1 : ℕ) → (x2 : Act N (Value N)) → Awaited esc x2 → Awaited esc (perform.turns K tree x1 x2)
   unfolding perform.turns
@@ -166,16 +162,8 @@ module _ {N W : Type 0} (K : Naming N W) (tree : List Node) where
 
   pub await_perform : (esc : List ℕ) → (x1 : Caller N) → GoodCaller x1 → (x2 : ℕ) → (x3 : Asked N) → Awaited esc (perform.perform K tree x1 x2 x3)
   unfolding perform.perform
-  await_perform esc again h1 act (MakesList vs) = search (awaits, await_make_list) depth 14
-  await_perform esc again h1 act (Loops o) = search (awaits, await_loop) depth 14
-  await_perform esc again h1 act (SendsTo only x v l) = search (awaits, await_send_with) depth 14
-  await_perform esc again h1 act (CallsTo x v l) = search (awaits, await_call_with) depth 14
-  await_perform esc again h1 act MakesPromise = search (awaits, await_make_promise) depth 14
-  await_perform esc again h1 act (Whens x o) = search (awaits, await_when_resolved) depth 14
-  await_perform esc again h1 act (IsStamped a x) = search (awaits) depth 14
-  await_perform esc again h1 act (Coerces g x j) = search (awaits, await_native_coerce) depth 14
-  await_perform esc again h1 act NoMethod = search (awaits) depth 14
-  await_perform esc again h1 act other = search (awaits, await_reply) depth 14
+  await_perform esc again h1 act (MakesList vs) = search (awaits, await_make_list, await_loop, await_send_with, await_call_with, await_make_promise, await_when_resolved, await_native_coerce, await_reply) depth 14
+  await_perform esc again h1 act other = search (awaits, await_make_list, await_loop, await_send_with, await_call_with, await_make_promise, await_when_resolved, await_native_coerce, await_reply) depth 14
 
   pub await_audit : (esc : List ℕ) → (x1 : Caller N) → GoodCaller x1 → (x2 : ℕ) → (x3 : View N) → (x4 : Value N) → (x5 : Place N) → Awaited esc (calls.audit K tree x1 x2 x3 x4 x5)
   unfolding calls.audit
@@ -184,9 +172,8 @@ module _ {N W : Type 0} (K : Naming N W) (tree : List Node) where
 
   pub await_verdict : (esc : List ℕ) → (x1 : Caller N) → GoodCaller x1 → (x2 : ℕ) → (x3 : View N) → (x4 : Value N) → (x5 : Value N) → Awaited esc (calls.verdict K tree x1 x2 x3 x4 x5)
   unfolding calls.verdict
-  await_verdict esc again h1 act view a (Prim n) = search (awaits) depth 14
-  await_verdict esc again h1 act view a (Ref n) = search (awaits, await_audit) depth 14
-  await_verdict esc again h1 act view a _ = search (awaits) depth 14
+  await_verdict esc again h1 act view a (Prim n) = search (awaits, await_audit) depth 14
+  await_verdict esc again h1 act view a other = search (awaits, await_audit) depth 14
 
   pub await_ask_all : (esc : List ℕ) → (x1 : Caller N) → GoodCaller x1 → (x2 : ℕ) → (x3 : View N) → (x4 : List (Value N)) → Awaited esc (calls.ask_all K tree x1 x2 x3 x4)
   unfolding calls.ask_all
@@ -204,10 +191,8 @@ module _ {N W : Type 0} (K : Naming N W) (tree : List Node) where
 
   pub await_audition_live : (esc : List ℕ) → (x1 : Caller N) → GoodCaller x1 → (x2 : ℕ) → (x3 : View N) → (x4 : AuditionAsk N) → Awaited esc (calls.audition_live K tree x1 x2 x3 x4)
   unfolding calls.audition_live
-  await_audition_live esc again h1 act view GetsForm = search (awaits, await_build) depth 14
-  await_audition_live esc again h1 act view (GetsGuard x) = search (awaits, await_reply) depth 14
-  await_audition_live esc again h1 act view (Asks a) = search (awaits, await_verdict) depth 14
-  await_audition_live esc again h1 act view NoAuditionAsk = search (awaits) depth 14
+  await_audition_live esc again h1 act view GetsForm = search (awaits, await_build, await_reply, await_verdict) depth 14
+  await_audition_live esc again h1 act view other = search (awaits, await_build, await_reply, await_verdict) depth 14
 
   pub await_audition_answer : (esc : List ℕ) → (x1 : Caller N) → GoodCaller x1 → (x2 : ℕ) → (x3 : Bool) → (x4 : View N) → (x5 : AuditionAsk N) → Awaited esc (calls.audition_answer K tree x1 x2 x3 x4 x5)
   unfolding calls.audition_answer
@@ -233,9 +218,8 @@ module _ {N W : Type 0} (K : Naming N W) (tree : List Node) where
 
   pub await_resolver_answer : (esc : List ℕ) → (x1 : N) → (x2 : ResolverAsk N) → Awaited esc (calls.resolver_answer K tree x1 x2)
   unfolding calls.resolver_answer
-  await_resolver_answer esc p (Resolves x) = search (awaits, await_where_unresolved, await_resolve) depth 14
-  await_resolver_answer esc p (Smashes x) = search (awaits, await_smash) depth 14
-  await_resolver_answer esc p NoResolverAsk = search (awaits) depth 14
+  await_resolver_answer esc p (Resolves x) = search (awaits, await_where_unresolved, await_resolve, await_smash) depth 14
+  await_resolver_answer esc p other = search (awaits, await_where_unresolved, await_resolve, await_smash) depth 14
 
   pub await_bind_all : (esc : List ℕ) → (x1 : Evaluator N) → GoodEvaluator x1 → (x2 : List ℕ) → (x3 : List (Value N)) → (x4 : Value N) → (x5 : Scope N) → Awaited esc (calls.bind_all K tree x1 x2 x3 x4 x5)
   unfolding calls.bind_all
@@ -288,10 +272,8 @@ module _ {N W : Type 0} (K : Naming N W) (tree : List Node) where
 
   pub await_call_value : (esc : List ℕ) → (x1 : Evaluator N) → GoodEvaluator x1 → (x2 : Caller N) → GoodCaller x2 → (x3 : ℕ) → (x4 : Value N) → (x5 : Value N) → (x6 : Words) → (x7 : List (Value N)) → Awaited esc (calls.call_value K tree x1 x2 x3 x4 x5 x6 x7)
   unfolding calls.call_value
-  await_call_value esc rec good again h2 act x (Ref n) verb args = search (awaits, await_call_spot) depth 14
-  await_call_value esc rec good again h2 act x (Broken p) verb args = search (awaits) depth 14
-  await_call_value esc rec good again h2 act x (Prim n) verb args = search (awaits, await_perform) depth 14
-  await_call_value esc rec good again h2 act x y verb args = search (awaits, await_with_lines, await_data_answer) depth 14
+  await_call_value esc rec good again h2 act x (Ref n) verb args = search (awaits, await_call_spot, await_perform, await_with_lines, await_data_answer) depth 14
+  await_call_value esc rec good again h2 act x other verb args = search (awaits, await_call_spot, await_perform, await_with_lines, await_data_answer) depth 14
 
   pub await_call_one : (esc : List ℕ) → (x1 : Evaluator N) → GoodEvaluator x1 → (x2 : Caller N) → GoodCaller x2 → (x3 : ℕ) → (x4 : Value N) → (x5 : Words) → (x6 : List (Value N)) → Awaited esc (calls.call_one K tree x1 x2 x3 x4 x5 x6)
   unfolding calls.call_one
@@ -319,10 +301,8 @@ module _ {N W : Type 0} (K : Naming N W) (tree : List Node) where
 
   pub await_turn_value : (esc : List ℕ) → (x1 : Evaluator N) → GoodEvaluator x1 → (x2 : ℕ) → (x3 : Value N) → (x4 : Words) → (x5 : List (Value N)) → Awaited esc (calls.turn_value K tree x1 x2 x3 x4 x5)
   unfolding calls.turn_value
-  await_turn_value esc rec good act (Ref n) verb args = search (awaits, await_turn_spot) depth 14
-  await_turn_value esc rec good act (Broken p) verb args = search (awaits) depth 14
-  await_turn_value esc rec good act (Prim n) verb args = search (awaits, await_perform, await_call) depth 14
-  await_turn_value esc rec good act y verb args = search (awaits, await_data_answer, await_call) depth 14
+  await_turn_value esc rec good act (Ref n) verb args = search (awaits, await_turn_spot, await_perform, await_call, await_data_answer) depth 14
+  await_turn_value esc rec good act other verb args = search (awaits, await_turn_spot, await_perform, await_call, await_data_answer) depth 14
 
   pub await_object_made : (esc : List ℕ) → (x1 : ℕ) → (x2 : Words) → (x3 : ℕ) → (x4 : N) → (x5 : Scope N) → (x6 : List (Value N)) → (x7 : List (Binding N)) → Awaited esc (calls.object_made K tree x1 x2 x3 x4 x5 x6 x7)
   unfolding calls.object_made
@@ -381,8 +361,7 @@ module _ {N W : Type 0} (K : Naming N W) (tree : List Node) where
   pub await_choose : (esc : List ℕ) → (x1 : Evaluator N) → GoodEvaluator x1 → (x2 : ℕ) → (x3 : ℕ) → (x4 : Scope N) → (x5 : Scope N) → (x6 : Value N) → Awaited esc (eval.choose K tree x1 x2 x3 x4 x5 x6)
   unfolding eval.choose
   await_choose esc rec good a b here inner (Flag true) = search (awaits, await_answered, good.expression) depth 14
-  await_choose esc rec good a b here inner (Flag false) = search (awaits, await_answered, good.expression) depth 14
-  await_choose esc rec good a b here inner _ = search (awaits) depth 14
+  await_choose esc rec good a b here inner other = search (awaits, await_answered, good.expression) depth 14
 
   pub await_unmatched_noun : (esc : List ℕ) → (x1 : ℕ) → (x2 : Bool) → Awaited esc (eval.unmatched_noun K tree x1 x2)
   unfolding eval.unmatched_noun
@@ -413,25 +392,6 @@ module _ {N W : Type 0} (K : Naming N W) (tree : List Node) where
   await_write_bound esc rec good act (Some (Slot k)) v = search (awaits, await_write_cell) depth 14
   await_write_bound esc rec good act _ v = search (awaits) depth 14
 
-  pub await_step : (esc : List ℕ) → (x1 : Evaluator N) → GoodEvaluator x1 → (x2 : ℕ) → (x3 : Node) → (x4 : Scope N) → Awaited esc (eval.step K tree x1 x2 x3 x4)
-  unfolding eval.step
-  await_step esc rec good id (Lit l) here = search (awaits, await_answered) depth 14
-  await_step esc rec good id (Noun x) here = search (awaits, await_read_bound, await_answered) depth 14
-  await_step esc rec good id (Set x e) here = search (awaits, await_write_bound, await_answered, good.expression) depth 14
-  await_step esc rec good id (Def p exit e) here = search (awaits, await_exit_of, await_answered, good.expression, good.pattern) depth 14
-  await_step esc rec good id (Call r verb args) here = search (awaits, await_all_of, await_call, await_answered, good.expression) depth 14
-  await_step esc rec good id (Sequence es) here = search (awaits, await_last_of) depth 14
-  await_step esc rec good id (If t a b) here = search (awaits, await_choose, good.expression) depth 14
-  await_step esc rec good id (Escape p body c) here = await_escaped esc rec good here.act here c (λ j. rec.pattern p (Ref (K.object j)) Null here >>= λ inner. rec.expression body inner)
-      (λ j. walk_bind (AwaitedBy (j ∷ esc)) (awaited_closed (j ∷ esc)) (good.pattern (j ∷ esc) p (Ref (K.object j)) Null here) (λ inner. good.expression (j ∷ esc) body inner))
-  await_step esc rec good id (Try body p h) here = search (awaits, await_tried, good.expression) depth 14
-  await_step esc rec good id (Finally a b) here = search (awaits, await_at_last, good.expression) depth 14
-  await_step esc rec good id (Hide e) here = search (awaits, await_answered, good.expression) depth 14
-  await_step esc rec good id (MatchBind e p) here = walk_bind (AwaitedBy esc) (awaited_closed esc) (good.expression esc e here) (λ x. await_match_ended esc here.act p x.scope (λ j. rec.pattern p x.value (Ref (K.object j)) x.scope)
-      (λ j. good.pattern (j ∷ esc) p x.value (Ref (K.object j)) x.scope))
-  await_step esc rec good id (Object p auditors members) here = search (awaits, await_all_of, await_make_object, await_call) depth 14
-  await_step esc rec good id _ here = search (awaits) depth 14
-
   pub await_guard_of : (esc : List ℕ) → (x1 : Evaluator N) → GoodEvaluator x1 → (x2 : Option ℕ) → (x3 : Scope N) → Awaited esc (eval.guard_of K tree x1 x2 x3)
   unfolding eval.guard_of
   await_guard_of esc rec good None here = search (awaits, await_answered) depth 14
@@ -446,14 +406,21 @@ module _ {N W : Type 0} (K : Naming N W) (tree : List Node) where
   await_bind_items esc rec good ps j here (Items k) = search (awaits, await_bind_list) depth 14
   await_bind_items esc rec good ps j here _ = search (awaits, await_failed, await_call) depth 14
 
+  -- what evaluating a node is put together from: a node made of these needs no clause of its own
+  ruleset nodes = (awaits, await_answered, await_read_bound, await_write_bound, await_failed, await_handed, await_coerce, await_make_list, await_bind_all, await_call, await_make_object, await_all_of, await_last_of, await_exit_of, await_caught_by, await_handles, await_tried, await_at_last, await_choose, await_unmatched, await_not_matched, await_guard_of, await_bind_list, await_bind_items)
+
+  pub await_step : (esc : List ℕ) → (x1 : Evaluator N) → GoodEvaluator x1 → (x2 : ℕ) → (x3 : Node) → (x4 : Scope N) → Awaited esc (eval.step K tree x1 x2 x3 x4)
+  unfolding eval.step
+  await_step esc rec good id (Escape p body c) here = await_escaped esc rec good here.act here c (λ j. rec.pattern p (Ref (K.object j)) Null here >>= λ inner. rec.expression body inner)
+      (λ j. walk_bind (AwaitedBy (j ∷ esc)) (awaited_closed (j ∷ esc)) (good.pattern (j ∷ esc) p (Ref (K.object j)) Null here) (λ inner. good.expression (j ∷ esc) body inner))
+  await_step esc rec good id (MatchBind e p) here = walk_bind (AwaitedBy esc) (awaited_closed esc) (good.expression esc e here) (λ x. await_match_ended esc here.act p x.scope (λ j. rec.pattern p x.value (Ref (K.object j)) x.scope)
+      (λ j. good.pattern (j ∷ esc) p x.value (Ref (K.object j)) x.scope))
+  await_step esc rec good id other here = search (nodes, good.expression, good.pattern) depth 14
+
   pub await_bind_step : (esc : List ℕ) → (x1 : Evaluator N) → GoodEvaluator x1 → (x2 : Node) → (x3 : Value N) → (x4 : Value N) → (x5 : Scope N) → Awaited esc (eval.bind_step K tree x1 x2 x3 x4 x5)
   unfolding eval.bind_step
-  await_bind_step esc rec good (Final x g) v j here = search (awaits, await_guard_of, await_coerce, await_call) depth 14
-  await_bind_step esc rec good (Var x g) v j here = search (awaits, await_guard_of, await_coerce, await_call) depth 14
-  await_bind_step esc rec good (Any g) v j here = search (awaits, await_guard_of, await_coerce, await_call) depth 14
-  await_bind_step esc rec good (ListPattern ps) v j here = search (awaits, await_bind_items) depth 14
-  await_bind_step esc rec good (Via e p) v j here = search (awaits, await_handed, await_call, good.expression, good.pattern) depth 14
-  await_bind_step esc rec good _ v j here = search (awaits) depth 14
+  await_bind_step esc rec good (Any g) v j here = search (nodes, good.expression, good.pattern) depth 14
+  await_bind_step esc rec good other v j here = search (nodes, good.expression, good.pattern) depth 14
 
   pub await_step_found : (esc : List ℕ) → (x1 : Evaluator N) → GoodEvaluator x1 → (x2 : ℕ) → (x3 : Option Node) → (x4 : Scope N) → Awaited esc (eval.step_found K tree x1 x2 x3 x4)
   unfolding eval.step_found

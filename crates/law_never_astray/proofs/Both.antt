@@ -1,8 +1,8 @@
 -- Two cares at once: what both say of names holds of all that a vat does, where each does.
 use Rattle.std.proofs.Common.{List, [], ◌∷◌, Option, Some, None}
-use Rattle.def_machine.specs.Values.{Value, Null, Flag, Number, Letter, Text, Prim, Broken, Items, Ref, Naming}
-use Rattle.def_machine.specs.State.{Bound, Fixed, Slot, Binding, Cell, Freedom, IsSafe, IsItself, IsFinal, IsVar, Thing, Made, Ejector, Audition, Resolver, Message, Standing, Unsettled, WaitsOn, Viewed, Settled, Known, GiftEntry, Vat, WhereSome}
-use Rattle.def_machine.specs.Refs.{Place, Near, Mine, Away, Gone, spotted}
+use Rattle.def_machine.specs.Values.{Value, Ref, Naming}
+use Rattle.def_machine.specs.State.{Bound, Fixed, Slot, Binding, Cell, Freedom, IsFinal, Thing, Made, Ejector, Audition, Resolver, Message, Standing, Unsettled, Settled, Known, GiftEntry, Vat, WhereSome}
+use Rattle.def_machine.specs.Refs.{Place, Mine, Away, spotted}
 use Rattle.law_name.specs.Names.{Bit, AllOf, ValueOk, ValuesOk, NameOk, MessageOk, StandingOk, KnownOk, CellOk, FreedomOk, BoundOk, NounOk, ThingOk, GiftOk, Parts}
 use Rattle.law_name.proofs.Facts.{PlaceOk, IsChange, put_up, holds_up}
 use Rattle.law_name.proofs.Care.{Care, Under, Makes}

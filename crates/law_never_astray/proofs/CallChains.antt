@@ -1,10 +1,10 @@
 -- A chain of calls of calls ends before its levels do: each goes on with a list that is a member of the one before, followed.
 use Rattle.std.proofs.Common.{◌≡◌, ℕ, zero, suc, ◌+◌, List, [], ◌∷◌, codes, refl, subst, ◌∙◌, length, arith}
-use Rattle.def_machine.specs.Values.{Words, Value, Prim, Naming, naming, numbering}
+use Rattle.def_machine.specs.Values.{Words, Value, Naming, naming, numbering}
 use Rattle.def_machine.specs.State.{Vat, Astray, stop, look, ◌>>=◌, and_then}
 use Rattle.def_machine.specs.Refs.{follow}
 use Rattle.def_machine.specs.Native as native
-use Rattle.def_machine.specs.Native.{list_at, data_reply, Guard, AnyGuard, VoidGuard, IntGuard, BooleanGuard, CharGuard, TextGuard, ListGuard, NullGuard, NearGuard, FrozenGuard, OrNull, Primitive, MakeList, Equalizer, Comparer, Looper, Sender, References, Thrower, StampReader, Guarding, Judging, NoPrimitive, Reply, asked, primitive}
+use Rattle.def_machine.specs.Native.{list_at, Guard, AnyGuard, VoidGuard, IntGuard, BooleanGuard, CharGuard, TextGuard, ListGuard, NullGuard, NearGuard, FrozenGuard, OrNull, Primitive, MakeList, Equalizer, Comparer, Looper, Sender, References, Thrower, StampReader, Guarding, Judging, NoPrimitive, Reply, asked, primitive}
 use Rattle.def_machine.specs.Scopes as scopes
 use Rattle.def_machine.specs.Scopes.{Evaluator, Caller}
 use Rattle.def_machine.specs.Calls as calls

@@ -1,10 +1,10 @@
 -- What comes out the same by two callers that agree on what it calls.
 use Rattle.std.proofs.Common.{◌≡◌, ℕ, zero, suc, Bool, true, false, List, [], ◌∷◌, Option, Some, None, if◌then◌else◌, codes, refl, ap, ◌∙◌, map}
 use Rattle.std.specs.Prelude.{pos}
-use Rattle.def_machine.specs.Values.{Words, Value, Null, Flag, Number, Letter, Text, Prim, Broken, Items, Ref, Naming, Spot, Own, Foreign, NoObject}
-use Rattle.def_machine.specs.State.{Thing, Made, Ejector, Audition, Resolver, View, Vat, Done, Gives, Throws, Ejects, Stops, Act, ◌>>=◌, ◌>>◌, and_then, end_by, ending, for_some, give, look, throw}
-use Rattle.def_machine.specs.Refs.{Place, Near, Mine, Away, Gone, follow}
-use Rattle.def_machine.specs.Native.{list_at, data_reply, primitive, asked, Reply, Says, Writes, Lists, Iterates, Fails, Guard, Asked, MakesList, Ranges, Same, Compares, Loops, SendsTo, CallsTo, MakesPromise, Breaks, Tells, Whens, ThrowsIt, IsStamped, Coerces, AddsNull, NoMethod}
+use Rattle.def_machine.specs.Values.{Words, Value, Null, Flag, Number, Letter, Text, Prim, Broken, Items, Ref, Naming, Spot, Own}
+use Rattle.def_machine.specs.State.{Thing, Ejector, Audition, Resolver, View, Vat, Done, Gives, Act, ◌>>=◌, ◌>>◌, and_then, end_by, ending, for_some, give, look, throw}
+use Rattle.def_machine.specs.Refs.{Place, Near, follow}
+use Rattle.def_machine.specs.Native.{list_at, data_reply, primitive, asked, Reply, Iterates, Guard, Asked, MakesList, Loops, SendsTo, CallsTo, MakesPromise, Whens, IsStamped, Coerces, NoMethod}
 use Rattle.def_machine.specs.Scopes as scopes
 use Rattle.def_machine.specs.Perform as perform
 use Rattle.def_machine.specs.Calls as calls

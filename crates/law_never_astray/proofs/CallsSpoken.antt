@@ -1,12 +1,12 @@
 -- What the calls that the machine makes by itself need: a loop and an iteration, the asking of an auditor, and a failing.
 use Rattle.std.proofs.Common.{ℕ, List, [], ◌∷◌, Option, Some, None, codes}
 use Rattle.std.specs.Str.{chars}
-use Rattle.def_machine.specs.Values.{Value, Null, Flag, Number, Letter, Text, Prim, Broken, Items, Ref, Naming}
+use Rattle.def_machine.specs.Values.{Value, Null, Number, Text, Items, Naming}
 use Rattle.def_machine.specs.State.{Vat}
 use Rattle.def_machine.specs.Refs.{follow}
 use Rattle.def_machine.specs.Free.{entry, same_words}
 use Rattle.def_machine.specs.Native as native
-use Rattle.def_machine.specs.Native.{Reply, Says, Writes, Lists, Iterates, Fails, Guard, AnyGuard, VoidGuard, IntGuard, BooleanGuard, CharGuard, TextGuard, ListGuard, NullGuard, NearGuard, FrozenGuard, OrNull, Primitive, MakeList, Equalizer, Comparer, Looper, Sender, References, Thrower, StampReader, Guarding, Judging, NoPrimitive, asked, primitive, Asked, data_reply}
+use Rattle.def_machine.specs.Native.{Reply, Writes, Lists, Guard, AnyGuard, VoidGuard, IntGuard, BooleanGuard, CharGuard, TextGuard, ListGuard, NullGuard, NearGuard, FrozenGuard, OrNull, Primitive, MakeList, Looper, Thrower, Guarding, asked, primitive, data_reply}
 use Rattle.def_machine.specs.Scopes as scopes
 use Rattle.def_machine.specs.Scopes.{Caller}
 use Rattle.def_kernel.specs.declared.node.Node.{Node}

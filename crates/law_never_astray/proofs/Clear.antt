@@ -1,7 +1,7 @@
 -- What arrives and what is noticed goes not astray: at each settling on the way what waits is known.
 use Rattle.std.proofs.Common.{◌≡◌, ℕ, zero, ◌≤◌, Bool, true, false, List, [], ◌∷◌, ◌++◌, Option, Some, None, if◌then◌else◌, refl, length, codes, arith}
 use Rattle.def_machine.specs.Values.{Words, Value, Broken, Ref, Naming, IsAnswer}
-use Rattle.def_machine.specs.State.{Message, Standing, Unsettled, WaitsOn, Viewed, Settled, Known, Change, GiftEntry, Vat, Done, Gives, Throws, Ejects, Stops, Act, ◌>>=◌, ◌>>◌, and_then, for_some, each, give, look, tell, with_change, begun, enqueue, send_out, new_gift, open_gift, mark, draw, is_in, alter, come, mail, new_list}
+use Rattle.def_machine.specs.State.{Message, Standing, Viewed, Settled, Known, Change, GiftEntry, Vat, Done, Gives, Stops, Act, ◌>>=◌, ◌>>◌, and_then, for_some, each, give, look, tell, with_change, begun, enqueue, send_out, new_gift, open_gift, mark, draw, is_in, alter, come, mail, new_list}
 use Rattle.def_machine.specs.Refs as refs
 use Rattle.def_machine.specs.Refs.{Place, Near, Mine, Away, Gone}
 use Rattle.def_machine.specs.Arrive as arrive

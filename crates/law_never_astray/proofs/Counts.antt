@@ -1,7 +1,7 @@
 -- How many names of a vat have not settled, and which names it knows, as what is known of names changes.
 use Rattle.std.proofs.Common.{◌≡◌, ℕ, zero, suc, ◌+◌, ◌≤◌, Bool, true, false, List, [], ◌∷◌, ◌++◌, Option, Some, None, refl, ap, subst, length, arith}
-use Rattle.def_machine.specs.Values.{Value, Prim, Naming}
-use Rattle.def_machine.specs.State.{Standing, Unsettled, WaitsOn, Viewed, Settled, Known, Change, Hold, Wait, WaitOn, See, React, ToTell, Settle, with_change, changed, changed_to, unless_settled}
+use Rattle.def_machine.specs.Values.{Value, Naming}
+use Rattle.def_machine.specs.State.{Standing, Settled, Known, Change, Hold, Settle, with_change, changed, changed_to, unless_settled}
 use Rattle.def_machine.specs.Refs.{entry_of}
 use Rattle.law_name.specs.Names.{AllOf}
 

@@ -6,7 +6,7 @@ use Rattle.def_machine.specs.State.{Scope, View, Thing, Made, Ejector, Audition,
 use Rattle.def_machine.specs.Scopes as scopes
 use Rattle.def_machine.specs.Calls as calls
 use Rattle.def_machine.specs.Eval as eval
-use Rattle.def_machine.specs.Scopes.{Answer, Answers, Evaluator, Caller, Body, Case, AuditionAsk, GetsForm, GetsGuard, Asks, NoAuditionAsk, bound_in, with_noun, named, members_of, method_of, matchers_of}
+use Rattle.def_machine.specs.Scopes.{Answer, Answers, Evaluator, Caller, Body, Case, AuditionAsk, GetsForm, GetsGuard, Asks, NoAuditionAsk, members_of, method_of, matchers_of}
 use Rattle.def_kernel.specs.declared.node.Node.{Node}
 use Rattle.def_kernel_form.specs.declared.shape.Kind.{Kind}
 use Rattle.def_kernel_form.specs.declared.shape.Kind.TheVariants.{Expression, Pattern, Member}

@@ -1,8 +1,8 @@
 -- Evaluation of an accepted tree keeps what the objects of a vat carry.
 use Rattle.std.proofs.Common.{◌≡◌, ℕ, zero, Bool, true, false, List, [], ◌∷◌, Some, None, refl, sym, subst, ◌⊎◌, inl, inr, length, arith}
 use Rattle.std.specs.Prelude.{is_some}
-use Rattle.def_machine.specs.Values.{Words, Value, Naming, Spot, Own, Foreign, NoObject, naming, numbering}
-use Rattle.def_machine.specs.State.{Binding, Vat, Done, Gives, Throws, Ejects, Stops}
+use Rattle.def_machine.specs.Values.{Words, Value, Naming, Spot, Own, naming, numbering}
+use Rattle.def_machine.specs.State.{Binding, Vat, Done, Gives, Stops}
 use Rattle.def_machine.specs.Scopes.{Evaluator, bound_in}
 use Rattle.def_machine.specs.Calls as calls
 use Rattle.def_machine.specs.Eval.{evaluator}

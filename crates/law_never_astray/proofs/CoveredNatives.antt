@@ -1,13 +1,13 @@
 -- What guards, data, primitives and auditors do.
 use Rattle.std.proofs.Common.{ℕ, zero, suc, Bool, true, false, List, [], ◌∷◌, Option, Some, None}
-use Rattle.def_machine.specs.Values.{Words, Value, Flag, Text, Prim, Items, Ref, Naming}
+use Rattle.def_machine.specs.Values.{Words, Value, Flag, Text, Prim, Items, Naming}
 use Rattle.def_machine.specs.State.{View, Audition, Standing, Unsettled, Vat, Fuel, Act, spend, new_thing}
 use Rattle.def_machine.specs.Refs.{Place, Near}
-use Rattle.def_machine.specs.Native.{Reply, Says, Writes, Lists, Iterates, Fails, Guard, Asked, MakesList, Ranges, Same, Compares, Loops, SendsTo, CallsTo, MakesPromise, Breaks, Tells, Whens, ThrowsIt, IsStamped, Coerces, AddsNull, NoMethod}
+use Rattle.def_machine.specs.Native.{Reply, Writes, Guard, Asked, MakesList}
 use Rattle.def_machine.specs.Scopes as scopes
 use Rattle.def_machine.specs.Perform as perform
 use Rattle.def_machine.specs.Calls as calls
-use Rattle.def_machine.specs.Scopes.{Caller, ResolverAsk, Resolves, Smashes, NoResolverAsk}
+use Rattle.def_machine.specs.Scopes.{Caller, ResolverAsk, Resolves}
 use Rattle.def_kernel.specs.declared.node.Node.{Node}
 use Rattle.law_kernel_form.specs.Trees.{Has}
 use Rattle.law_never_astray.proofs.Leads.{AtStops, Leads, Nothing, Refers, MayStop, leads, lead_stop, lead_spend, lead_thing, lead_kill, lead_then, lead_ends, lead_give, lead_throw, lead_eject}
@@ -92,9 +92,8 @@ module _ {N W : Type 0} (K : Naming N W) (tree : List Node) (F : AtStops N) (may
 
   pub lead_coerce : (many : ℕ) → (x1 : Caller N) → GoodCaller tree F x1 → (x2 : ℕ) → (x3 : Value N) → (x4 : Value N) → (x5 : Value N) → Leads tree F many Nothing (perform.coerce K tree x1 x2 x3 x4 x5)
   unfolding perform.coerce
-  lead_coerce many again h1 act (Prim n) j x = search (leads, lead_coerce_native) depth 14
-  lead_coerce many again h1 act (Ref n) j x = search (leads, lead_coerce_near) depth 14
-  lead_coerce many again h1 act _ j x = search (leads) depth 14
+  lead_coerce many again h1 act (Prim n) j x = search (leads, lead_coerce_native, lead_coerce_near) depth 14
+  lead_coerce many again h1 act other j x = search (leads, lead_coerce_native, lead_coerce_near) depth 14
 
   pub lead_iterate : (many : ℕ) → (x1 : Caller N) → GoodCaller tree F x1 → (x2 : ℕ) → (x3 : Value N) → (x4 : ℕ) → (x5 : List (Value N)) → Leads tree F many Nothing (perform.iterate K tree x1 x2 x3 x4 x5)
   unfolding perform.iterate
@@ -103,10 +102,8 @@ module _ {N W : Type 0} (K : Naming N W) (tree : List Node) (F : AtStops N) (may
 
   pub lead_reply : (many : ℕ) → (x1 : Caller N) → GoodCaller tree F x1 → (x2 : ℕ) → (x3 : Reply N) → Leads tree F many Nothing (perform.reply K tree x1 x2 x3)
   unfolding perform.reply
-  lead_reply many again h1 act (Writes t) = search (leads, lead_write_text) depth 14
-  lead_reply many again h1 act (Lists vs) = search (leads, lead_make_list) depth 14
-  lead_reply many again h1 act (Iterates o vs) = search (leads, lead_iterate) depth 14
-  lead_reply many again h1 act other = search (leads) depth 14
+  lead_reply many again h1 act (Writes t) = search (leads, lead_write_text, lead_make_list, lead_iterate) depth 14
+  lead_reply many again h1 act other = search (leads, lead_write_text, lead_make_list, lead_iterate) depth 14
 
   pub lead_data_answer : (many : ℕ) → (x1 : Caller N) → GoodCaller tree F x1 → (x2 : ℕ) → (x3 : Value N) → (x4 : Words) → (x5 : List (Value N)) → Leads tree F many Nothing (perform.data_answer K tree x1 x2 x3 x4 x5)
   unfolding perform.data_answer
@@ -149,9 +146,8 @@ module _ {N W : Type 0} (K : Naming N W) (tree : List Node) (F : AtStops N) (may
 
   pub lead_after_turn : (many : ℕ) → (x1 : Act N (Value N)) → Leads tree F many Nothing x1 → (x2 : Value N) → Leads tree F many Nothing (perform.after_turn K tree x1 x2)
   unfolding perform.after_turn
-  lead_after_turn many more h1 (Flag true) = search (leads) depth 14
-  lead_after_turn many more h1 (Flag false) = search (leads) depth 14
-  lead_after_turn many more h1 _ = search (leads) depth 14
+  lead_after_turn many more h1 (Flag true) = search leads depth 14
+  lead_after_turn many more h1 other = search leads depth 14
 
   pub lead_turns : (many : ℕ) → (x1 : ℕ) → (x2 : Act N (Value N)) → Leads tree F many Nothing x2 → Leads tree F many Nothing (perform.turns K tree x1 x2)
   unfolding perform.turns
@@ -164,16 +160,8 @@ module _ {N W : Type 0} (K : Naming N W) (tree : List Node) (F : AtStops N) (may
 
   pub lead_perform : (many : ℕ) → (x1 : Caller N) → GoodCaller tree F x1 → (x2 : ℕ) → (x3 : Asked N) → Leads tree F many Nothing (perform.perform K tree x1 x2 x3)
   unfolding perform.perform
-  lead_perform many again h1 act (MakesList vs) = search (leads, lead_make_list) depth 14
-  lead_perform many again h1 act (Loops o) = search (leads, lead_loop) depth 14
-  lead_perform many again h1 act (SendsTo only x v l) = search (leads, lead_send_with) depth 14
-  lead_perform many again h1 act (CallsTo x v l) = search (leads, lead_call_with) depth 14
-  lead_perform many again h1 act MakesPromise = search (leads, lead_make_promise) depth 14
-  lead_perform many again h1 act (Whens x o) = search (leads, lead_when_resolved) depth 14
-  lead_perform many again h1 act (IsStamped a x) = search (leads) depth 14
-  lead_perform many again h1 act (Coerces g x j) = search (leads, lead_native_coerce) depth 14
-  lead_perform many again h1 act NoMethod = search (leads) depth 14
-  lead_perform many again h1 act other = search (leads, lead_reply) depth 14
+  lead_perform many again h1 act (MakesList vs) = search (leads, lead_make_list, lead_loop, lead_send_with, lead_call_with, lead_make_promise, lead_when_resolved, lead_native_coerce, lead_reply) depth 14
+  lead_perform many again h1 act other = search (leads, lead_make_list, lead_loop, lead_send_with, lead_call_with, lead_make_promise, lead_when_resolved, lead_native_coerce, lead_reply) depth 14
 
   pub lead_audit : (many : ℕ) → (x1 : Caller N) → GoodCaller tree F x1 → (x2 : ℕ) → (x3 : View N) → IsSeen tree x3 → (x4 : Value N) → (x5 : Place N) → Leads tree F many Nothing (calls.audit K tree x1 x2 x3 x4 x5)
   unfolding calls.audit
@@ -182,9 +170,8 @@ module _ {N W : Type 0} (K : Naming N W) (tree : List Node) (F : AtStops N) (may
 
   pub lead_verdict : (many : ℕ) → (x1 : Caller N) → GoodCaller tree F x1 → (x2 : ℕ) → (x3 : View N) → IsSeen tree x3 → (x4 : Value N) → (x5 : Value N) → Leads tree F many Nothing (calls.verdict K tree x1 x2 x3 x4 x5)
   unfolding calls.verdict
-  lead_verdict many again h1 act view seen a (Prim n) = search (leads) depth 14
-  lead_verdict many again h1 act view seen a (Ref n) = search (leads, lead_audit) depth 14
-  lead_verdict many again h1 act view seen a _ = search (leads) depth 14
+  lead_verdict many again h1 act view seen a (Prim n) = search (leads, lead_audit) depth 14
+  lead_verdict many again h1 act view seen a other = search (leads, lead_audit) depth 14
 
   pub lead_ask_all : (many : ℕ) → (x1 : Caller N) → GoodCaller tree F x1 → (x2 : ℕ) → (x3 : View N) → IsSeen tree x3 → (x4 : List (Value N)) → Leads tree F many Nothing (calls.ask_all K tree x1 x2 x3 x4)
   unfolding calls.ask_all
@@ -209,6 +196,5 @@ module _ {N W : Type 0} (K : Naming N W) (tree : List Node) (F : AtStops N) (may
 
   pub lead_resolver_answer : (many : ℕ) → (x1 : N) → (x2 : ResolverAsk N) → Leads tree F many Nothing (calls.resolver_answer K tree x1 x2)
   unfolding calls.resolver_answer
-  lead_resolver_answer many p (Resolves x) = search (leads, lead_where_unresolved, refs.resolves) depth 14
-  lead_resolver_answer many p (Smashes x) = search (leads, lead_smash) depth 14
-  lead_resolver_answer many p NoResolverAsk = search (leads) depth 14
+  lead_resolver_answer many p (Resolves x) = search (leads, lead_where_unresolved, refs.resolves, lead_smash) depth 14
+  lead_resolver_answer many p other = search (leads, lead_where_unresolved, refs.resolves, lead_smash) depth 14

@@ -7,7 +7,7 @@ use Rattle.def_machine.specs.Eval as eval
 use Rattle.def_kernel.specs.declared.node.Node.{Node}
 use Rattle.law_machine.specs.Steps.{Step, Opens as Starts, Takes, Receives, Notices, does}
 use Rattle.def_run.specs.World as world
-use Rattle.def_run.specs.World.{Script, Program, World, Goes, CutLink, names, given, tree_at, readied, put_at}
+use Rattle.def_run.specs.World.{Script, Program, World, Goes, CutLink, names, tree_at, readied, put_at}
 use Rattle.law_run.specs.Moves.{Moved, Still, Severs, Drops, Steps, Arrives, Hears, Tells, Does, Nobody, AnyNotice, IsReached, went}
 use Rattle.law_run.proofs.Honest.{honest_reached, lifted}
 use Rattle.law_run.proofs.Told.{moves_told}

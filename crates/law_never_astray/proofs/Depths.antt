@@ -1,7 +1,7 @@
 -- The evaluator of every depth: a call that uses up its levels does so in a bad state alone.
 use Rattle.std.proofs.Common.{◌≡◌, ℕ, zero, suc, ◌+◌, List, refl, subst, ◌∙◌, length}
 use Rattle.def_machine.specs.Values.{Words, Value, Naming}
-use Rattle.def_machine.specs.State.{Message, Known, Vat, Stop, Deep, Astray, Done, Gives, Throws, Ejects, Stops, stop}
+use Rattle.def_machine.specs.State.{Message, Known, Vat, Stop, Deep, Astray, Done, Stops, stop}
 use Rattle.def_machine.specs.Calls as calls
 use Rattle.def_machine.specs.Eval as eval
 use Rattle.def_machine.specs.Scopes.{Evaluator, Caller}

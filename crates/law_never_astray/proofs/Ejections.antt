@@ -2,7 +2,7 @@
 use Rattle.std.proofs.Common.{◌≡◌, ℕ, zero, suc, true, false, List, [], ◌∷◌, Some, sym, ap, ◌∙◌}
 use Rattle.std.specs.Prelude.{slice_get}
 use Rattle.def_machine.specs.Values.{Naming, naming, numbering}
-use Rattle.def_machine.specs.State.{Thing, Ejector, Done, Gives, Throws, Ejects, Stops}
+use Rattle.def_machine.specs.State.{Thing, Ejector, Done, Ejects, Stops}
 use Rattle.def_run.specs.World.{Script, World, names, readied}
 use Rattle.law_name.proofs.SameNames.{false_true}
 use Rattle.law_connected.specs.Liveness.{is_live, live_at}

@@ -1,7 +1,7 @@
 -- Evaluation in an environment that covers the scopes of a node does not go astray, where the nodes below do not.
 use Rattle.std.proofs.Common.{◌≡◌, ℕ, ◌<◌, Bool, List, [], ◌∷◌, Option, Some, None, if◌then◌else◌, refl, length, arith}
 use Rattle.std.specs.Prelude.{slice_get}
-use Rattle.def_machine.specs.Values.{Words, Value, Null, Text, Prim, Broken, Ref, Naming, Spot, Own, Foreign, NoObject}
+use Rattle.def_machine.specs.Values.{Words, Value, Null, Text, Prim, Broken, Ref, Naming, Spot, Own}
 use Rattle.def_machine.specs.State.{Scope, Thing, Made, Ejector, Audition, Resolver, Message, Known, Vat, Act, ◌>>=◌, eject}
 use Rattle.def_machine.specs.Scopes as scopes
 use Rattle.def_machine.specs.Calls as calls

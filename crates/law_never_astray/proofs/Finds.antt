@@ -2,7 +2,7 @@
 use Rattle.std.proofs.Common.{◌≡◌, ℕ, zero, ◌<◌, Bool, true, false, List, [], ◌∷◌, ◌++◌, Option, Some, None, refl, length, arith}
 use Rattle.std.specs.Prelude.{slice_get}
 use Rattle.def_machine.specs.Values.{Words, Value, Name, Local, Naming, naming, numbering}
-use Rattle.def_machine.specs.State.{Bound, Fixed, Slot, Cell, SlotRead, Vat, Fuel, Astray, Done, Gives, Throws, Ejects, Stops, ◌>>=◌, ◌>>◌, and_then, look, tell, give, stop, for_some}
+use Rattle.def_machine.specs.State.{Bound, Fixed, Slot, Cell, SlotRead, Vat, Fuel, Astray, Done, Gives, Stops, ◌>>=◌, ◌>>◌, and_then, look, tell, give, stop, for_some}
 use Rattle.def_machine.specs.Scopes.{bound_in, read_cell, read_bound}
 use Rattle.def_kernel.specs.declared.node.Node.{Node}
 use Rattle.law_never_astray.specs.Covered.{Stands}

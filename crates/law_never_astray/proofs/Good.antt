@@ -12,7 +12,7 @@ use Rattle.law_name.proofs.Care.{Care, Sound, Gets, Ends, Fine, widen, rise, fin
 use Rattle.law_name.proofs.Looks.{get_all}
 use Rattle.law_never_astray.specs.Covered.{ThingCarries}
 use Rattle.law_never_astray.proofs.Leads as covered
-use Rattle.law_never_astray.proofs.Leads.{AtStops, Leads, Kept, Nothing, ends_less, all_at, slot_there, lead_give, lead_gives, lead_throw, lead_eject, lead_stop, lead_look, lead_tell, lead_spend, lead_activation, lead_thing, lead_kill, lead_slot, lead_write, lead_list}
+use Rattle.law_never_astray.proofs.Leads.{AtStops, Leads, Kept, Nothing, ends_less, all_at, slot_there, lead_give, lead_gives, lead_throw, lead_eject, lead_look, lead_tell, lead_spend, lead_activation, lead_thing, lead_kill, lead_slot, lead_write, lead_list}
 use Rattle.law_never_astray.proofs.Rests.{Quiet, RestsAfter, quiet_give, quiet_throw, quiet_eject, quiet_look, quiet_tell, quiet_spend, quiet_activation, quiet_thing, quiet_kill, quiet_slot, quiet_write, quiet_list}
 
 module _ {N : Type 0} (S : Care N) (tree : List Node) (Bad : Vat N → Type 0) (Rests : List (Message N) → List (Known N) → Type 0) where

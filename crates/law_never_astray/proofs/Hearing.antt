@@ -2,11 +2,11 @@
 use Rattle.std.proofs.Common.{◌≡◌, ℕ, Bool, List, [], ◌∷◌, Some}
 use Rattle.std.specs.Prelude.{slice_get}
 use Rattle.def_machine.specs.Values.{Value, Null, Flag, Number, Letter, Text, Prim, Broken, Items, Ref, Name, Naming, naming, host_of}
-use Rattle.def_machine.specs.State.{Passed, Passeds, Plain, AGift, Many, NoMore, More, Note, Deliver, Open, Ask, SettledTo, Elsewhere, Shorten, Vat, Done, Gives, Throws, Ejects, Stops, Act, ◌>>=◌, and_then, give}
+use Rattle.def_machine.specs.State.{Passed, Passeds, Plain, AGift, Many, NoMore, More, Note, Deliver, Open, Ask, SettledTo, Elsewhere, Shorten, Vat, Done, Gives, Stops, Act, ◌>>=◌, and_then, give}
 use Rattle.def_machine.specs.Arrive as arrive
 use Rattle.def_machine.specs.Arrive.{Incoming, Old, New}
 use Rattle.def_run.specs.World as world
-use Rattle.def_run.specs.World.{is_old, read_name, known_after}
+use Rattle.def_run.specs.World.{read_name, known_after}
 use Rattle.law_name.specs.Names.{Named, Drew, At, Gave, WasDrawn, PassedOk, PassedsOk, NoteOk}
 use Rattle.law_name.proofs.Facts.{Fact, Nothing, Also, IsName, IsMail, IsDraw, IsGiven, IsVat, IsValue, AreValues, nothing, Holds}
 use Rattle.law_name.proofs.Care.{Care, Under, Sound, Gets, come_gift, got, got_left}
@@ -15,7 +15,7 @@ use Rattle.law_name.proofs.Tracked.{Marked, tracked, tracked_under, tracked_give
 use Rattle.law_name.proofs.Learn.{Was, Good, Knows, Learned, Learns, rise, learn, learn_all, message_learned}
 use Rattle.law_never_astray.specs.Settlings.{NotAstray, AllAwaited}
 use Rattle.law_never_astray.proofs.Clear as clear
-use Rattle.law_never_astray.proofs.Clear.{Firm, firm_bind, firm_give, firm_come, firm_mail, firm_list}
+use Rattle.law_never_astray.proofs.Clear.{Firm, firm_bind, firm_give, firm_come, firm_mail}
 use Rattle.law_never_astray.proofs.Awaited.{is_mail, tracked_awaits}
 
 module _ (news : Bool) (M : Marked) (vats : List (Vat Name)) (v : ℕ) (q : Vat Name) (there : slice_get vats v ≡ Some q) (here : M.mark (At v)) (word : ℕ → ℕ) (us : List (Vat Name)) (d0 : List ℕ) where

@@ -1,7 +1,7 @@
 -- What a vat is to take is on data or on an object of its own: all that it does with references keeps this.
 use Rattle.std.proofs.Common.{◌≡◌, ℕ, zero, suc, Bool, true, false, List, [], ◌∷◌, Option, Some, None, refl, subst, ◌==◌}
 use Rattle.def_machine.specs.Values.{Words, Value, Null, Broken, Ref, Naming, Coming, Mailing, Spot, Own, Foreign, NoObject}
-use Rattle.def_machine.specs.State.{Message, Standing, Unsettled, WaitsOn, Viewed, Settled, Known, Change, Hold, Wait, WaitOn, See, React, ToTell, Settle, Passed, Passeds, Plain, AGift, Many, NoMore, More, Sends, Vat, Act, ◌>>=◌, ◌>>◌, and_then, each, give, look, tell, enqueue, with_change, changed, changed_to, unless_settled, alter, come, mail, draw, draws, new_promise, new_message, new_lone_message, begun}
+use Rattle.def_machine.specs.State.{Message, Standing, Settled, Known, Change, Hold, Wait, WaitOn, See, React, ToTell, Settle, Passed, Passeds, Plain, AGift, Many, NoMore, More, Sends, Vat, Act, ◌>>=◌, ◌>>◌, and_then, each, give, look, tell, enqueue, with_change, changed, changed_to, unless_settled, alter, come, mail, draw, draws, new_promise, new_message, new_lone_message, begun}
 use Rattle.def_machine.specs.Refs as refs
 use Rattle.def_machine.specs.Refs.{Place, Near, Mine, Away, Gone}
 use Rattle.law_name.specs.Names.{AllOf}

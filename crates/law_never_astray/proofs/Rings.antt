@@ -1,8 +1,8 @@
 -- From a state in which a name that is viewed did not settle with its view, lists end, if they do so once the vat went on: what they led to they lead to still.
 use Rattle.std.proofs.Common.{◌≡◌, ℕ, zero, suc, Bool, true, false, List, [], ◌∷◌, Option, Some, None, refl, sym, subst, length}
 use Rattle.std.specs.Prelude.{slice_get}
-use Rattle.def_machine.specs.Values.{Words, Value, Null, Flag, Number, Letter, Text, Prim, Broken, Items, Ref, Name, Naming, Spot, Own, Foreign, NoObject, naming}
-use Rattle.def_machine.specs.State.{Standing, Unsettled, WaitsOn, Viewed, Settled, Known, Vat, Done, Gives, Throws, Ejects, Stops, Stop, is_in}
+use Rattle.def_machine.specs.Values.{Words, Value, Broken, Items, Ref, Name, Naming, Spot, Own, Foreign, NoObject, naming}
+use Rattle.def_machine.specs.State.{Standing, Unsettled, WaitsOn, Viewed, Settled, Known, Vat, Done, Stops, Stop, is_in}
 use Rattle.def_machine.specs.Refs as refs
 use Rattle.def_machine.specs.Refs.{entry_of, standing_of, standing_in, follow_at, follow}
 use Rattle.def_machine.specs.Native.{list_at}

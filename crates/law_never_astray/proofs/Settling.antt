@@ -1,7 +1,7 @@
 -- A settling ends before its depth is used up: each settling inside it is of a name that was known when it began and had not settled.
 use Rattle.std.proofs.Common.{◌≡◌, ℕ, zero, suc, ◌≤◌, ◌⊎◌, inl, inr, Bool, true, List, [], ◌∷◌, ◌++◌, Option, Some, None, refl, sym, ap, subst, ◌∙◌, length, arith}
 use Rattle.def_machine.specs.Values.{Value, Naming, IsAnswer, naming, numbering}
-use Rattle.def_machine.specs.State.{Standing, Unsettled, WaitsOn, Viewed, Settled, Known, Change, Hold, Wait, WaitOn, See, React, ToTell, Settle, Settles, Vat, Done, Gives, Throws, Ejects, Stops, Act, ◌>>=◌, ◌>>◌, and_then, give, look, tell, with_change, changed, changed_to, unless_settled, alter, begun}
+use Rattle.def_machine.specs.State.{Standing, Settled, Known, Change, Hold, Wait, Settle, Settles, Vat, Done, Stops, Act, ◌>>=◌, ◌>>◌, and_then, give, look, tell, with_change, changed, changed_to, unless_settled, alter, begun}
 use Rattle.def_machine.specs.Refs as refs
 use Rattle.def_machine.specs.Refs.{entry_of}
 use Rattle.law_name.specs.Names.{AllOf}

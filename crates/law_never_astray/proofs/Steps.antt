@@ -2,7 +2,7 @@
 use Rattle.std.proofs.Common.{◌≡◌, ℕ, zero, suc, ◌<◌, List, [], ◌∷◌, ◌++◌, Option, Some, None, refl, sym, ap, subst, ◌∙◌, length, arith, map}
 use Rattle.std.specs.Prelude.{slice_get}
 use Rattle.def_machine.specs.Values.{Name, Root, Naming, naming}
-use Rattle.def_machine.specs.State.{Binding, Message, Known, Vat, Stop, Astray, Done, Gives, Throws, Ejects, Stops, begun}
+use Rattle.def_machine.specs.State.{Binding, Message, Known, Vat, Stop, Astray, Done, Gives, Stops, begun}
 use Rattle.def_machine.specs.Eval.{opening, taking}
 use Rattle.def_machine.specs.Scopes.{any_guard}
 use Rattle.def_kernel.specs.declared.node.Node.{Node}
@@ -10,7 +10,7 @@ use Rattle.law_machine.specs.Steps.{Step, Opens as Starts, Takes, Receives, Noti
 use Rattle.law_machine.proofs.StepEnds.{step_ends}
 use Rattle.def_run.specs.Draws.{draw_word}
 use Rattle.def_run.specs.World as world
-use Rattle.def_run.specs.World.{Script, Program, Entry, Turn, Carry, CutLink, NoticeLink, Event, Link, World, Run, Goes, Stopped, names, names_of, read_note, readied, tree_at, put_at}
+use Rattle.def_run.specs.World.{Script, Program, Entry, CutLink, NoticeLink, Event, World, Goes, Stopped, names, readied, tree_at, put_at}
 use Rattle.law_run.specs.Moves.{IsHonest, Stepped, Opened, Moved, Still, Severs, Drops, Steps, Arrives, Hears, Tells, Nobody, AnyNotice, Does, went}
 use Rattle.law_run.proofs.Told.{moves_told}
 use Rattle.law_name.specs.Names.{AllOf, NounOk}

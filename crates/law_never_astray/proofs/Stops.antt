@@ -2,7 +2,7 @@
 use Rattle.std.proofs.Common.{◌≡◌, ℕ, true, false, List, [], ◌∷◌, Some, refl, subst, inl}
 use Rattle.std.specs.Prelude.{slice_get}
 use Rattle.def_machine.specs.Values.{Name, Root, host_of}
-use Rattle.def_machine.specs.State.{Message, Vat, Stop, Done, Gives, Throws, Ejects, Stops}
+use Rattle.def_machine.specs.State.{Message, Vat, Stop, Done, Stops}
 use Rattle.def_machine.specs.Eval.{opening, taking}
 use Rattle.law_machine.specs.Steps.{Opens, Takes, does, After}
 use Rattle.def_run.specs.World as world

@@ -2,8 +2,8 @@
 use Rattle.std.proofs.Common.{◌≡◌, ℕ, zero, suc, ◌+◌, ◌≤◌, ◌<◌, Bool, true, false, List, [], ◌∷◌, ◌++◌, Option, Some, None, refl, sym, ap, subst, ◌∙◌, length, map, arith, ◌==◌}
 use Rattle.std.specs.Prelude.{slice_get}
 use Rattle.std.proofs.lemmas.Bool.{eqb-true, eq-eqb}
-use Rattle.def_machine.specs.Values.{Name, Root, Object, Promise, Answer, Gift, Sent, Spot, Own, Foreign, naming, name_of, answer_of, mail_of, spot_of}
-use Rattle.def_machine.specs.State.{Message, Note, Put, Vat, Done, Gives, Throws, Ejects, Stops, Act, begun}
+use Rattle.def_machine.specs.Values.{Name, Root, Object, Sent, Spot, Own, Foreign, naming, name_of, answer_of, mail_of, spot_of}
+use Rattle.def_machine.specs.State.{Message, Note, Put, Vat, Done, Gives, Act, begun}
 use Rattle.def_machine.specs.Scopes.{any_guard}
 use Rattle.law_machine.specs.Steps.{Step, Opens as Starts, Takes, Receives, Notices, does}
 use Rattle.def_run.specs.Draws.{draw_word}
@@ -12,7 +12,7 @@ use Rattle.def_run.specs.World.{Script, Program, Event, Carried, Link, World, Go
 use Rattle.law_run.specs.Moves.{Moved, Still, Severs, Drops, Steps, Arrives, Hears, Tells, Does, Nobody, AnyNotice, IsReached, IsAlone, went}
 use Rattle.law_run.proofs.Honest.{honest_reached, lifted}
 use Rattle.law_run.proofs.Told.{moves_told}
-use Rattle.law_name.specs.Names.{Bit, Named, Mail, Drew, At, Off, Entered, Owns, Gave, AllOf, MessageOk, NoteOk, NounOk, KnownOk, Parts, Everywhere, IsMessageName}
+use Rattle.law_name.specs.Names.{Bit, Named, Mail, Entered, Owns, AllOf, MessageOk, NoteOk, NounOk, KnownOk, Parts, Everywhere, IsMessageName}
 use Rattle.law_name.proofs.Facts.{MayBe, all_map, all_so, message_up, note_up, Fact, Nothing, Also, IsName, AreNouns, IsMessage, NoteDoes, nothing, Holds}
 use Rattle.law_name.proofs.Care.{Care, Sound, Ends, Fine, parts_up}
 use Rattle.law_name.proofs.CareEval.{fine_opening, fine_taking}

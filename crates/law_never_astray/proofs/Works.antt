@@ -1,7 +1,7 @@
 -- What evaluation does with references does not go astray, from a state in which what waits is known.
-use Rattle.std.proofs.Common.{ℕ, zero, Bool, true, false, List, length}
+use Rattle.std.proofs.Common.{ℕ, zero, Bool, false, List, length}
 use Rattle.def_machine.specs.Values.{Words, Value, Null, Broken, Ref, Naming}
-use Rattle.def_machine.specs.State.{Message, Known, Vat, Done, Gives, Throws, Ejects, Stops, Act, ◌>>◌, and_then, give, new_promise, new_message, new_lone_message}
+use Rattle.def_machine.specs.State.{Message, Known, Vat, Done, Stops, Act, ◌>>◌, and_then, give, new_promise, new_message, new_lone_message}
 use Rattle.def_machine.specs.Refs as refs
 use Rattle.def_machine.specs.Refs.{Place, Near, Mine, Away, Gone}
 use Rattle.def_kernel.specs.declared.node.Node.{Node}

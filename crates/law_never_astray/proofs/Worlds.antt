@@ -7,7 +7,7 @@ use Rattle.def_machine.specs.Eval.{opening, taking}
 use Rattle.def_kernel.specs.declared.node.Node.{Node}
 use Rattle.def_run.specs.Draws.{draw_word}
 use Rattle.def_run.specs.World as world
-use Rattle.def_run.specs.World.{Script, Program, World, names, readied}
+use Rattle.def_run.specs.World.{Script, Program, World, readied}
 use Rattle.law_kernel_form.specs.Trees.{IsTree}
 use Rattle.ev_scope.specs.Scopes.{first_fault}
 use Rattle.law_name.specs.Names.{Named, AllOf, IsAmong, MessageOk, NounOk, Parts, Everywhere, names_in}

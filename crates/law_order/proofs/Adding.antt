@@ -1,7 +1,7 @@
 -- In the middle of a step the ways only grow by what only adds.
 use Rattle.std.proofs.Common.{◌≡◌, ℕ, zero, suc, Bool, true, false, Option, Some, None, length, refl, ap, ◌∙◌}
 use Rattle.std.specs.Prelude.{codes, ◌==◌}
-use Rattle.def_machine.specs.Values.{Value, Null, Flag, Number, Letter, Text, Prim, Broken, Items, Ref, Name, Root, Object, Promise, Answer, Gift, Sent, Naming, Spot, Own, Foreign, NoObject, host_of}
+use Rattle.def_machine.specs.Values.{Value, Broken, Ref, Name, Object, Naming, Spot, Own, Foreign, NoObject, host_of}
 use Rattle.def_machine.specs.State.{Standing, Viewed, Settled, Known, Vat, is_in}
 use Rattle.def_machine.specs.Refs as refs
 use Rattle.def_run.specs.World.{Script, names}
@@ -16,9 +16,8 @@ module _ (K : Naming Name Name) (s t : Vat Name) (g : RefersAlike K s t) where
   standing_alike : (n : Name) (o p : Option (Known Name)) → StandsAlike n o p → refs.standing_in p ≡ refs.standing_in o
   unfolding refs.standing_in
   standing_alike n None None h = refl
-  standing_alike n None (Some k) h = absurd h
-  standing_alike n (Some j) None h = absurd h
   standing_alike n (Some j) (Some k) h = h.0
+  standing_alike n other another h = absurd h
 
   pub standings : (n : Name) → refs.standing_of K t.known n ≡ refs.standing_of K s.known n
   unfolding refs.standing_of
@@ -27,9 +26,8 @@ module _ (K : Naming Name Name) (s t : Vat Name) (g : RefersAlike K s t) where
   host_alike : (v : ℕ) (n : Name) (o p : Option (Known Name)) → StandsAlike n o p → refs.host_in v p ≡ refs.host_in v o
   unfolding refs.host_in
   host_alike v n None None h = refl
-  host_alike v n None (Some k) h = absurd h
-  host_alike v n (Some j) None h = absurd h
   host_alike v n (Some j) (Some k) h = h.1
+  host_alike v n other another h = absurd h
 
   hosts : (n : Name) → refs.host_at K t.number t.known n ≡ refs.host_at K s.number s.known n
   unfolding refs.host_at
@@ -93,37 +91,21 @@ module _ (script : Script) (honest : ℕ → Bool) (v : ℕ) (s t : Vat Name) (g
   of_name_alike : (n : Name) (o p : Option (Known Name)) → StandsAlike n o p → of_name script honest v t n p ≡ of_name script honest v s n o
   unfolding of_name
   of_name_alike (Object h i) o p e = by_follow_alike (Ref (Object h i))
-  of_name_alike (Root h) None None e = by_host_alike (Root h) (host_of (Root h))
-  of_name_alike (Promise h i) None None e = by_host_alike (Promise h i) (host_of (Promise h i))
-  of_name_alike (Answer h m) None None e = by_host_alike (Answer h m) (host_of (Answer h m))
-  of_name_alike (Gift h i) None None e = by_host_alike (Gift h i) (host_of (Gift h i))
-  of_name_alike (Sent m) None None e = by_host_alike (Sent m) (host_of (Sent m))
-  of_name_alike (Root h) (Some j) (Some k) e = by_follow_alike (Ref (Root h))
-  of_name_alike (Promise h i) (Some j) (Some k) e = by_follow_alike (Ref (Promise h i))
-  of_name_alike (Answer h m) (Some j) (Some k) e = by_follow_alike (Ref (Answer h m))
-  of_name_alike (Gift h i) (Some j) (Some k) e = by_follow_alike (Ref (Gift h i))
-  of_name_alike (Sent m) (Some j) (Some k) e = by_follow_alike (Ref (Sent m))
   of_name_alike n None (Some k) e = absurd e
   of_name_alike n (Some j) None e = absurd e
+  of_name_alike other None None e = by_host_alike other (host_of other)
+  of_name_alike other (Some j) (Some k) e = by_follow_alike (Ref other)
 
   pub leads_alike : (x : Value Name) → leads_in script honest v t x ≡ leads_in script honest v s x
   unfolding leads_in
   leads_alike (Ref n) = of_name_alike n (refs.entry_of (names script v) s.known n) (refs.entry_of (names script v) t.known n) (g.entries n)
-  leads_alike Null = by_follow_alike Null
-  leads_alike (Flag b) = by_follow_alike (Flag b)
-  leads_alike (Number z) = by_follow_alike (Number z)
-  leads_alike (Letter c) = by_follow_alike (Letter c)
-  leads_alike (Text p) = by_follow_alike (Text p)
-  leads_alike (Prim k) = by_follow_alike (Prim k)
-  leads_alike (Broken p) = by_follow_alike (Broken p)
-  leads_alike (Items k) = by_follow_alike (Items k)
+  leads_alike other = by_follow_alike other
 
   held_alike : (n : Name) (o p : Option (Known Name)) → StandsAlike n o p → Within (held_in n o) (held_in n p)
   unfolding held_in
   held_alike n None None e = λ i h. h
-  held_alike n None (Some k) e = absurd e
-  held_alike n (Some j) None e = absurd e
   held_alike n (Some j) (Some k) e = e.2
+  held_alike n other another e = absurd e
 
   pub held_within : (n : Name) → Within (held_in n (refs.entry_of (names script v) s.known n)) (held_in n (refs.entry_of (names script v) t.known n))
   held_within n = held_alike n (refs.entry_of (names script v) s.known n) (refs.entry_of (names script v) t.known n) (g.entries n)

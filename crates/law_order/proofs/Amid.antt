@@ -20,8 +20,7 @@ use Rattle.law_order.proofs.Sends.{some_same}
 abbrev LinkAlike : Option Link → Option Link → Type 0
 LinkAlike None None = Unit {0}
 LinkAlike (Some l) (Some k) = LinkGrows l k
-LinkAlike None (Some k) = ⊥
-LinkAlike (Some l) None = ⊥
+LinkAlike other another = ⊥
 
 ends_alike : (a b : ℕ) (l k : Link) → LinkGrows l k → world.is_link a b k ≡ world.is_link a b l
 unfolding world.is_link
@@ -30,13 +29,12 @@ ends_alike a b l k g = ap (λ x. elim (x == a) [ true ↦ k.to == b | false ↦ 
 link_alike : (a b : ℕ) (ls ks : List Link) → AllGrow ls ks → LinkAlike (world.link_at a b ls) (world.link_at a b ks)
 unfolding world.link_at
 link_alike a b [] [] g = tt
-link_alike a b [] (k ∷ ks) g = absurd g
-link_alike a b (l ∷ ls) [] g = absurd g
 link_alike a b (l ∷ ls) (k ∷ ks) g = subst (λ c. LinkAlike (elim (world.is_link a b l) [ true ↦ Some l | false ↦ world.link_at a b ls ]) (elim c [ true ↦ Some k | false ↦ world.link_at a b ks ])) (sym (ends_alike a b l k g.0)) (go (link_alike a b ls ks g.1) (world.is_link a b l))
   where
     go : LinkAlike (world.link_at a b ls) (world.link_at a b ks) → (c : Bool) → LinkAlike (elim c [ true ↦ Some l | false ↦ world.link_at a b ls ]) (elim c [ true ↦ Some k | false ↦ world.link_at a b ks ])
     go f true = g.0
     go f false = f
+link_alike a b other another g = absurd g
 
 -- ---- vats that are found
 
@@ -50,11 +48,9 @@ put_more v s t r ss u (inr h) = inr h
 
 pub put_either : (v : ℕ) (s t : Vat Name) (ss : List (Vat Name)) (u : ℕ) → Put v s t ss u
 unfolding world.put_at
-put_either v s t [] u = inr refl
 put_either zero s t (r ∷ ss) zero = inl (refl, refl, refl)
-put_either zero s t (r ∷ ss) (suc u) = inr refl
-put_either (suc v) s t (r ∷ ss) zero = inr refl
 put_either (suc v) s t (r ∷ ss) (suc u) = put_more v s t r ss u (put_either v s t ss u)
+put_either other s t another further = inr refl
 
 abbrev QueueOf : Option (Vat Name) → List Item
 QueueOf o = elim o [ Some r ↦ queued r.queue | None ↦ [] ]
@@ -122,9 +118,8 @@ module _ (script : Script) (honest : ℕ → Bool) (vs : List (Vat Name)) (Links
 
   way_same : (b : ℕ) (n : Name) (o p : Option Link) → LinkAlike o p → OverOf Vats' Links' b n p ≡ OverOf Vats Links b n o
   way_same b n None None h = refl
-  way_same b n None (Some k) h = absurd h
-  way_same b n (Some l) None h = absurd h
   way_same b n (Some l) (Some k) h = over_same b n l k h
+  way_same b n other another h = absurd h
 
   pub onward_same : (l : Lane) (n : Name) → onward_at script honest Vats' Links' l n ≡ onward_at script honest Vats Links l n
   unfolding onward_at
@@ -152,9 +147,8 @@ module _ (script : Script) (honest : ℕ → Bool) (vs : List (Vat Name)) (Links
 
   notes_grow : (o p : Option Link) → LinkAlike o p → Within (NotesOf o) (NotesOf p)
   notes_grow None None h = λ i j. j
-  notes_grow None (Some k) h = absurd h
-  notes_grow (Some l) None h = absurd h
   notes_grow (Some l) (Some k) h = λ i j. subst (λ c. IsIn i (elim c [ true ↦ delivered k.notes | false ↦ [] ])) (sym (honest_same l k h)) (notes_by (is_honest script honest l) (delivered l.notes) (delivered k.notes) h.stands i j)
+  notes_grow other another h = absurd h
 
   module _ (queue : Within (queued s.queue) (queued t.queue)) where
     queue_grows : (u : ℕ) → Put v s t vs u → Within (QueueOf (slice_get Vats u)) (QueueOf (slice_get Vats' u))

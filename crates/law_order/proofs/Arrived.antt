@@ -1,7 +1,7 @@
 -- A message that arrives: it leaves the front of its link and stands where it goes.
 use Rattle.std.proofs.Common.{◌≡◌, ℕ, suc, Bool, true, false, List, [], ◌∷◌, ◌++◌, Option, Some, None, length, refl, sym, ap, subst, ◌∙◌, ◌⊎◌, inl, inr}
 use Rattle.std.specs.Prelude.{slice_get}
-use Rattle.def_machine.specs.Values.{Words, Value, Null, Flag, Number, Letter, Text, Prim, Broken, Items, Ref, Name, Root, Object, Promise, Answer, Gift, Sent, Naming}
+use Rattle.def_machine.specs.Values.{Words, Value, Null, Ref, Name, Root, Object, Promise, Answer, Gift, Sent, Naming}
 use Rattle.def_machine.specs.State.{Message, Standing, Settled, Known, Hold, Passeds, Delivery, Note, Deliver, Put, Vat}
 use Rattle.def_machine.specs.State as state
 use Rattle.def_machine.specs.Refs.{Settler, Near, Mine, Away, Gone}
@@ -321,14 +321,7 @@ module _ (script : Script) (honest : ℕ → Bool) (w : World) (a b : ℕ) (r s 
   unfolding aimed
   near_sent (Ref o) e = went (Queued (Ref o)) (Queue b) o (queue_refers K s (s.queue ++ record m { target = Ref o } ∷ [])) (queued_more s.queue (record m { target = Ref o })) [] (append_nothing s.outbox) tt e
       (in_own_queue script honest w a b r s Mailed n verb ys at way (Queued (Ref o)) (refers_same script honest b s (Queued (Ref o)) (queue_refers K s (s.queue ++ record m { target = Ref o } ∷ []))) (queued_more s.queue (record m { target = Ref o })) [] (append_nothing s.outbox) tt o (queued_last s.queue (record m { target = Ref o }) o refl))
-  near_sent Null e = data_sent Null e
-  near_sent (Flag c) e = data_sent (Flag c) e
-  near_sent (Number z) e = data_sent (Number z) e
-  near_sent (Letter c) e = data_sent (Letter c) e
-  near_sent (Text p) e = data_sent (Text p) e
-  near_sent (Prim k) e = data_sent (Prim k) e
-  near_sent (Broken p) e = data_sent (Broken p) e
-  near_sent (Items k) e = data_sent (Items k) e
+  near_sent other e = data_sent other e
 
   mine_sent : (y : Value Name) (q : Name) (k : Known Name) → refs.entry_of K s.known q ≡ Some k → IsWaiting k.standing → leads_in script honest b s (Ref n) ≡ End (Held b q) q
       → Then (End (Held b q) q) (record s { known = state.with_change K (Hold (record m { target = y })) q s.known })

@@ -2,7 +2,7 @@
 use Rattle.std.proofs.Common.{◌≡◌, ℕ, suc, Bool, true, false, List, Option, Some, None, length, refl, sym, ap, subst, ◌∙◌, ◌⊎◌, inl, inr}
 use Rattle.std.proofs.lemmas.Bool.{ne_eqb}
 use Rattle.std.specs.Prelude.{codes, ◌==◌, ◌&&◌}
-use Rattle.def_machine.specs.Values.{Broken, Ref, Name, Root, Object, Promise, Answer, Gift, Sent, Naming, Own, Foreign, NoObject, host_of, spot_of, naming}
+use Rattle.def_machine.specs.Values.{Broken, Ref, Name, Object, Naming, Own, Foreign, NoObject, host_of, spot_of, naming}
 use Rattle.def_machine.specs.State.{Known, Vat, is_in}
 use Rattle.def_machine.specs.Refs as refs
 use Rattle.def_machine.specs.Refs.{Mine, Away}
@@ -147,20 +147,12 @@ module _ (script : Script) (honest : ℕ → Bool) (v h : ℕ) (s : Vat Name) (h
   none_home : (n : Name) → host_of n ≡ v → refs.entry_of (names script h) s.known n ≡ None → Home script honest v h s n here other (of_name script honest h s n None)
   unfolding of_name host_of
   none_home (Object g i) e q = subst (λ u. Home script honest v h s (Object u i) here other (by_follow script honest h s (Ref (Object u i)))) (sym e) (object_home script honest v h i s here other (subst (λ u. refs.entry_of (names script h) s.known (Object u i) ≡ None) e q))
-  none_home (Root g) e q = unknown_home script honest v h s (Root g) here other e
-  none_home (Promise g i) e q = unknown_home script honest v h s (Promise g i) here other e
-  none_home (Answer g a) e q = unknown_home script honest v h s (Answer g a) here other e
-  none_home (Gift g i) e q = unknown_home script honest v h s (Gift g i) here other e
-  none_home (Sent a) e q = unknown_home script honest v h s (Sent a) here other e
+  none_home another e q = unknown_home script honest v h s another here other e
 
   some_home : (n : Name) (k : Known Name) → (IsObject n → ⊥) → refs.entry_of (names script h) s.known n ≡ Some k → IsWaiting k.standing → k.host ≡ v → Home script honest v h s n here other (of_name script honest h s n (Some k))
   unfolding of_name
   some_home (Object g i) k f e w q = absurd (f tt)
-  some_home (Root g) k f e w q = known_home script honest v h s (Root g) here other f k e q w
-  some_home (Promise g i) k f e w q = known_home script honest v h s (Promise g i) here other f k e q w
-  some_home (Answer g a) k f e w q = known_home script honest v h s (Answer g a) here other f k e q w
-  some_home (Gift g i) k f e w q = known_home script honest v h s (Gift g i) here other f k e q w
-  some_home (Sent a) k f e w q = known_home script honest v h s (Sent a) here other f k e q w
+  some_home another k f e w q = known_home script honest v h s another here other f k e q w
 
   home_by : (n : Name) → host_of n ≡ v → IsOpenAt script h v s n → Home script honest v h s n here other (leads_in script honest h s (Ref n))
   unfolding leads_in

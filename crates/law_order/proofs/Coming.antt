@@ -1,7 +1,7 @@
 -- As a name comes to be known the ways only grow.
 use Rattle.std.proofs.Common.{◌≡◌, ℕ, zero, suc, Bool, true, false, List, [], ◌∷◌, ◌++◌, Option, Some, None, length, refl, sym, ap, subst, ◌∙◌, ◌⊎◌, inl, inr, eqb-true}
 use Rattle.std.specs.Prelude.{codes, ◌==◌, ◌&&◌}
-use Rattle.def_machine.specs.Values.{Value, Null, Flag, Number, Letter, Text, Prim, Broken, Items, Ref, Name, Root, Object, Promise, Answer, Gift, Naming, Spot, Own, Foreign, NoObject, host_of, spot_of, naming, same_name, same_reference}
+use Rattle.def_machine.specs.Values.{Value, Broken, Ref, Name, Root, Object, Promise, Answer, Gift, Naming, Spot, Own, Foreign, NoObject, host_of, spot_of, naming, same_name, same_reference}
 use Rattle.def_machine.specs.State.{Standing, Unsettled, WaitsOn, Viewed, Settled, Known, Vat, is_in, begun}
 use Rattle.def_machine.specs.Refs as refs
 use Rattle.def_machine.specs.Refs.{Mine, Away}
@@ -322,14 +322,7 @@ module _ (script : Script) (honest : ℕ → Bool) (v : ℕ) (s : Vat Name) (n :
     leading : (x : Value Name) → leads_in script honest v T x ≡ leads_in script honest v s x
     unfolding leads_in
     leading (Ref m) = leads_by_entry m (refs.entry_of K s.known m) refl (is_object m)
-    leading Null = by_follow_data Null (λ m e. subst IsData e tt)
-    leading (Flag b) = by_follow_data (Flag b) (λ m e. subst IsData e tt)
-    leading (Number z) = by_follow_data (Number z) (λ m e. subst IsData e tt)
-    leading (Letter c) = by_follow_data (Letter c) (λ m e. subst IsData e tt)
-    leading (Text p) = by_follow_data (Text p) (λ m e. subst IsData e tt)
-    leading (Prim k) = by_follow_data (Prim k) (λ m e. subst IsData e tt)
-    leading (Broken p) = by_follow_data (Broken p) (λ m e. subst IsData e tt)
-    leading (Items k) = by_follow_data (Items k) (λ m e. subst IsData e tt)
+    leading other = by_follow_data other (λ m e. subst IsData e tt)
 
     holding_by : (m : Name) (p : Option (Known Name)) → refs.entry_of K s.known m ≡ p → Within (held_in m p) (held_in m (refs.entry_of K T.known m))
     unfolding held_in

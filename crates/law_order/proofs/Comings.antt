@@ -255,8 +255,7 @@ module _ (script : Script) (honest : ℕ → Bool) (w : World) (v : ℕ) (r : Va
     aimed_behind (Ref n) Near = comers_are_behind (U s) (U t) (Queue v) n grows
     aimed_behind y (Mine n) = comers_are_behind (U s) (U t) (Held v n) n grows
     aimed_behind y (Away h n o) = comers_are_behind (U s) (U t) (Way v h) n grows
-    aimed_behind y (Gone p) = tt
-    aimed_behind other Near = tt
+    aimed_behind y another = tt
 
   pub after_gives : {A : Type 0} (s : Vat Name) (P : Vat Name → Type 0) → ((t : Vat Name) → StaysReady script honest w v s t → P t) → (d : Done Name A) → After (StaysReady script honest w v) s d → IfGives P d
   after_gives s P f (Gives a t) h = f t h
@@ -296,9 +295,8 @@ module _ (script : Script) (honest : ℕ → Bool) (w : World) (v : ℕ) (r : Va
     behind_by : {A : Type 0} (d : Done Name A) → Grew d → (p : Place Name) → P ≡ p → IfGives (Behind p) d
     unfolding aimed
     behind_by d f (Gone z) e = if_all (Behind (Gone z)) (λ t. tt) d
-    behind_by d f Near e = behind_other d f Near e (λ h. h)
-    behind_by d f (Mine n) e = behind_other d f (Mine n) e (λ h. h)
     behind_by d f (Away h n o) e = behind_other d f (Away h n o) e (λ i. i)
+    behind_by d f other e = behind_other d f other e (λ h. h)
 
     abbrev Honest : Type 0
     Honest = (h : ℕ) (n : Name) (o : Bool) → P ≡ Away h n o → honest h ≡ true

@@ -1,6 +1,6 @@
 -- What is known of names after the change of one.
 use Rattle.std.proofs.Common.{◌≡◌, ℕ, suc, Bool, true, false, List, [], ◌∷◌, Option, Some, length, refl, sym, ap, subst, ◌∙◌}
-use Rattle.def_machine.specs.Values.{Name, Root, Object, Promise, Answer, Gift, Sent, Naming, same_reference, naming}
+use Rattle.def_machine.specs.Values.{Name, Sent, Naming, same_reference, naming}
 use Rattle.def_machine.specs.State.{Known, Change}
 use Rattle.def_machine.specs.State as state
 use Rattle.def_machine.specs.Refs as refs
@@ -10,12 +10,8 @@ use Rattle.law_order.proofs.Sends.{changed_name}
 
 pub reference_is : (a b : Name) → same_reference a b ≡ true → a ≡ b
 unfolding same_reference
-reference_is (Root w) b e = same_is (Root w) b e
-reference_is (Object w i) b e = same_is (Object w i) b e
-reference_is (Promise w i) b e = same_is (Promise w i) b e
-reference_is (Answer w m) b e = same_is (Answer w m) b e
-reference_is (Gift w i) b e = same_is (Gift w i) b e
 reference_is (Sent m) b e = false_true e
+reference_is other b e = same_is other b e
 
 module _ (script : Script) (v : ℕ) (c : Change Name) (p : Name) where
   abbrev K : Naming Name Name

@@ -2,7 +2,7 @@
 use Rattle.std.proofs.Common.{◌≡◌, ℕ, Bool, true, false, List, Option, Some, None, refl, sym, subst, ◌⊎◌, inl, inr, eqb-true}
 use Rattle.std.proofs.lemmas.Bool.{eqb-false}
 use Rattle.std.specs.Prelude.{slice_get, ◌==◌}
-use Rattle.def_machine.specs.Values.{Value, Null, Flag, Number, Letter, Text, Prim, Broken, Items, Ref, Name, Root, Object, Promise, Answer, Gift, Sent, host_of}
+use Rattle.def_machine.specs.Values.{Value, Ref, Name, Object, host_of}
 use Rattle.def_machine.specs.State.{Known, Vat, is_in}
 use Rattle.def_machine.specs.Refs as refs
 use Rattle.def_machine.specs.Refs.{Near}
@@ -54,28 +54,13 @@ module _ (x : Name) where
     name_lacks : (v : ℕ) (s : Vat Name) (n : Name) (o : Option (Known Name)) → LacksAt x (of_name script honest v s n o)
     unfolding of_name
     name_lacks v s (Object h i) o = follow_lacks v s (Ref (Object h i))
-    name_lacks v s (Root h) (Some k) = follow_lacks v s (Ref (Root h))
-    name_lacks v s (Promise h i) (Some k) = follow_lacks v s (Ref (Promise h i))
-    name_lacks v s (Answer h m) (Some k) = follow_lacks v s (Ref (Answer h m))
-    name_lacks v s (Gift h i) (Some k) = follow_lacks v s (Ref (Gift h i))
-    name_lacks v s (Sent m) (Some k) = follow_lacks v s (Ref (Sent m))
-    name_lacks v s (Root h) None = by_host_lacks v s (Root h) (host_of (Root h))
-    name_lacks v s (Promise h i) None = by_host_lacks v s (Promise h i) (host_of (Promise h i))
-    name_lacks v s (Answer h m) None = by_host_lacks v s (Answer h m) (host_of (Answer h m))
-    name_lacks v s (Gift h i) None = by_host_lacks v s (Gift h i) (host_of (Gift h i))
-    name_lacks v s (Sent m) None = by_host_lacks v s (Sent m) (host_of (Sent m))
+    name_lacks v s other (Some k) = follow_lacks v s (Ref other)
+    name_lacks v s other None = by_host_lacks v s other (host_of other)
 
     in_lacks : (v : ℕ) (s : Vat Name) (y : Value Name) → LacksAt x (leads_in script honest v s y)
     unfolding leads_in
     in_lacks v s (Ref n) = name_lacks v s n (refs.entry_of (names script v) s.known n)
-    in_lacks v s Null = follow_lacks v s Null
-    in_lacks v s (Flag b) = follow_lacks v s (Flag b)
-    in_lacks v s (Number z) = follow_lacks v s (Number z)
-    in_lacks v s (Letter c) = follow_lacks v s (Letter c)
-    in_lacks v s (Text t) = follow_lacks v s (Text t)
-    in_lacks v s (Prim k) = follow_lacks v s (Prim k)
-    in_lacks v s (Broken p) = follow_lacks v s (Broken p)
-    in_lacks v s (Items k) = follow_lacks v s (Items k)
+    in_lacks v s other = follow_lacks v s other
 
     pub at_lacks : (v : ℕ) (o : Option (Vat Name)) (y : Value Name) → LacksAt x (leads_at script honest v o y)
     unfolding leads_at
@@ -124,9 +109,8 @@ module _ (script : Script) (honest : ℕ → Bool) (w : World) (v : ℕ) (s t : 
   fate_in u p b n h false e = stays_there (Held u p) b n (g.apart m (Held u p) b n (eqb-false u v e) h)
 
   fate_at : (l : Lane) (b : List Item) (n : Name) → StandsAt A m l b n → Fate (Mid l b n)
-  fate_at (Queue u) b n h = stays_there (Queue u) b n (g.apart m (Queue u) b n tt h)
   fate_at (Held u p) b n h = fate_in u p b n h (u == v) refl
-  fate_at (Way a c) b n h = stays_there (Way a c) b n (g.apart m (Way a c) b n tt h)
+  fate_at other b n h = stays_there other b n (g.apart m other b n tt h)
 
   fate : (c : Place) → IsPlace A m c → Fate c
   fate c (stands_there {l = l} {b = b} {n = n} h) = fate_at l b n h

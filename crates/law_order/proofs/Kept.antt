@@ -1,7 +1,7 @@
 -- What is ahead stays ahead: one induction for every change of the ways.
 use Rattle.std.proofs.Common.{◌≡◌, ℕ, List, sym, subst, ◌⊎◌, inl, inr}
 use Rattle.def_machine.specs.Values.{Name}
-use Rattle.law_order.specs.Ways.{Lane, Queue, Held, Way, Item, Place, Nowhere, Free, End, Mid, Ways, IsIn, IsOneWay, Doom, nowhere, by_end, by_mid, Follows, doomed, one_way, alike, beside, Ahead, doomed_there, in_end, in_mid, past_end, past_mid}
+use Rattle.law_order.specs.Ways.{Lane, Way, Item, Place, Nowhere, Free, End, Mid, Ways, IsIn, IsOneWay, Doom, nowhere, by_end, by_mid, Follows, doomed, one_way, alike, beside, Ahead, doomed_there, in_end, in_mid, past_end, past_mid}
 use Rattle.law_order.specs.Turns.{IsDefinite}
 
 -- from that place the way leads, now or later, to one for which Q holds
@@ -153,9 +153,8 @@ module _ (w u : Ways) (x : Name) (Stays : Type 0) (Went : Lane → Name → Type
     ends_kept l m n (inr (inl s)) h = rw (s.3 m) (rw (s.3 n) (follows_self u s.0 s.2))
 
     beside_kept : (l : Lane) (m n : Name) → Follows u (f (w.onward l m)) (f (w.onward l n)) → Follows u (f (End l m)) (f (End l n))
-    beside_kept (Queue v) m n h = one_way_kept (Queue v) m n tt (k.ends (Queue v))
-    beside_kept (Held v p) m n h = one_way_kept (Held v p) m n tt (k.ends (Held v p))
     beside_kept (Way a b) m n h = ends_kept (Way a b) m n (k.ends (Way a b)) (link_kept a b m n (k.links a b) h)
+    beside_kept other m n h = one_way_kept other m n tt (k.ends other)
 
     pub follows_kept : (c d : Place) → Follows w c d → Follows u (f c) (f d)
     follows_kept c d (doomed h) = doomed (goes_doomed d (f d) h (k.places d))

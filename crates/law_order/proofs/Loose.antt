@@ -1,7 +1,7 @@
 -- As a name waits of which nothing was said, the ways only grow.
 use Rattle.std.proofs.Common.{◌≡◌, ℕ, zero, suc, Bool, true, false, List, [], Option, Some, None, length, refl, sym, ap, subst, ◌∙◌, ◌⊎◌, inl, inr}
 use Rattle.std.specs.Prelude.{codes, slice_get, ◌==◌}
-use Rattle.def_machine.specs.Values.{Value, Null, Flag, Number, Letter, Text, Prim, Broken, Items, Ref, Name, Root, Object, Promise, Answer, Gift, Sent, Naming, Spot, Own, Foreign, NoObject, host_of}
+use Rattle.def_machine.specs.Values.{Value, Broken, Ref, Name, Object, Naming, Spot, Own, Foreign, NoObject, host_of}
 use Rattle.def_machine.specs.State.{Standing, Unsettled, WaitsOn, Viewed, Settled, Known, Vat, GiftEntry, is_in}
 use Rattle.def_machine.specs.Refs as refs
 use Rattle.def_run.specs.World.{Script, Link, World, names}
@@ -26,9 +26,8 @@ module _ (K : Naming Name Name) (p : Name) (s t : Vat Name) (g : OnlyWaits K p s
   host_alike : (v : ℕ) (n : Name) (o q : Option (Known Name)) → StandsNear p n o q → refs.host_in v q ≡ refs.host_in v o
   unfolding refs.host_in
   host_alike v n None None h = refl
-  host_alike v n None (Some k) h = absurd h
-  host_alike v n (Some j) None h = absurd h
   host_alike v n (Some j) (Some k) h = h.1
+  host_alike v n other another h = absurd h
 
   hosts : (n : Name) → refs.host_at K t.number t.known n ≡ refs.host_at K s.number s.known n
   unfolding refs.host_at
@@ -53,9 +52,8 @@ module _ (K : Naming Name Name) (p : Name) (s t : Vat Name) (g : OnlyWaits K p s
   led_near : (f h : Value Name → Value Name) → ((x : Value Name) → f x ≡ h x) → (n : Name) (a b : Option (Known Name)) → StandsNear p n a b → refs.led K f n (refs.standing_in b) ≡ refs.led K h n (refs.standing_in a)
   unfolding refs.standing_in refs.led
   led_near f h e n None None i = refl
-  led_near f h e n None (Some k) i = absurd i
-  led_near f h e n (Some j) None i = absurd i
   led_near f h e n (Some j) (Some k) i = led_known f h e n j k i.0
+  led_near f h e n other another i = absurd i
 
   pub follows_alike : (d : ℕ) (x : Value Name) → refs.follow_at K d t.known x ≡ refs.follow_at K d s.known x
   unfolding refs.follow_at refs.standing_of
@@ -109,37 +107,21 @@ module _ (script : Script) (honest : ℕ → Bool) (v : ℕ) (p : Name) (s t : V
   of_name_alike : (n : Name) (o q : Option (Known Name)) → StandsNear p n o q → of_name script honest v t n q ≡ of_name script honest v s n o
   unfolding of_name
   of_name_alike (Object h i) o q e = by_follow_alike (Ref (Object h i))
-  of_name_alike (Root h) None None e = by_host_alike (Root h) (host_of (Root h))
-  of_name_alike (Promise h i) None None e = by_host_alike (Promise h i) (host_of (Promise h i))
-  of_name_alike (Answer h m) None None e = by_host_alike (Answer h m) (host_of (Answer h m))
-  of_name_alike (Gift h i) None None e = by_host_alike (Gift h i) (host_of (Gift h i))
-  of_name_alike (Sent m) None None e = by_host_alike (Sent m) (host_of (Sent m))
-  of_name_alike (Root h) (Some j) (Some k) e = by_follow_alike (Ref (Root h))
-  of_name_alike (Promise h i) (Some j) (Some k) e = by_follow_alike (Ref (Promise h i))
-  of_name_alike (Answer h m) (Some j) (Some k) e = by_follow_alike (Ref (Answer h m))
-  of_name_alike (Gift h i) (Some j) (Some k) e = by_follow_alike (Ref (Gift h i))
-  of_name_alike (Sent m) (Some j) (Some k) e = by_follow_alike (Ref (Sent m))
   of_name_alike n None (Some k) e = absurd e
   of_name_alike n (Some j) None e = absurd e
+  of_name_alike other None None e = by_host_alike other (host_of other)
+  of_name_alike other (Some j) (Some k) e = by_follow_alike (Ref other)
 
   pub leads_near : (x : Value Name) → leads_in script honest v t x ≡ leads_in script honest v s x
   unfolding leads_in
   leads_near (Ref n) = of_name_alike n (refs.entry_of (names script v) s.known n) (refs.entry_of (names script v) t.known n) (g.entries n)
-  leads_near Null = by_follow_alike Null
-  leads_near (Flag b) = by_follow_alike (Flag b)
-  leads_near (Number z) = by_follow_alike (Number z)
-  leads_near (Letter c) = by_follow_alike (Letter c)
-  leads_near (Text p) = by_follow_alike (Text p)
-  leads_near (Prim k) = by_follow_alike (Prim k)
-  leads_near (Broken p) = by_follow_alike (Broken p)
-  leads_near (Items k) = by_follow_alike (Items k)
+  leads_near other = by_follow_alike other
 
   held_near : (n : Name) (a b : Option (Known Name)) → StandsNear p n a b → Within (held_in n a) (held_in n b)
   unfolding held_in
   held_near n None None e = λ i h. h
-  held_near n None (Some k) e = absurd e
-  held_near n (Some j) None e = absurd e
   held_near n (Some j) (Some k) e = λ i h. subst (λ ms. IsIn i (held_on n ms)) (sym e.2) h
+  held_near n other another e = absurd e
 
   abbrev SameOrP : Name → Type 0
   SameOrP n = (n ≡ p) ⊎ (refs.standing_of (names script v) t.known n ≡ refs.standing_of (names script v) s.known n)
@@ -147,13 +129,12 @@ module _ (script : Script) (honest : ℕ → Bool) (v : ℕ) (p : Name) (s t : V
   stood_near : (n : Name) (a b : Option (Known Name)) → StandsNear p n a b → (n ≡ p) ⊎ (refs.standing_in b ≡ refs.standing_in a)
   unfolding refs.standing_in
   stood_near n None None e = inr refl
-  stood_near n None (Some k) e = absurd e
-  stood_near n (Some j) None e = absurd e
   stood_near n (Some j) (Some k) e = go e.0
     where
       go : (k.standing ≡ j.standing) ⊎ ((n ≡ p) × (j.standing ≡ Unsettled) × IsWaiting k.standing) → (n ≡ p) ⊎ (k.standing ≡ j.standing)
       go (inl q) = inr q
       go (inr q) = inl q.0
+  stood_near n other another e = absurd e
 
   same_or_p : (n : Name) → SameOrP n
   unfolding refs.standing_of
@@ -215,9 +196,8 @@ module _ (script : Script) (honest : ℕ → Bool) (vs : List (Vat Name)) (ls : 
   OverBy rs c d b n = elim c [ true ↦ elim d [ true ↦ Nowhere | false ↦ leads script honest rs ls b (Ref n) ] | false ↦ Free ]
 
   over_bools : (c d : Bool) (b : ℕ) (n : Name) → OverBy Vats' c d b n ≡ OverBy Vats c d b n
-  over_bools true true b n = refl
   over_bools true false b n = leads_same b (Ref n)
-  over_bools false d b n = refl
+  over_bools other another b n = refl
 
   abbrev WayOf : List (Vat Name) → ℕ → Name → Option Link → Place
   WayOf rs b n o = elim o [ Some l ↦ over script honest rs ls b n l | None ↦ Nowhere ]
@@ -279,9 +259,8 @@ module _ (script : Script) (honest : ℕ → Bool) (w : World) (v : ℕ) (s t : 
   held_by : (n : Name) (a b : Option (Known Name)) → StandsNear p n a b → held_in n b ≡ held_in n a
   unfolding held_in
   held_by n None None e = refl
-  held_by n None (Some k) e = absurd e
-  held_by n (Some j) None e = absurd e
   held_by n (Some j) (Some k) e = ap (λ ms. held_on n ms) e.2
+  held_by n other another e = absurd e
 
   more_waiting : (l : Lane) → More (ways script honest (amid v s w)) (ways script honest (amid v t w)) l
   more_waiting (Queue u) = queue_more script honest w v s t u (λ e. ([], ap (λ q. queued q) g.queue ∙ sym (append-nil (queued s.queue))))

@@ -71,8 +71,7 @@ link_grows i false n l e h = subst (LinkGrows i l) (sym (pushed_open n l e)) (gr
 abbrev pub AllGrow : ℕ → List Link → List Link → Type 0
 AllGrow i [] [] = Unit {0}
 AllGrow i (l ∷ ls) (k ∷ ks) = LinkGrows i l k × AllGrow i ls ks
-AllGrow i [] (k ∷ ks) = ⊥
-AllGrow i (l ∷ ls) [] = ⊥
+AllGrow i other another = ⊥
 
 pub all_same : (i : ℕ) (ls : List Link) → AllGrow i ls ls
 all_same i [] = tt
@@ -92,8 +91,7 @@ with_grows i n v h (l ∷ ls) j = go (with_grows i n v h ls j) (world.is_link v 
 abbrev pub LinkAlike : ℕ → Option Link → Option Link → Type 0
 LinkAlike i None None = Unit {0}
 LinkAlike i (Some l) (Some k) = LinkGrows i l k
-LinkAlike i None (Some k) = ⊥
-LinkAlike i (Some l) None = ⊥
+LinkAlike i other another = ⊥
 
 ends_alike : (i a b : ℕ) (l k : Link) → LinkGrows i l k → world.is_link a b k ≡ world.is_link a b l
 unfolding world.is_link
@@ -102,13 +100,12 @@ ends_alike i a b l k g = ap (λ x. elim (x == a) [ true ↦ k.to == b | false �
 pub link_alike : (i a b : ℕ) (ls ks : List Link) → AllGrow i ls ks → LinkAlike i (world.link_at a b ls) (world.link_at a b ks)
 unfolding world.link_at
 link_alike i a b [] [] g = tt
-link_alike i a b [] (k ∷ ks) g = absurd g
-link_alike i a b (l ∷ ls) [] g = absurd g
 link_alike i a b (l ∷ ls) (k ∷ ks) g = subst (λ c. LinkAlike i (elim (world.is_link a b l) [ true ↦ Some l | false ↦ world.link_at a b ls ]) (elim c [ true ↦ Some k | false ↦ world.link_at a b ks ])) (sym (ends_alike i a b l k g.0)) (go (link_alike i a b ls ks g.1) (world.is_link a b l))
   where
     go : LinkAlike i (world.link_at a b ls) (world.link_at a b ks) → (c : Bool) → LinkAlike i (elim c [ true ↦ Some l | false ↦ world.link_at a b ls ]) (elim c [ true ↦ Some k | false ↦ world.link_at a b ks ])
     go f true = g.0
     go f false = f
+link_alike i a b other another g = absurd g
 
 -- ---- gifts
 
@@ -119,13 +116,12 @@ module _ (script : world.Script) (honest : ℕ → Bool) where
   open_more : (h i : ℕ) (ls ks : List Link) → AllGrow i ls ks → open_place script honest h i ks ≡ open_place script honest h i ls
   unfolding open_place is_honest
   open_more h i [] [] g = refl
-  open_more h i [] (k ∷ ks) g = absurd g
-  open_more h i (l ∷ ls) [] g = absurd g
   open_more h i (l ∷ ls) (k ∷ ks) g =
       ap (λ a. Opening h a k.to (note_place (opens i) (Way a k.to) [] k.notes) (open_place script honest h i ks)) g.0.from
       ∙ ap (λ b. Opening h l.from b (note_place (opens i) (Way l.from b) [] k.notes) (open_place script honest h i ks)) g.0.to
       ∙ ap (λ c. Opening h l.from l.to c (open_place script honest h i ks)) (g.0.places (opens i) (opens_test i) (Way l.from l.to))
       ∙ ap (λ r. Opening h l.from l.to (note_place (opens i) (Way l.from l.to) [] l.notes) r) (open_more h i ls ks g.1)
+  open_more h i other another g = absurd g
 
   abbrev Shortening : ℕ → ℕ → Option Place → Option Place → Option Place
   Shortening a b c rest = elim (honest a && honest b) [ true ↦ first_place c rest | false ↦ rest ]
@@ -133,13 +129,12 @@ module _ (script : world.Script) (honest : ℕ → Bool) where
   shorten_more : (h i : ℕ) (ls ks : List Link) → AllGrow i ls ks → shorten_place script honest h i ks ≡ shorten_place script honest h i ls
   unfolding shorten_place is_honest
   shorten_more h i [] [] g = refl
-  shorten_more h i [] (k ∷ ks) g = absurd g
-  shorten_more h i (l ∷ ls) [] g = absurd g
   shorten_more h i (l ∷ ls) (k ∷ ks) g =
       ap (λ a. Shortening a k.to (note_place (shortens h i) (Way a k.to) [] k.notes) (shorten_place script honest h i ks)) g.0.from
       ∙ ap (λ b. Shortening l.from b (note_place (shortens h i) (Way l.from b) [] k.notes) (shorten_place script honest h i ks)) g.0.to
       ∙ ap (λ c. Shortening l.from l.to c (shorten_place script honest h i ks)) (g.0.places (shortens h i) (shortens_test h i) (Way l.from l.to))
       ∙ ap (λ r. Shortening l.from l.to (note_place (shortens h i) (Way l.from l.to) [] l.notes) r) (shorten_more h i ls ks g.1)
+  shorten_more h i other another g = absurd g
 
   abbrev Logged : ℕ → ℕ → ℕ → Bool → Bool → Bool → Bool
   Logged h a b c d rest = ((honest a && honest b) && (((b == h) && c) || d)) || rest
@@ -147,14 +142,13 @@ module _ (script : world.Script) (honest : ℕ → Bool) where
   put_more : (h i : ℕ) (ls ks : List Link) → AllGrow i ls ks → was_put script honest h i ks ≡ was_put script honest h i ls
   unfolding was_put is_honest
   put_more h i [] [] g = refl
-  put_more h i [] (k ∷ ks) g = absurd g
-  put_more h i (l ∷ ls) [] g = absurd g
   put_more h i (l ∷ ls) (k ∷ ks) g =
       ap (λ a. Logged h a k.to (any_note (opens i) k.log) (any_note (shortens h i) k.log) (was_put script honest h i ks)) g.0.from
       ∙ ap (λ b. Logged h l.from b (any_note (opens i) k.log) (any_note (shortens h i) k.log) (was_put script honest h i ks)) g.0.to
       ∙ ap (λ c. Logged h l.from l.to c (any_note (shortens h i) k.log) (was_put script honest h i ks)) (g.0.logs (opens i) (opens_test i))
       ∙ ap (λ c. Logged h l.from l.to (any_note (opens i) l.log) c (was_put script honest h i ks)) (g.0.logs (shortens h i) (shortens_test h i))
       ∙ ap (λ r. Logged h l.from l.to (any_note (opens i) l.log) (any_note (shortens h i) l.log) r) (put_more h i ls ks g.1)
+  put_more h i other another g = absurd g
 
   pub gift_more : (h i : ℕ) (ls ks : List Link) → AllGrow i ls ks → gift_place script honest h i ks ≡ gift_place script honest h i ls
   unfolding gift_place

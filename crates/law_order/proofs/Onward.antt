@@ -8,7 +8,7 @@ use Rattle.def_machine.specs.Refs as refs
 use Rattle.def_machine.specs.Refs.{Settler, Near}
 use Rattle.def_run.specs.World.{Script, Link, World, names}
 use Rattle.def_run.specs.World as world
-use Rattle.law_order.specs.Ways.{Lane, Queue, Held, Way, Item, Place, Nowhere, End, Mid, Ways, IsIn, nowhere, alike, Ahead, doomed_there, in_end}
+use Rattle.law_order.specs.Ways.{Lane, Queue, Held, Item, Place, Nowhere, End, Mid, Ways, IsIn, nowhere, alike, Ahead, doomed_there, in_end}
 use Rattle.law_order.specs.Turns.{Within}
 use Rattle.law_order.specs.Places.{item, queued, held_on, held_in, aimed, stands_at, ways_of, ways, amid}
 use Rattle.law_order.specs.Worlds.{IfGives, RefersAlike}
@@ -46,15 +46,13 @@ module _ (w u : Ways) (v : ℕ) (p : Name) (e : Place) (grown : (l : Lane) → W
 
     stands_let : (l : Lane) (i : Item) → IsIn i (w.stands l) → Stands l i
     unfolding without
-    stands_let (Queue a) i h = inl (grown (Queue a) i h)
     stands_let (Held a q) i h = held_let a q i h
-    stands_let (Way a b) i h = inl (grown (Way a b) i h)
+    stands_let other i h = inl (grown other i h)
 
     onward_let : (l : Lane) (n : Name) → onward_to u.onward v p e l n ≡ onward_to w.onward v p e l n
     unfolding onward_to
-    onward_let (Queue a) n = same (Queue a) n
     onward_let (Held a q) n = ap (λ d. elim (Test v p a q) [ true ↦ e | false ↦ d ]) (same (Held a q) n)
-    onward_let (Way a b) n = same (Way a b) n
+    onward_let other n = same other n
 
     leads_let : (n : Name) → onward_to u.onward v p e (Held v p) n ≡ e
     unfolding onward_to

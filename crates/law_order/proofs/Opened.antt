@@ -1,7 +1,7 @@
 -- A note that lets a gift go acts.
 use Rattle.std.proofs.Common.{◌≡◌, ℕ, suc, Bool, true, false, List, [], ◌∷◌, Option, Some, None, length, refl, sym, ap, subst, ◌∙◌, ◌⊎◌, inl, inr, eqb-true, eq-eqb}
 use Rattle.std.specs.Prelude.{slice_get, not, ◌==◌, ◌&&◌, ◌||◌}
-use Rattle.def_machine.specs.Values.{Value, Null, Flag, Number, Letter, Text, Prim, Broken, Items, Ref, Name, Root, Object, Promise, Answer, Gift, Sent, Naming, Spot, Own, same_name, host_of}
+use Rattle.def_machine.specs.Values.{Value, Ref, Name, Object, Gift, Naming, Spot, Own, same_name, host_of}
 use Rattle.def_machine.specs.State.{NoMore, Standing, Unsettled, WaitsOn, Viewed, Settled, Known, Note, Open, GiftEntry, Vat, is_gift, with_opened}
 use Rattle.def_machine.specs.Arrive.{gift_at}
 use Rattle.def_machine.specs.Refs as refs
@@ -60,28 +60,13 @@ module _ (script : Script) (honest : ℕ → Bool) (v : ℕ) (s : Vat Name) (gs 
   of_name_still : (n : Name) (o : Option (Known Name)) → of_name script honest v T n o ≡ of_name script honest v s n o
   unfolding of_name
   of_name_still (Object h i) o = by_follow_still (Ref (Object h i))
-  of_name_still (Root h) (Some k) = by_follow_still (Ref (Root h))
-  of_name_still (Promise h i) (Some k) = by_follow_still (Ref (Promise h i))
-  of_name_still (Answer h m) (Some k) = by_follow_still (Ref (Answer h m))
-  of_name_still (Gift h i) (Some k) = by_follow_still (Ref (Gift h i))
-  of_name_still (Sent m) (Some k) = by_follow_still (Ref (Sent m))
-  of_name_still (Root h) None = by_host_still (Root h) (host_of (Root h))
-  of_name_still (Promise h i) None = by_host_still (Promise h i) (host_of (Promise h i))
-  of_name_still (Answer h m) None = by_host_still (Answer h m) (host_of (Answer h m))
-  of_name_still (Gift h i) None = by_host_still (Gift h i) (host_of (Gift h i))
-  of_name_still (Sent m) None = by_host_still (Sent m) (host_of (Sent m))
+  of_name_still other (Some k) = by_follow_still (Ref other)
+  of_name_still other None = by_host_still other (host_of other)
 
   pub leads_still : (x : Value Name) → leads_in script honest v T x ≡ leads_in script honest v s x
   unfolding leads_in
   leads_still (Ref n) = of_name_still n (refs.entry_of (names script v) s.known n)
-  leads_still Null = by_follow_still Null
-  leads_still (Flag b) = by_follow_still (Flag b)
-  leads_still (Number z) = by_follow_still (Number z)
-  leads_still (Letter c) = by_follow_still (Letter c)
-  leads_still (Text p) = by_follow_still (Text p)
-  leads_still (Prim k) = by_follow_still (Prim k)
-  leads_still (Broken p) = by_follow_still (Broken p)
-  leads_still (Items k) = by_follow_still (Items k)
+  leads_still other = by_follow_still other
 
 -- ---- other gifts
 
@@ -234,9 +219,8 @@ module _ (script : Script) (honest : ℕ → Bool) (w : World) (a b : ℕ) (r s 
   first_true false d e = e
 
   second_true : (c d : Bool) → (c && d) ≡ true → d ≡ true
-  second_true true d e = e
   second_true false true e = refl
-  second_true false false e = e
+  second_true other another e = e
 
   is_it : (u h j : ℕ) → same_name (Gift b i) (Gift h j) ≡ true → (h == u) ≡ true → IsIt u (Gift h j)
   unfolding same_name

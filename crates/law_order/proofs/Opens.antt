@@ -59,9 +59,8 @@ module _ (script : Script) (honest : ℕ → Bool) (vs : List (Vat Name)) (ls : 
 
   way_same : (b : ℕ) (m : Name) (o p : Option Link) → LinkAlike (suc d) o p → OverOf Then b m p ≡ OverOf ls b m o
   way_same b m None None g = refl
-  way_same b m None (Some k) g = absurd g
-  way_same b m (Some l) None g = absurd g
   way_same b m (Some l) (Some k) g = over_same b m l k g
+  way_same b m other another g = absurd g
 
   onward_so : (l : Lane) (m : Name) → (onward_at script honest vs Then l m ≡ onward_at script honest vs ls l m) ⊎ (IsOneWay l × (onward_at script honest vs ls l m ≡ Free))
   unfolding onward_at
@@ -87,9 +86,8 @@ module _ (script : Script) (honest : ℕ → Bool) (vs : List (Vat Name)) (ls : 
 
   notes_grow : (o p : Option Link) → LinkAlike (suc d) o p → Within (NotesOf o) (NotesOf p)
   notes_grow None None g = λ i j. j
-  notes_grow None (Some k) g = absurd g
-  notes_grow (Some l) None g = absurd g
   notes_grow (Some l) (Some k) g = λ i j. subst (λ c. IsIn i (elim c [ true ↦ delivered k.notes | false ↦ [] ])) (sym (honest_same l k g)) (notes_by (is_honest script honest l) (delivered l.notes) (delivered k.notes) g.stands i j)
+  notes_grow other another g = absurd g
 
   stands_so : (l : Lane) (i : Item) → IsIn i (stands_at script honest vs ls l) → IsIn i (stands_at script honest vs Then l)
   unfolding stands_at

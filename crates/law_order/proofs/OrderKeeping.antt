@@ -102,24 +102,21 @@ all_put_on a b v n (p ∷ ps) ls = ap (λ js. world.push_all v ps js) (put_on a 
 -- ---- what may become of a place as the note leaves
 
 second_of_both : (a b : Bool) → (a && b) ≡ true → b ≡ true
-second_of_both true b e = e
 second_of_both false true e = refl
-second_of_both false false e = e
+second_of_both other another e = e
 
 -- of the gifts of which G holds
 module _ (R : Place → Place → Type 0) (G : ℕ → ℕ → Type 0) where
   abbrev pub Each : Option Place → Option Place → Type 0
   Each None None = Unit {0}
   Each (Some c) (Some d) = R c d
-  Each None (Some d) = ⊥
-  Each (Some c) None = ⊥
+  Each other another = ⊥
 
   each_first : (c d e f : Option Place) → Each c d → Each e f → Each (first_place c e) (first_place d f)
   unfolding first_place
   each_first None None e f g h = h
   each_first (Some c) (Some d) e f g h = g
-  each_first None (Some d) e f g h = absurd g
-  each_first (Some c) None e f g h = absurd g
+  each_first other another e f g h = absurd g
 
   -- the first link with the note kept, the second without it
   pub record LinkLeaves (k l : Link) : Type 0 where
@@ -134,8 +131,7 @@ module _ (R : Place → Place → Type 0) (G : ℕ → ℕ → Type 0) where
   abbrev pub AllLeave : List Link → List Link → Type 0
   AllLeave [] [] = Unit {0}
   AllLeave (k ∷ ks) (l ∷ ls) = LinkLeaves k l × AllLeave ks ls
-  AllLeave [] (l ∷ ls) = ⊥
-  AllLeave (k ∷ ks) [] = ⊥
+  AllLeave other another = ⊥
 
   module _ (self : (c : Place) → R c c) where
     each_self : (o : Option Place) → Each o o
@@ -157,8 +153,6 @@ module _ (R : Place → Place → Type 0) (G : ℕ → ℕ → Type 0) where
       open_leaves : (h i : ℕ) → G h i → (ks ls : List Link) → AllLeave ks ls → Each (open_place script honest h i ks) (open_place script honest h i ls)
       unfolding open_place is_honest
       open_leaves h i o [] [] g = tt
-      open_leaves h i o [] (l ∷ ls) g = absurd g
-      open_leaves h i o (k ∷ ks) [] g = absurd g
       open_leaves h i o (k ∷ ks) (l ∷ ls) g =
           let p : Option Place = note_place (opens i) (Way k.from k.to) [] k.notes in
           let q : Option Place = note_place (opens i) (Way l.from l.to) [] l.notes in
@@ -167,12 +161,11 @@ module _ (R : Place → Place → Type 0) (G : ℕ → ℕ → Type 0) where
           subst (λ x. Each (open_place script honest h i (k ∷ ks)) (elim ((honest x && honest l.to) && (l.to == h)) [ true ↦ first_place q f | false ↦ f ])) (sym g.0.from)
           (subst (λ x. Each (open_place script honest h i (k ∷ ks)) (elim ((honest k.from && honest x) && (x == h)) [ true ↦ first_place q f | false ↦ f ])) (sym g.0.to)
           (each_if ((honest k.from && honest k.to) && (k.to == h)) p q e f (λ c. g.0.opening h i o (second_of_both (honest k.from && honest k.to) (k.to == h) c)) (open_leaves h i o ks ls g.1)))
+      open_leaves h i o other another g = absurd g
 
       shorten_leaves : (h i : ℕ) → G h i → (ks ls : List Link) → AllLeave ks ls → Each (shorten_place script honest h i ks) (shorten_place script honest h i ls)
       unfolding shorten_place is_honest
       shorten_leaves h i o [] [] g = tt
-      shorten_leaves h i o [] (l ∷ ls) g = absurd g
-      shorten_leaves h i o (k ∷ ks) [] g = absurd g
       shorten_leaves h i o (k ∷ ks) (l ∷ ls) g =
           let p : Option Place = note_place (shortens h i) (Way k.from k.to) [] k.notes in
           let q : Option Place = note_place (shortens h i) (Way l.from l.to) [] l.notes in
@@ -181,6 +174,7 @@ module _ (R : Place → Place → Type 0) (G : ℕ → ℕ → Type 0) where
           subst (λ x. Each (shorten_place script honest h i (k ∷ ks)) (elim (honest x && honest l.to) [ true ↦ first_place q f | false ↦ f ])) (sym g.0.from)
           (subst (λ x. Each (shorten_place script honest h i (k ∷ ks)) (elim (honest k.from && honest x) [ true ↦ first_place q f | false ↦ f ])) (sym g.0.to)
           (each_if (honest k.from && honest k.to) p q e f (λ c. g.0.shortening h i o) (shorten_leaves h i o ks ls g.1)))
+      shorten_leaves h i o other another g = absurd g
 
       logged_if : (c d e : Bool) → (c ≡ true → d ≡ e) → (c && d) ≡ (c && e)
       logged_if true d e f = f refl
@@ -189,14 +183,13 @@ module _ (R : Place → Place → Type 0) (G : ℕ → ℕ → Type 0) where
       put_leaves : (h i : ℕ) → G h i → (ks ls : List Link) → AllLeave ks ls → was_put script honest h i ls ≡ was_put script honest h i ks
       unfolding was_put is_honest
       put_leaves h i o [] [] g = refl
-      put_leaves h i o [] (l ∷ ls) g = absurd g
-      put_leaves h i o (k ∷ ks) [] g = absurd g
       put_leaves h i o (k ∷ ks) (l ∷ ls) g =
           ap (λ x. ((honest x && honest l.to) && (((l.to == h) && any_note (opens i) l.log) || any_note (shortens h i) l.log)) || was_put script honest h i ls) g.0.from
           ∙ ap (λ x. ((honest k.from && honest x) && (((x == h) && any_note (opens i) l.log) || any_note (shortens h i) l.log)) || was_put script honest h i ls) g.0.to
           ∙ ap (λ x. ((honest k.from && honest k.to) && (x || any_note (shortens h i) l.log)) || was_put script honest h i ls) (logged_if (k.to == h) (any_note (opens i) l.log) (any_note (opens i) k.log) (g.0.opened h i o))
           ∙ ap (λ x. ((honest k.from && honest k.to) && (((k.to == h) && any_note (opens i) k.log) || x)) || was_put script honest h i ls) (g.0.shortened h i o)
           ∙ ap (λ x. ((honest k.from && honest k.to) && (((k.to == h) && any_note (opens i) k.log) || any_note (shortens h i) k.log)) || x) (put_leaves h i o ks ls g.1)
+      put_leaves h i o other another g = absurd g
 
       or_leaves : (c : Bool) (p q : Option Place) → Each p q → R (or_never script honest c p) (or_never script honest c q)
       unfolding or_never
@@ -204,8 +197,7 @@ module _ (R : Place → Place → Type 0) (G : ℕ → ℕ → Type 0) where
       or_leaves false None None g = self Free
       or_leaves true (Some c) (Some d) g = g
       or_leaves false (Some c) (Some d) g = g
-      or_leaves c None (Some d) g = absurd g
-      or_leaves c (Some d) None g = absurd g
+      or_leaves c other another g = absurd g
 
       pub gift_leaves : (h i : ℕ) → G h i → (ks ls : List Link) → AllLeave ks ls → R (gift_place script honest h i ks) (gift_place script honest h i ls)
       unfolding gift_place
@@ -258,8 +250,7 @@ module _ (R : Place → Place → Type 0) (G : ℕ → ℕ → Type 0) where
         abbrev Found : Option Link → Option Link → Type 0
         Found None None = Unit {0}
         Found (Some k) (Some l) = LinkLeaves k l
-        Found None (Some l) = ⊥
-        Found (Some k) None = ⊥
+        Found other another = ⊥
 
         found_if : (c : Bool) (k l : Link) (o p : Option Link) → LinkLeaves k l → Found o p → Found (elim c [ true ↦ Some k | false ↦ o ]) (elim c [ true ↦ Some l | false ↦ p ])
         found_if true k l o p h f = h
@@ -272,9 +263,8 @@ module _ (R : Place → Place → Type 0) (G : ℕ → ℕ → Type 0) where
         found_leaves : (x y : ℕ) (ms ns : List Link) → AllLeave ms ns → Found (world.link_at x y ms) (world.link_at x y ns)
         unfolding world.link_at
         found_leaves x y [] [] h = tt
-        found_leaves x y [] (l ∷ ns) h = absurd h
-        found_leaves x y (k ∷ ms) [] h = absurd h
         found_leaves x y (k ∷ ms) (l ∷ ns) h = subst (λ c. Found (world.link_at x y (k ∷ ms)) (elim c [ true ↦ Some l | false ↦ world.link_at x y ns ])) (sym (same_ends x y k l h.0)) (found_if (world.is_link x y k) k l (world.link_at x y ms) (world.link_at x y ns) h.0 (found_leaves x y ms ns h.1))
+        found_leaves x y other another h = absurd h
 
         abbrev OverOf : List Link → ℕ → Name → Option Link → Place
         OverOf js b n o = elim o [ Some k ↦ over script honest vs js b n k | None ↦ Nowhere ]
@@ -282,8 +272,7 @@ module _ (R : Place → Place → Type 0) (G : ℕ → ℕ → Type 0) where
         way_still : (b : ℕ) (n : Name) (o p : Option Link) → Found o p → OverOf ls b n p ≡ OverOf ks b n o
         way_still b n None None h = refl
         way_still b n (Some k) (Some l) h = over_still b n k l h
-        way_still b n None (Some l) h = absurd h
-        way_still b n (Some k) None h = absurd h
+        way_still b n other another h = absurd h
 
         pub links_still : (x y : ℕ) (n : Name) → onward_at script honest vs ls (Way x y) n ≡ onward_at script honest vs ks (Way x y) n
         unfolding onward_at

@@ -226,9 +226,8 @@ module _ (script : Script) (honest : ℕ → Bool) (vs : List (Vat Name)) (ls : 
   held_alike : (n : Name) (a b : Option (Known Name)) → StandsAlike n a b → Within (held_in n a) (held_in n b)
   unfolding held_in
   held_alike n None None e = λ i h. h
-  held_alike n None (Some k) e = absurd e
-  held_alike n (Some j) None e = absurd e
   held_alike n (Some j) (Some k) e = e.2
+  held_alike n other another e = absurd e
 
   others_held : (n : Name) (i : Item) → (n ≡ p → ⊥) → (n ≡ p) ⊎ ((n ≡ p → ⊥) × StandsAlike n (refs.entry_of (names script v) s.known n) (refs.entry_of (names script v) t.known n)) → IsIn i (held_in n (refs.entry_of (names script v) s.known n)) → IsIn i (held_in n (refs.entry_of (names script v) t.known n))
   others_held n i a (inl q) h = absurd (a q)

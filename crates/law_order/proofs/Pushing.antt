@@ -91,8 +91,7 @@ then_grows l k j a b = record {
 abbrev pub AllGrow : List Link → List Link → Type 0
 AllGrow [] [] = Unit {0}
 AllGrow (l ∷ ls) (k ∷ ks) = LinkGrows l k × AllGrow ls ks
-AllGrow [] (k ∷ ks) = ⊥
-AllGrow (l ∷ ls) [] = ⊥
+AllGrow other another = ⊥
 
 pub all_same : (ls : List Link) → AllGrow ls ls
 all_same [] = tt
@@ -100,11 +99,10 @@ all_same (l ∷ ls) = (same_link l, all_same ls)
 
 all_then : (ls ks js : List Link) → AllGrow ls ks → AllGrow ks js → AllGrow ls js
 all_then [] [] [] a b = tt
-all_then [] [] (j ∷ js) a b = absurd b
 all_then [] (k ∷ ks) js a b = absurd a
 all_then (l ∷ ls) [] js a b = absurd a
-all_then (l ∷ ls) (k ∷ ks) [] a b = absurd b
 all_then (l ∷ ls) (k ∷ ks) (j ∷ js) a b = (then_grows l k j a.0 b.0, all_then ls ks js a.1 b.1)
+all_then other another further a b = absurd b
 
 with_grows : (n : Note Name) (v h : ℕ) (ls : List Link) → LetsNothingGo n → AllGrow ls (world.with_link (world.pushed n) v h ls)
 unfolding world.with_link
@@ -134,13 +132,12 @@ module _ (script : world.Script) (honest : ℕ → Bool) where
   open_more : (h i : ℕ) (ls ks : List Link) → AllGrow ls ks → open_place script honest h i ks ≡ open_place script honest h i ls
   unfolding open_place is_honest
   open_more h i [] [] g = refl
-  open_more h i [] (k ∷ ks) g = absurd g
-  open_more h i (l ∷ ls) [] g = absurd g
   open_more h i (l ∷ ls) (k ∷ ks) g =
       ap (λ a. Opening h a k.to (note_place (opens i) (Way a k.to) [] k.notes) (open_place script honest h i ks)) g.0.from
       ∙ ap (λ b. Opening h l.from b (note_place (opens i) (Way l.from b) [] k.notes) (open_place script honest h i ks)) g.0.to
       ∙ ap (λ c. Opening h l.from l.to c (open_place script honest h i ks)) (g.0.places (opens i) (opens_test i) (Way l.from l.to))
       ∙ ap (λ r. Opening h l.from l.to (note_place (opens i) (Way l.from l.to) [] l.notes) r) (open_more h i ls ks g.1)
+  open_more h i other another g = absurd g
 
   abbrev Shortening : ℕ → ℕ → Option Place → Option Place → Option Place
   Shortening a b c rest = elim (honest a && honest b) [ true ↦ first_place c rest | false ↦ rest ]
@@ -148,13 +145,12 @@ module _ (script : world.Script) (honest : ℕ → Bool) where
   shorten_more : (h i : ℕ) (ls ks : List Link) → AllGrow ls ks → shorten_place script honest h i ks ≡ shorten_place script honest h i ls
   unfolding shorten_place is_honest
   shorten_more h i [] [] g = refl
-  shorten_more h i [] (k ∷ ks) g = absurd g
-  shorten_more h i (l ∷ ls) [] g = absurd g
   shorten_more h i (l ∷ ls) (k ∷ ks) g =
       ap (λ a. Shortening a k.to (note_place (shortens h i) (Way a k.to) [] k.notes) (shorten_place script honest h i ks)) g.0.from
       ∙ ap (λ b. Shortening l.from b (note_place (shortens h i) (Way l.from b) [] k.notes) (shorten_place script honest h i ks)) g.0.to
       ∙ ap (λ c. Shortening l.from l.to c (shorten_place script honest h i ks)) (g.0.places (shortens h i) (shortens_test h i) (Way l.from l.to))
       ∙ ap (λ r. Shortening l.from l.to (note_place (shortens h i) (Way l.from l.to) [] l.notes) r) (shorten_more h i ls ks g.1)
+  shorten_more h i other another g = absurd g
 
   abbrev Logged : ℕ → ℕ → ℕ → Bool → Bool → Bool → Bool
   Logged h a b c d rest = ((honest a && honest b) && (((b == h) && c) || d)) || rest
@@ -162,14 +158,13 @@ module _ (script : world.Script) (honest : ℕ → Bool) where
   put_more : (h i : ℕ) (ls ks : List Link) → AllGrow ls ks → was_put script honest h i ks ≡ was_put script honest h i ls
   unfolding was_put is_honest
   put_more h i [] [] g = refl
-  put_more h i [] (k ∷ ks) g = absurd g
-  put_more h i (l ∷ ls) [] g = absurd g
   put_more h i (l ∷ ls) (k ∷ ks) g =
       ap (λ a. Logged h a k.to (any_note (opens i) k.log) (any_note (shortens h i) k.log) (was_put script honest h i ks)) g.0.from
       ∙ ap (λ b. Logged h l.from b (any_note (opens i) k.log) (any_note (shortens h i) k.log) (was_put script honest h i ks)) g.0.to
       ∙ ap (λ c. Logged h l.from l.to c (any_note (shortens h i) k.log) (was_put script honest h i ks)) (g.0.logs (opens i) (opens_test i))
       ∙ ap (λ c. Logged h l.from l.to (any_note (opens i) l.log) c (was_put script honest h i ks)) (g.0.logs (shortens h i) (shortens_test h i))
       ∙ ap (λ r. Logged h l.from l.to (any_note (opens i) l.log) (any_note (shortens h i) l.log) r) (put_more h i ls ks g.1)
+  put_more h i other another g = absurd g
 
   pub gift_more : (h i : ℕ) (ls ks : List Link) → AllGrow ls ks → gift_place script honest h i ks ≡ gift_place script honest h i ls
   unfolding gift_place

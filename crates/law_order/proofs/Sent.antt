@@ -5,7 +5,7 @@ use Rattle.def_machine.specs.Values.{Words, Value, Null, Broken, Ref, Name, Root
 use Rattle.def_machine.specs.State.{Message, Known, Passeds, Put, Deliver, Posted, Sends, Vat, Done, Gives, ◌>>=◌, ◌>>◌, and_then, give, look, tell, send_out, new_message, new_lone_message, is_in, begun}
 use Rattle.def_machine.specs.State as state
 use Rattle.def_machine.specs.Refs as refs
-use Rattle.def_machine.specs.Refs.{Place, Near, Mine, Away, Gone}
+use Rattle.def_machine.specs.Refs.{Place, Mine, Away}
 use Rattle.def_run.specs.World.{Script, World, names}
 use Rattle.law_order.specs.Ways.{Ahead}
 use Rattle.law_order.specs.Ways as lanes
@@ -148,10 +148,8 @@ module _ (script : Script) (honest : ℕ → Bool) (w : World) (v act : ℕ) (x 
 
     first_ahead : (p : Place Name) → Waiting p → Honest p → IfGives (Then p) (refs.send_first (names script v) m Y p q)
     unfolding refs.send_first
-    first_ahead Near f g = held_ahead Near f g
-    first_ahead (Mine n) f g = held_ahead (Mine n) f g
     first_ahead (Away h n o) f g = delivered_ahead h n o g
-    first_ahead (Gone p) f g = held_ahead (Gone p) f g
+    first_ahead other f g = held_ahead other f g
 
   then_gives : {A : Type 0} (P : Vat Name → Type 0) (d : Done Name (Unit {0})) (y : A) → IfGives P d → IfGives P (and_then d (λ _. give y))
   unfolding and_then give

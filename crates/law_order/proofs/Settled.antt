@@ -1,7 +1,7 @@
 -- As a name settles, each reference leads where it led, or where what it settled to leads.
 use Rattle.std.proofs.Common.{◌≡◌, ℕ, zero, suc, Bool, true, false, Option, Some, None, length, refl, sym, ap, subst, ◌∙◌, ◌⊎◌, inl, inr, eq-eqb}
 use Rattle.std.specs.Prelude.{codes, ◌==◌}
-use Rattle.def_machine.specs.Values.{Value, Null, Flag, Number, Letter, Text, Prim, Broken, Items, Ref, Name, Root, Object, Promise, Answer, Gift, Sent, Naming, Spot, Own, Foreign, NoObject, host_of, spot_of, naming}
+use Rattle.def_machine.specs.Values.{Value, Broken, Ref, Name, Root, Object, Promise, Gift, Naming, Spot, Own, Foreign, NoObject, host_of, spot_of, naming}
 use Rattle.def_machine.specs.State.{Standing, Viewed, Settled, Known, Vat, is_in}
 use Rattle.def_machine.specs.Refs as refs
 use Rattle.def_machine.specs.Refs.{Mine, Away}
@@ -29,9 +29,8 @@ module _ (K : Naming Name Name) (s t : Vat Name) (p : Name) (y : Value Name) (o 
   standing_alike : (n : Name) (a b : Option (Known Name)) → StandsAlike n a b → refs.standing_in b ≡ refs.standing_in a
   unfolding refs.standing_in
   standing_alike n None None h = refl
-  standing_alike n None (Some k) h = absurd h
-  standing_alike n (Some j) None h = absurd h
   standing_alike n (Some j) (Some k) h = h.0
+  standing_alike n other another h = absurd h
 
   pub others_stand : (n : Name) → StandsAlike n (refs.entry_of K s.known n) (refs.entry_of K t.known n) → refs.standing_of K t.known n ≡ refs.standing_of K s.known n
   unfolding refs.standing_of
@@ -97,22 +96,8 @@ module _ (K : Naming Name Name) (s t : Vat Name) (p : Name) (y : Value Name) (o 
   unfolding refs.follow_at
   meets zero (Ref n) = zero_met n (o.others n)
   meets (suc d) (Ref n) = name_met (λ z. refs.follow_at K d s.known z) (λ z. refs.follow_at K d t.known z) (λ z. meets d z) (ended_there d y ended) n (o.others n)
-  meets zero Null = data_met Null tt
-  meets zero (Flag b) = data_met (Flag b) tt
-  meets zero (Number z) = data_met (Number z) tt
-  meets zero (Letter c) = data_met (Letter c) tt
-  meets zero (Text w) = data_met (Text w) tt
-  meets zero (Prim k) = data_met (Prim k) tt
-  meets zero (Broken w) = data_met (Broken w) tt
-  meets zero (Items k) = data_met (Items k) tt
-  meets (suc d) Null = data_met Null tt
-  meets (suc d) (Flag b) = data_met (Flag b) tt
-  meets (suc d) (Number z) = data_met (Number z) tt
-  meets (suc d) (Letter c) = data_met (Letter c) tt
-  meets (suc d) (Text w) = data_met (Text w) tt
-  meets (suc d) (Prim k) = data_met (Prim k) tt
-  meets (suc d) (Broken w) = data_met (Broken w) tt
-  meets (suc d) (Items k) = data_met (Items k) tt
+  meets zero other = data_met other tt
+  meets (suc d) other = data_met other tt
 
   -- p is no end any more
   not_fixed : IsFixed K t (Ref p) → ⊥
@@ -132,9 +117,8 @@ module _ (K : Naming Name Name) (s t : Vat Name) (p : Name) (y : Value Name) (o 
   hosts_alike : (n : Name) (v : ℕ) (a b : Option (Known Name)) → StandsAlike n a b → refs.host_in v b ≡ refs.host_in v a
   unfolding refs.host_in
   hosts_alike n v None None h = refl
-  hosts_alike n v None (Some k) h = absurd h
-  hosts_alike n v (Some j) None h = absurd h
   hosts_alike n v (Some j) (Some k) h = h.1
+  hosts_alike n v other another h = absurd h
 
 -- ---- places that stay
 
@@ -172,14 +156,7 @@ module _ (K : Naming Name Name) (v : ℕ) (p : Name) (e : Place) (u : ℕ) (r : 
   severed_stays : (z : Value Name) → (u ≡ v → z ≡ Ref p → ⊥) → Stays (aimed u (refs.severed K r z) (refs.place K r (refs.severed K r z)))
   unfolding refs.severed
   severed_stays (Ref n) away = severed_spot_stays n away (K.spot n)
-  severed_stays Null away = value_stays Null away
-  severed_stays (Flag b) away = value_stays (Flag b) away
-  severed_stays (Number z) away = value_stays (Number z) away
-  severed_stays (Letter c) away = value_stays (Letter c) away
-  severed_stays (Text w) away = value_stays (Text w) away
-  severed_stays (Prim k) away = value_stays (Prim k) away
-  severed_stays (Broken w) away = value_stays (Broken w) away
-  severed_stays (Items k) away = value_stays (Items k) away
+  severed_stays other away = value_stays other away
 
   by_bools : (n : Name) (h : ℕ) → (u ≡ v → n ≡ p → ⊥) → (c d : Bool) → Stays (elim c [ true ↦ Nowhere | false ↦ elim d [ true ↦ End (Held u n) n | false ↦ End (Way u h) n ] ])
   by_bools n h away true d = passes_nowhere v p e
@@ -198,29 +175,16 @@ module _ (script : Script) (honest : ℕ → Bool) (v : ℕ) (p : Name) (e : Pla
   name_stays : (n : Name) (o : Option (Known Name)) → passed_by v p e (of_name script honest u r n o) ≡ of_name script honest u r n o
   unfolding of_name
   name_stays (Object h i) o = follow_stays (Ref (Object h i))
-  name_stays (Root h) None = by_host_stays (names script u) v p e u r (Root h) (host_of (Root h)) (λ i j. away i)
   name_stays (Promise h i) None = by_host_stays (names script u) v p e u r (Promise h i) (host_of (Promise h i)) (λ i j. away i)
-  name_stays (Answer h m) None = by_host_stays (names script u) v p e u r (Answer h m) (host_of (Answer h m)) (λ i j. away i)
   name_stays (Gift h i) None = by_host_stays (names script u) v p e u r (Gift h i) (host_of (Gift h i)) (λ i j. away i)
-  name_stays (Sent m) None = by_host_stays (names script u) v p e u r (Sent m) (host_of (Sent m)) (λ i j. away i)
-  name_stays (Root h) (Some k) = follow_stays (Ref (Root h))
-  name_stays (Promise h i) (Some k) = follow_stays (Ref (Promise h i))
-  name_stays (Answer h m) (Some k) = follow_stays (Ref (Answer h m))
-  name_stays (Gift h i) (Some k) = follow_stays (Ref (Gift h i))
-  name_stays (Sent m) (Some k) = follow_stays (Ref (Sent m))
+  name_stays other (Some k) = follow_stays (Ref other)
+  name_stays other None = by_host_stays (names script u) v p e u r other (host_of other) (λ i j. away i)
 
   -- at another vat each reference leads where it led
   pub far_stays : (x : Value Name) → passed_by v p e (leads_in script honest u r x) ≡ leads_in script honest u r x
   unfolding leads_in
   far_stays (Ref n) = name_stays n (refs.entry_of (names script u) r.known n)
-  far_stays Null = follow_stays Null
-  far_stays (Flag b) = follow_stays (Flag b)
-  far_stays (Number z) = follow_stays (Number z)
-  far_stays (Letter c) = follow_stays (Letter c)
-  far_stays (Text w) = follow_stays (Text w)
-  far_stays (Prim k) = follow_stays (Prim k)
-  far_stays (Broken w) = follow_stays (Broken w)
-  far_stays (Items k) = follow_stays (Items k)
+  far_stays other = follow_stays other
 
 -- ---- the vat in which the name settles
 
@@ -338,14 +302,12 @@ module _ (script : Script) (honest : ℕ → Bool) (v : ℕ) (s t : Vat Name) (p
   abbrev Paired : Name → Option (Known Name) → Option (Known Name) → Type 0
   Paired n None None = n ≡ p → ⊥
   Paired n (Some j) (Some k) = Unit {0}
-  Paired n None (Some k) = ⊥
-  Paired n (Some j) None = ⊥
+  Paired n other another = ⊥
 
   alike_paired : (n : Name) (a b : Option (Known Name)) → (n ≡ p → ⊥) → StandsAlike n a b → Paired n a b
   alike_paired n None None i h = i
   alike_paired n (Some j) (Some k) i h = tt
-  alike_paired n None (Some k) i h = h
-  alike_paired n (Some j) None i h = h
+  alike_paired n other another i h = h
 
   paired_by : (n : Name) → (n ≡ p) ⊎ ((n ≡ p → ⊥) × StandsAlike n (refs.entry_of K s.known n) (refs.entry_of K t.known n)) → Paired n (refs.entry_of K s.known n) (refs.entry_of K t.known n)
   paired_by n (inl q) = subst (λ z. Paired z (refs.entry_of K s.known z) (refs.entry_of K t.known z)) (sym q) (subst (λ a. Paired p a (refs.entry_of K t.known p)) (sym g.only.before.1) (subst (λ b. Paired p (Some g.only.before.0) b) (sym g.only.after.1) tt))
@@ -367,27 +329,13 @@ module _ (script : Script) (honest : ℕ → Bool) (v : ℕ) (s t : Vat Name) (p
     where
       data_there : (d : ℕ) (x : Value Name) → IsData x → refs.follow_at K d t.known x ≡ x
       data_there d (Ref n) i = absurd i
-      data_there d Null i = ended_there K s t p y g.only g.plain g.ended g.follows d Null tt
-      data_there d (Flag b) i = ended_there K s t p y g.only g.plain g.ended g.follows d (Flag b) tt
-      data_there d (Number z) i = ended_there K s t p y g.only g.plain g.ended g.follows d (Number z) tt
-      data_there d (Letter c) i = ended_there K s t p y g.only g.plain g.ended g.follows d (Letter c) tt
-      data_there d (Text w) i = ended_there K s t p y g.only g.plain g.ended g.follows d (Text w) tt
-      data_there d (Prim k) i = ended_there K s t p y g.only g.plain g.ended g.follows d (Prim k) tt
-      data_there d (Broken w) i = ended_there K s t p y g.only g.plain g.ended g.follows d (Broken w) tt
-      data_there d (Items k) i = ended_there K s t p y g.only g.plain g.ended g.follows d (Items k) tt
+      data_there d other i = ended_there K s t p y g.only g.plain g.ended g.follows d other tt
 
   -- each reference leads where it led, but p to the place of what it settled to
   pub leads_on : (x : Value Name) → leads_in script honest v t x ≡ F (leads_in script honest v s x)
   unfolding leads_in
   leads_on (Ref n) = name_on n (refs.entry_of K s.known n) (refs.entry_of K t.known n) refl (paired_by n (g.only.others n)) (is_object n)
-  leads_on Null = data_on Null tt
-  leads_on (Flag b) = data_on (Flag b) tt
-  leads_on (Number z) = data_on (Number z) tt
-  leads_on (Letter c) = data_on (Letter c) tt
-  leads_on (Text w) = data_on (Text w) tt
-  leads_on (Prim k) = data_on (Prim k) tt
-  leads_on (Broken w) = data_on (Broken w) tt
-  leads_on (Items k) = data_on (Items k) tt
+  leads_on other = data_on other tt
 
   ended_leads : (x : Value Name) → IsEnded x → leads_in script honest v t x ≡ aimed_at script v t x
   unfolding leads_in aimed_at by_follow refs.follow refs.follow_at

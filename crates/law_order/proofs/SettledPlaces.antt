@@ -2,7 +2,7 @@
 use Rattle.std.proofs.Common.{◌≡◌, ℕ, Bool, true, false, List, [], ◌∷◌, ◌++◌, Some, None, refl, sym, ap, subst, ◌∙◌, inl, inr}
 use Rattle.std.proofs.lemmas.List.{append-nil, append_assoc}
 use Rattle.std.specs.Prelude.{slice_get}
-use Rattle.def_machine.specs.Values.{Value, Null, Flag, Number, Letter, Text, Prim, Broken, Items, Ref, Name, Promise, Answer, Naming}
+use Rattle.def_machine.specs.Values.{Value, Ref, Name, Promise, Answer, Naming}
 use Rattle.def_machine.specs.State.{Message, Known, Vat, Settle}
 use Rattle.def_machine.specs.Refs as refs
 use Rattle.def_machine.specs.Refs.{Near}
@@ -205,14 +205,7 @@ module _ (script : Script) (honest : ℕ → Bool) (w : World) (v : ℕ) (r s : 
     sent_so : (x : Value Name) → y ≡ x → (m : Name) (b : List Item) (n : Name) → StandsAt (W s) m (Held v p) b n → IsSentOn script honest w v s Sent m p b n
     unfolding aimed
     sent_so (Ref o) f m b n h = to_object o f (aim_of (Ref o) f) m b n h
-    sent_so Null f m b n h = to_data (aim_of Null f) m b n
-    sent_so (Flag c) f m b n h = to_data (aim_of (Flag c) f) m b n
-    sent_so (Number z) f m b n h = to_data (aim_of (Number z) f) m b n
-    sent_so (Letter c) f m b n h = to_data (aim_of (Letter c) f) m b n
-    sent_so (Text t) f m b n h = to_data (aim_of (Text t) f) m b n
-    sent_so (Prim j) f m b n h = to_data (aim_of (Prim j) f) m b n
-    sent_so (Broken z) f m b n h = to_data (aim_of (Broken z) f) m b n
-    sent_so (Items j) f m b n h = to_data (aim_of (Items j) f) m b n
+    sent_so other f m b n h = to_data (aim_of other f) m b n
 
     queue_adds : AddsOnly K T Sent
     queue_adds = record {

@@ -1,7 +1,7 @@
 -- The changes by which no message goes on keep what is ahead.
 use Rattle.std.proofs.Common.{◌≡◌, ℕ, refl, sym, subst, ◌⊎◌, inl, inr}
 use Rattle.def_machine.specs.Values.{Name}
-use Rattle.law_order.specs.Ways.{Lane, Queue, Held, Way, Place, Nowhere, Free, End, Mid, Ways, IsIn, IsOneWay, Doom, nowhere, by_end, Ahead}
+use Rattle.law_order.specs.Ways.{Lane, Held, Way, Place, Nowhere, Free, End, Mid, Ways, IsIn, IsOneWay, Doom, nowhere, by_end, Ahead}
 use Rattle.law_order.specs.Changes.{Lacks}
 use Rattle.law_order.specs.Turns.{Comes, is_there, on_end, on_mid, Reroutes, stays_so, said_now, ends_now, renamed_so, behind_all, gone_on, IsTurned, IsPassed, IsNoticed, IsCut, OnlyOn, TurningKeeps, PassingByKeeps, NoticingKeeps, CuttingKeeps}
 use Rattle.law_order.proofs.Kept.{Leads, now, later_end, later_mid, Turns, from_free, to_doom, same_end, same_mid, held_back, passed_end, passed_mid, renamed, Goes, turning, between, Shifts, Change, Holds, kept, doom_kept, doom_closed}
@@ -27,9 +27,8 @@ module _ (w u : Ways) (g : IsTurned w u) (x : Name) where
   rerouted c d (gone_on {l = l} {n = n} h) = passed_mid (λ m j. j) (rerouted (w.onward l n) d h)
 
   turned_lane : (l : Lane) (n : Name) → Rerouted (w.onward l n) (u.onward l n)
-  turned_lane (Queue v) n = rerouted (w.onward (Queue v) n) (u.onward (Queue v) n) (g.lanes (Queue v) n tt)
-  turned_lane (Held v p) n = rerouted (w.onward (Held v p) n) (u.onward (Held v p) n) (g.lanes (Held v p) n tt)
   turned_lane (Way a b) n = equal w u x Never (w.onward (Way a b) n) (u.onward (Way a b) n) (g.links a b n)
+  turned_lane other n = rerouted (w.onward other n) (u.onward other n) (g.lanes other n tt)
 
   turned_change : Change w u x (Unit {0}) Never (λ c. c)
   turned_change = record {

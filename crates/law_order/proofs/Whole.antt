@@ -1,7 +1,7 @@
 -- What is ahead stays ahead through a whole settling.
 use Rattle.std.proofs.Common.{◌≡◌, ℕ, zero, suc, Bool, true, false, List, [], ◌∷◌, ◌++◌, Option, Some, None, length, refl, sym, ap, subst, ◌∙◌}
 use Rattle.std.specs.Prelude.{slice_get, nat_le, ◌-◌, if◌then◌else◌}
-use Rattle.def_machine.specs.Values.{Value, Null, Flag, Number, Letter, Text, Prim, Broken, Items, Ref, Name, Naming, Spot, Own, Foreign, NoObject}
+use Rattle.def_machine.specs.Values.{Value, Broken, Items, Ref, Name, Naming, Spot, Own, Foreign, NoObject}
 use Rattle.def_machine.specs.State.{Message, Standing, Settled, Known, Vat, Done, Gives, Plain, SettledTo, Lost, Settles, WhereSome}
 use Rattle.def_machine.specs.State as state
 use Rattle.def_machine.specs.Refs as refs
@@ -261,14 +261,8 @@ module _ (script : Script) (honest : ℕ → Bool) (w : World) (v : ℕ) where
 
       loop : (z : Value Name) → IsPlain K z → IsHonestTo script honest v z → Loop z
       loop (Ref n) i a = loop_spot n (K.spot n) refl i a
-      loop Null i a = λ p k s f e h g. here_loop settle p Null k s tt e h
-      loop (Flag b) i a = λ p k s f e h g. here_loop settle p (Flag b) k s tt e h
-      loop (Number j) i a = λ p k s f e h g. here_loop settle p (Number j) k s tt e h
-      loop (Letter c) i a = λ p k s f e h g. here_loop settle p (Letter c) k s tt e h
-      loop (Text x) i a = λ p k s f e h g. here_loop settle p (Text x) k s tt e h
-      loop (Prim j) i a = λ p k s f e h g. here_loop settle p (Prim j) k s tt e h
       loop (Broken x) i a = λ p k s f e h g. broken_loop settle R p x k s f h g
-      loop (Items j) i a = λ p k s f e h g. here_loop settle p (Items j) k s tt e h
+      loop other i a = λ p k s f e h g. here_loop settle p other k s tt e h
 
       waits : (p : Name) (qs : List Name) (s : Vat Name) → WaitsWell script honest w v y R settle p qs s → IfGives (λ t. Kept s t × Follows K p y t) (state.each (λ q. settle q y) qs s)
       unfolding state.each state.◌>>◌ state.give

@@ -6,7 +6,7 @@ use Rattle.def_machine.specs.Values.{Value, Ref, Name, host_of}
 use Rattle.def_machine.specs.State.{Vat}
 use Rattle.def_run.specs.World.{Script, Link, World}
 use Rattle.def_run.specs.World as world
-use Rattle.law_order.specs.Ways.{Lane, Queue, Held, Way, Item, Place, Nowhere, Free, End, Mid, Ways, IsIn, Doom, nowhere, by_end, by_mid, Follows, doomed, one_way, alike, beside, Ahead, doomed_there, in_mid, past_mid}
+use Rattle.law_order.specs.Ways.{Lane, Way, Item, Place, Nowhere, Free, End, Mid, Ways, IsIn, Doom, nowhere, by_end, by_mid, Follows, doomed, one_way, alike, beside, Ahead, doomed_there, in_mid, past_mid}
 use Rattle.law_order.specs.Turns.{Reroutes}
 use Rattle.law_order.specs.Messages.{StaysBehind}
 use Rattle.law_order.specs.Places.{is_honest, leads_at, leads, over, onward_at, amid}
@@ -72,12 +72,8 @@ module _ (script : Script) (honest : ℕ → Bool) (w : World) (v h : ℕ) (r s 
 
     place_behind : (d : Place) → IsGood d → Follows W C d → Follows U C (F d)
     unfolding told_by
-    place_behind Nowhere i f = follows_still C Nowhere (good v k) i f
-    place_behind Free i f = follows_still C Free (good v k) i f
-    place_behind (Mid l b m) i f = follows_still C (Mid l b m) (good v k) i f
-    place_behind (End (Queue u) m) i f = follows_still C (End (Queue u) m) (good v k) i f
-    place_behind (End (Held u q) m) i f = follows_still C (End (Held u q) m) (good v k) i f
     place_behind (End (Way a b) m) i f = way_behind a b m (Test v n a m) refl i f
+    place_behind other i f = follows_still C other (good v k) i f
 
   leads_far : (b : ℕ) (m : Name) → (b ≡ v → ⊥) → Leads Vats' b m ≡ Leads Vats b m
   unfolding leads

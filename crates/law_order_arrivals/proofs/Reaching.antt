@@ -1,7 +1,7 @@
 -- To which places references lead: one walk for every property of places.
 use Rattle.std.proofs.Common.{◌≡◌, ℕ, suc, Bool, true, false, Option, Some, None, length, refl, sym, ap, subst, ◌∙◌, eq-eqb}
 use Rattle.std.specs.Prelude.{codes, ◌==◌}
-use Rattle.def_machine.specs.Values.{Value, Null, Flag, Number, Letter, Text, Prim, Broken, Items, Ref, Name, Root, Object, Promise, Answer, Gift, Sent, Naming, Spot, Own, Foreign, NoObject, host_of, spot_of, naming}
+use Rattle.def_machine.specs.Values.{Value, Broken, Ref, Name, Object, Naming, Spot, Own, Foreign, NoObject, host_of, spot_of, naming}
 use Rattle.def_machine.specs.State.{Known, Vat, is_in}
 use Rattle.def_machine.specs.Refs as refs
 use Rattle.def_machine.specs.Refs.{Mine, Away}
@@ -83,14 +83,7 @@ module _ (script : Script) (honest : ℕ → Bool) (u : ℕ) (s : Vat Name) (tol
   pub severed_has : (z : Value Name) → Fine z → P (aimed u (refs.severed K s z) (refs.place K s (refs.severed K s z)))
   unfolding refs.severed
   severed_has (Ref m) f = severed_spot_has m f (K.spot m)
-  severed_has Null f = value_has Null f
-  severed_has (Flag b) f = value_has (Flag b) f
-  severed_has (Number z) f = value_has (Number z) f
-  severed_has (Letter c) f = value_has (Letter c) f
-  severed_has (Text w) f = value_has (Text w) f
-  severed_has (Prim k) f = value_has (Prim k) f
-  severed_has (Broken w) f = value_has (Broken w) f
-  severed_has (Items k) f = value_has (Items k) f
+  severed_has other f = value_has other f
 
   host_by_has : (m : Name) → Q m → (c d : Bool) → P (elim c [ true ↦ Nowhere | false ↦ elim d [ true ↦ End (Held u m) m | false ↦ End (Way u (host_of m)) m ] ])
   host_by_has m q true d = nowhere_has
@@ -111,25 +104,10 @@ module _ (script : Script) (honest : ℕ → Bool) (u : ℕ) (s : Vat Name) (tol
     name_has : (m : Name) (o : Option (Known Name)) → P (of_name script honest u s m o)
     unfolding of_name
     name_has (Object h i) o = follow_has (Ref (Object h i))
-    name_has (Root h) None = by_host_has (Root h) (any (Root h))
-    name_has (Promise h i) None = by_host_has (Promise h i) (any (Promise h i))
-    name_has (Answer h a) None = by_host_has (Answer h a) (any (Answer h a))
-    name_has (Gift h i) None = by_host_has (Gift h i) (any (Gift h i))
-    name_has (Sent a) None = by_host_has (Sent a) (any (Sent a))
-    name_has (Root h) (Some k) = follow_has (Ref (Root h))
-    name_has (Promise h i) (Some k) = follow_has (Ref (Promise h i))
-    name_has (Answer h a) (Some k) = follow_has (Ref (Answer h a))
-    name_has (Gift h i) (Some k) = follow_has (Ref (Gift h i))
-    name_has (Sent a) (Some k) = follow_has (Ref (Sent a))
+    name_has other None = by_host_has other (any other)
+    name_has other (Some k) = follow_has (Ref other)
 
     pub leads_has : (x : Value Name) → P (leads_in script honest u s x)
     unfolding leads_in
     leads_has (Ref m) = name_has m (refs.entry_of K s.known m)
-    leads_has Null = follow_has Null
-    leads_has (Flag b) = follow_has (Flag b)
-    leads_has (Number z) = follow_has (Number z)
-    leads_has (Letter c) = follow_has (Letter c)
-    leads_has (Text w) = follow_has (Text w)
-    leads_has (Prim k) = follow_has (Prim k)
-    leads_has (Broken w) = follow_has (Broken w)
-    leads_has (Items k) = follow_has (Items k)
+    leads_has other = follow_has other

@@ -36,16 +36,14 @@ none_back (Some j) (Some k) i e = none_some k (sym e)
 
 some_back : (a b : Option (Known Name)) (k : Known Name) → StandsSo a b → b ≡ Some k → (j : Known Name) × (a ≡ Some j) × (k.host ≡ j.host)
 some_back None None k i e = none_some k e
-some_back None (Some q) k i e = absurd i
-some_back (Some j) None k i e = absurd i
 some_back (Some j) (Some q) k i e = (j, refl, ap (λ z. z.host) (sym (some_same q k e)) ∙ i.1)
+some_back other another k i e = absurd i
 
 held_so : (m : Name) (a b : Option (Known Name)) → StandsSo a b → held_in m b ≡ held_in m a
 unfolding held_in
 held_so m None None i = refl
-held_so m None (Some k) i = absurd i
-held_so m (Some j) None i = absurd i
 held_so m (Some j) (Some k) i = ap (λ ms. held_on m ms) i.2
+held_so m other another i = absurd i
 
 module _ (script : Script) (honest : ℕ → Bool) (w : World) (v h : ℕ) (r s t : Vat Name) (n : Name) (y : Value Name) (at : slice_get w.vats v ≡ Some r) (tidy : IsTidy script honest w v s) (g : IsToldOf script v h s t n y) where
   abbrev K : Naming Name Name
@@ -152,9 +150,8 @@ module _ (script : Script) (honest : ℕ → Bool) (w : World) (v h : ℕ) (r s 
   OverBy vs c d b m = elim c [ true ↦ elim d [ true ↦ Nowhere | false ↦ leads script honest vs Links b (Ref m) ] | false ↦ Free ]
 
   over_own : (b : ℕ) (m : Name) → host_of m ≡ b → (c d : Bool) → OverBy Vats' c d b m ≡ OverBy Vats c d b m
-  over_own b m e true true = refl
   over_own b m e true false = leads_own b m e
-  over_own b m e false d = refl
+  over_own b m e other another = refl
 
   abbrev WayOf : List (Vat Name) → ℕ → Name → Option Link → Place
   WayOf vs b m o = elim o [ Some l ↦ over script honest vs Links b m l | None ↦ Nowhere ]
@@ -267,9 +264,8 @@ module _ (script : Script) (honest : ℕ → Bool) (w : World) (v h : ℕ) (r s 
         (subst (λ o. Reroutes W U (released_at script honest Vats Links u q None) (released_at script honest Vats' Links u q o)) (sym j) (vat_turns u q None))
 
     over_turns : (b : ℕ) (m : Name) (c d : Bool) → Reroutes W U (OverBy Vats c d b m) (OverBy Vats' c d b m)
-    over_turns b m true true = stays_so
     over_turns b m true false = leads_turn b (Ref m)
-    over_turns b m false d = stays_so
+    over_turns b m other another = stays_so
 
     way_of_turns : (b : ℕ) (m : Name) (o : Option Link) → Reroutes W U (WayOf Vats b m o) (WayOf Vats' b m o)
     unfolding over

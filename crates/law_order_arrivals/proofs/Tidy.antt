@@ -163,9 +163,8 @@ module _ (script : Script) (honest : ℕ → Bool) where
     held_good u p None = tt
 
     over_by : (b : ℕ) (m : Name) (c d : Bool) → IsGood (elim c [ true ↦ elim d [ true ↦ Nowhere | false ↦ leads script honest vats links b (Ref m) ] | false ↦ Free ])
-    over_by b m true true = tt
     over_by b m true false = leads_good b (Ref m)
-    over_by b m false d = tt
+    over_by b m other another = tt
 
     way_good : (b : ℕ) (m : Name) (o : Option Link) → IsGood (elim o [ Some l ↦ over script honest vats links b m l | None ↦ Nowhere ])
     unfolding over

@@ -2,7 +2,7 @@
 use Rattle.std.proofs.Common.{◌≡◌, ℕ, zero, suc, Bool, true, false, Option, Some, None, length, refl, sym, ap, subst, ◌∙◌, ◌⊎◌, inl, inr}
 use Rattle.std.proofs.lemmas.Bool.{ne_eqb}
 use Rattle.std.specs.Prelude.{codes, ◌==◌}
-use Rattle.def_machine.specs.Values.{Value, Null, Flag, Number, Letter, Text, Prim, Broken, Items, Ref, Name, Root, Object, Naming, Spot, Own, Foreign, NoObject, host_of, spot_of, naming, same_name}
+use Rattle.def_machine.specs.Values.{Value, Broken, Ref, Name, Root, Object, Naming, Spot, Own, Foreign, NoObject, host_of, spot_of, naming, same_name}
 use Rattle.def_machine.specs.State.{Standing, Unsettled, WaitsOn, Viewed, Settled, Known, Vat, is_in}
 use Rattle.def_machine.specs.Refs as refs
 use Rattle.def_machine.specs.Refs.{Mine, Away}
@@ -81,9 +81,8 @@ module _ (script : Script) (honest : ℕ → Bool) (v h : ℕ) (s t : Vat Name) 
   standing_so : (a b : Option (Known Name)) → StandsSo a b → refs.standing_in b ≡ refs.standing_in a
   unfolding refs.standing_in
   standing_so None None i = refl
-  standing_so None (Some k) i = absurd i
-  standing_so (Some j) None i = absurd i
   standing_so (Some j) (Some k) i = i.0
+  standing_so other another i = absurd i
 
   pub others_stand : (m : Name) → (m ≡ n → ⊥) → refs.standing_of K t.known m ≡ refs.standing_of K s.known m
   unfolding refs.standing_of
@@ -135,22 +134,8 @@ module _ (script : Script) (honest : ℕ → Bool) (v h : ℕ) (s t : Vat Name) 
   unfolding refs.follow_at
   meets zero (Ref m) = zero_met m (is_name m n)
   meets (suc d) (Ref m) = name_met (λ z. refs.follow_at K d s.known z) (λ z. refs.follow_at K d t.known z) (λ z. meets d z) (g.ended d) m (is_name m n)
-  meets zero Null = data_met Null (λ i. i)
-  meets zero (Flag b) = data_met (Flag b) (λ i. i)
-  meets zero (Number z) = data_met (Number z) (λ i. i)
-  meets zero (Letter c) = data_met (Letter c) (λ i. i)
-  meets zero (Text w) = data_met (Text w) (λ i. i)
-  meets zero (Prim k) = data_met (Prim k) (λ i. i)
-  meets zero (Broken w) = data_met (Broken w) (λ i. i)
-  meets zero (Items k) = data_met (Items k) (λ i. i)
-  meets (suc d) Null = data_met Null (λ i. i)
-  meets (suc d) (Flag b) = data_met (Flag b) (λ i. i)
-  meets (suc d) (Number z) = data_met (Number z) (λ i. i)
-  meets (suc d) (Letter c) = data_met (Letter c) (λ i. i)
-  meets (suc d) (Text w) = data_met (Text w) (λ i. i)
-  meets (suc d) (Prim k) = data_met (Prim k) (λ i. i)
-  meets (suc d) (Broken w) = data_met (Broken w) (λ i. i)
-  meets (suc d) (Items k) = data_met (Items k) (λ i. i)
+  meets zero other = data_met other (λ i. i)
+  meets (suc d) other = data_met other (λ i. i)
 
   -- n is no end any more
   not_led : (q : Standing Name) → LeadsOnTo y q → IsWaiting q → ⊥
@@ -178,9 +163,8 @@ module _ (script : Script) (honest : ℕ → Bool) (v h : ℕ) (s t : Vat Name) 
   host_so : (d : ℕ) (a b : Option (Known Name)) → StandsSo a b → refs.host_in d b ≡ refs.host_in d a
   unfolding refs.host_in
   host_so d None None i = refl
-  host_so d None (Some k) i = absurd i
-  host_so d (Some j) None i = absurd i
   host_so d (Some j) (Some k) i = i.1
+  host_so d other another i = absurd i
 
   entries_host : (d : ℕ) (m : Name) → (m ≡ n) ⊎ (m ≡ n → ⊥) → refs.host_in d (refs.entry_of K t.known m) ≡ refs.host_in d (refs.entry_of K s.known m)
   unfolding refs.host_in
@@ -291,14 +275,12 @@ module _ (script : Script) (honest : ℕ → Bool) (v h : ℕ) (s t : Vat Name) 
   abbrev Paired : Name → Option (Known Name) → Option (Known Name) → Type 0
   Paired m None None = m ≡ n → ⊥
   Paired m (Some j) (Some k) = Unit {0}
-  Paired m None (Some k) = ⊥
-  Paired m (Some j) None = ⊥
+  Paired m other another = ⊥
 
   so_paired : (m : Name) (a b : Option (Known Name)) → (m ≡ n → ⊥) → StandsSo a b → Paired m a b
   so_paired m None None i e = i
   so_paired m (Some j) (Some k) i e = tt
-  so_paired m None (Some k) i e = e
-  so_paired m (Some j) None i e = e
+  so_paired m other another i e = e
 
   paired : (m : Name) → (m ≡ n) ⊎ (m ≡ n → ⊥) → Paired m (refs.entry_of K s.known m) (refs.entry_of K t.known m)
   paired m (inl q) = subst (λ z. Paired z (refs.entry_of K s.known z) (refs.entry_of K t.known z)) (sym q) (subst (λ a. Paired n a (refs.entry_of K t.known n)) (sym g.only.found) (subst (λ b. Paired n (Some g.only.before) b) (sym g.only.found_then) tt))
@@ -324,14 +306,7 @@ module _ (script : Script) (honest : ℕ → Bool) (v h : ℕ) (s t : Vat Name) 
   pub leads_on : (x : Value Name) → leads_in script honest v t x ≡ F (leads_in script honest v s x)
   unfolding leads_in refs.follow_at
   leads_on (Ref m) = name_on m (refs.entry_of K s.known m) (refs.entry_of K t.known m) refl (paired m (is_name m n)) (is_object m)
-  leads_on Null = data_on Null (λ i. i) refl
-  leads_on (Flag b) = data_on (Flag b) (λ i. i) refl
-  leads_on (Number z) = data_on (Number z) (λ i. i) refl
-  leads_on (Letter c) = data_on (Letter c) (λ i. i) refl
-  leads_on (Text w) = data_on (Text w) (λ i. i) refl
-  leads_on (Prim k) = data_on (Prim k) (λ i. i) refl
-  leads_on (Broken w) = data_on (Broken w) (λ i. i) refl
-  leads_on (Items k) = data_on (Items k) (λ i. i) refl
+  leads_on other = data_on other (λ i. i) refl
 
   -- a name to which y leads, or y itself, leads to where y leads
   pub told_leads : (d : ℕ) → refs.follow_at K (suc d) t.known (Ref n) ≡ y

@@ -30,7 +30,7 @@ module _ (script : Script) (honest : ℕ → Bool) (w : World) (v : ℕ) (s : Va
   unopened true = refl
   unopened false = refl
 
-  opened_same : (m : Name) (gs : List (GiftEntry Name)) → opened_there m (gs ++ New ∷ []) ≡ opened_there m gs
+  pub opened_same : (m : Name) (gs : List (GiftEntry Name)) → opened_there m (gs ++ New ∷ []) ≡ opened_there m gs
   unfolding opened_there
   opened_same m [] = unopened (same_name n m)
   opened_same m (g ∷ gs) = ap (λ c. (same_name g.name m && g.opened) || c) (opened_same m gs)

@@ -97,7 +97,7 @@ module _ (script : Script) (honest : ℕ → Bool) (w : World) (a b : ℕ) (m : 
   leads_begin u x = leads_same script honest w.vats w.links w.links (all_same w.links) b h.vat Start (refers_same script honest b h.vat Start (alike_same (names script b) h.vat Start refl refl refl refl)) u x
       ∙ ap (λ vs. leads script honest vs w.links u x) (in_place b h.vat w.vats h.there)
 
-  begin_more : (l : Lane) → More (ways script honest w) (With Start) l
+  pub begin_more : (l : Lane) → More (ways script honest w) (With Start) l
   unfolding ways ways_of stands_at amid readied world.push_all
   begin_more (Queue u) = subst (λ vs. More (ways_of script honest vs w.links) (With Start) (Queue u)) (in_place b h.vat w.vats h.there) (queue_more script honest w b h.vat Start u (λ e. ([], sym (append-nil (queued h.vat.queue)))))
   begin_more (Held u q) = subst (λ vs. More (ways_of script honest vs w.links) (With Start) (Held u q)) (in_place b h.vat w.vats h.there) (held_more script honest w b h.vat Start u q (λ e. ([], sym (append-nil (held_in q (refs.entry_of (names script b) h.vat.known q))))))
@@ -125,7 +125,7 @@ module _ (script : Script) (honest : ℕ → Bool) (w : World) (a b : ℕ) (m : 
   abbrev pub Comes : Vat Name → Type 0
   Comes t = Firm (ways script honest w) (End t) Was (LeadsEnd t)
 
-  begin_firm : Firm (ways script honest w) (With Start) Was (LeadsWith Start)
+  pub begin_firm : Firm (ways script honest w) (With Start) Was (LeadsWith Start)
   begin_firm = record {
     references = λ u x. subst (λ c. StaysBehind (ways script honest w) (With Start) (Was u x) c) (sym (leads_begin u x)) (growing_keeps (ways script honest w) (With Start) begins (Was u x));
     places = λ l k n. growing_keeps (ways script honest w) (With Start) begins (Mid l k n);
@@ -148,7 +148,7 @@ module _ (script : Script) (honest : ℕ → Bool) (w : World) (a b : ℕ) (m : 
   grown_then s t g leaves more leading = firm_leaves s t (firm_grown script honest w b Start s g) leaves more leading
 
   module _ (head : List Event) (t : Vat Name) where
-    abbrev Then : World
+    abbrev pub Then : World
     Then = record {
       fuel = t.fuel;
       drawn = t.drawn;
@@ -180,6 +180,15 @@ module _ (script : Script) (honest : ℕ → Bool) (w : World) (a b : ℕ) (m : 
       ∙ ap (λ q. elim q [ true ↦ world.idle script k w | false ↦ world.carry_notes script k a b w h.link.notes ]) h.uncut
       ∙ ap (λ ns. world.carry_notes script k a b w ns) h.first
       ∙ ap (λ o. world.arrives script k a b Bare m o) h.there
+
+  came_by : (y : World) (head : List Event) (k : ℕ) (d : Done Name (Unit {0})) → Arrival ≡ d → world.put_back b Bare head k d ≡ Goes y → (t : Vat Name) × (head : List Event) × (Arrival ≡ Gives tt t) × (y ≡ Then head t)
+  unfolding world.put_back
+  came_by y head k (Gives x t) i e = (t, head, i, sym (goes_is (Then head t) y e))
+  came_by y head k other i e = cc
+
+  -- where the step comes to a world, the arrival comes to a state
+  pub came : (k : ℕ) (y : World) → world.step script (Carry a b) k w ≡ Goes y → (t : Vat Name) × (head : List Event) × (Arrival ≡ Gives tt t) × (y ≡ Then head t)
+  came k y e = came_by y (head_of k) (world.step_number script k) Arrival refl (sym (step_is k) ∙ e)
 
   pub carried : IfGives Comes Arrival → (k : ℕ) (y : World) → world.step script (Carry a b) k w ≡ Goes y → StepKeeps script honest w y
   carried g k y e = ended y (head_of k) (world.step_number script k) Arrival g (sym (step_is k) ∙ e)

@@ -308,7 +308,7 @@ module _ (script : Script) where
     opened_true : (ps rest : List Program) (w : World) → script.vats ≡ ps ++ rest → world.open_from script zero ps (world.begins script) ≡ Goes w → WishesAreTrue w
     opened_true = opened_hold script Had opened_had stepped_had (λ w p. stands_of script w p.past.0) WishesAreTrue moved_true begins_true
 
-    stepped_true : (w x : World) (es : List Entry) (k : ℕ) → world.open_from script zero script.vats (world.begins script) ≡ Goes w → world.steps_from script es k w ≡ Goes x → WishesAreTrue x
+    pub stepped_true : (w x : World) (es : List Entry) (k : ℕ) → world.open_from script zero script.vats (world.begins script) ≡ Goes w → world.steps_from script es k w ≡ Goes x → WishesAreTrue x
     stepped_true = stepped_hold script Had opened_had stepped_had (λ w p. stands_of script w p.past.0) WishesAreTrue moved_true begins_true
 
   -- of a note under way

@@ -2,7 +2,7 @@
 use Rattle.std.proofs.Common.{◌≡◌, ℕ, Bool, true, false, Option, Some, None, refl, sym, ap, subst, ◌∙◌, ◌⊎◌, inl, inr}
 use Rattle.std.specs.Prelude.{◌==◌}
 use Rattle.std.proofs.lemmas.Bool.{eq-eqb}
-use Rattle.def_machine.specs.Values.{Value, Ref, Name, Root, Object, Promise, Answer, Gift, Sent, Naming, Own, Foreign, NoObject, spot_of, naming}
+use Rattle.def_machine.specs.Values.{Value, Ref, Name, Object, Naming, Own, Foreign, NoObject, spot_of, naming}
 use Rattle.def_machine.specs.State.{Known, Vat}
 use Rattle.def_machine.specs.Refs as refs
 use Rattle.def_machine.specs.Refs.{Near, Mine, Away, Gone}
@@ -44,8 +44,7 @@ unfolding aimed
 aimed_back v h q (Ref o) Near e = absurd (queue_way v h o q e)
 aimed_back v h q y (Mine o) e = absurd (held_way v h o q e)
 aimed_back v h q y (Away g o c) e = let i = same_end v h g q o e in (c, ap (λ z. Away z o c) i.0 ∙ ap (λ z. Away h z c) i.1)
-aimed_back v h q y (Gone t) e = absurd (nowhere_way v h q e)
-aimed_back v h q other Near e = absurd (nowhere_way v h q e)
+aimed_back v h q y another e = absurd (nowhere_way v h q e)
 
 -- who hosts what is away is another
 module _ (script : Script) (b : ℕ) (s : Vat Name) (own : s.number ≡ b) where
@@ -78,11 +77,7 @@ module _ (script : Script) (b : ℕ) (s : Vat Name) (own : s.number ≡ b) where
   spot_other : (m : Name) → IsOther (refs.spotted N s m (N.spot m))
   unfolding names naming spot_of
   spot_other (Object h i) = object_other (Object h i) h i (b == h) refl
-  spot_other (Root h) = none_other (Root h)
-  spot_other (Promise h i) = none_other (Promise h i)
-  spot_other (Answer h m) = none_other (Answer h m)
-  spot_other (Gift h i) = none_other (Gift h i)
-  spot_other (Sent m) = none_other (Sent m)
+  spot_other other = none_other other
 
   place_other : (y : Value Name) → IsOther (refs.place N s y)
   unfolding refs.place
@@ -96,11 +91,10 @@ module _ (script : Script) (b : ℕ) (s : Vat Name) (own : s.number ≡ b) where
 
 alike_then : (n : Name) (a b c : Option (Known Name)) → StandsAlike n a b → StandsAlike n b c → StandsAlike n a c
 alike_then n None None None g h = tt
-alike_then n None None (Some k) g h = absurd h
 alike_then n None (Some j) c g h = absurd g
 alike_then n (Some i) None c g h = absurd g
-alike_then n (Some i) (Some j) None g h = absurd h
 alike_then n (Some i) (Some j) (Some k) g h = (h.0 ∙ g.0, h.1 ∙ g.1, λ x q. h.2 x (g.2 x q))
+alike_then n other another further g h = absurd h
 
 pub refers_then : (K : Naming Name Name) (s t u : Vat Name) → RefersAlike K s t → RefersAlike K t u → RefersAlike K s u
 refers_then K s t u g h = record {

@@ -1,7 +1,7 @@
 -- A message is carried, and order is kept: the arrival of its note in a world.
 use Rattle.std.proofs.Common.{◌≡◌, ℕ, suc, ◌≤◌, Bool, true, false, List, [], ◌∷◌, ◌++◌, Option, Some, None, refl, sym, ap, subst, ◌∙◌, ◌⊎◌, inl, inr, if◌then◌else◌}
 use Rattle.std.specs.Prelude.{slice_get}
-use Rattle.def_machine.specs.Values.{Words, Value, Ref, Name, Root, Object, Promise, Answer, Gift, Sent, Msg, Naming, host_of, naming, name_of, answer_of, same_name, same_reference}
+use Rattle.def_machine.specs.Values.{Words, Value, Ref, Name, Root, Object, Answer, Sent, Msg, Naming, host_of, naming, name_of, answer_of, same_name, same_reference}
 use Rattle.def_machine.specs.State.{Message, Known, ToTell, Passeds, Delivery, Deliver, Vat, Done, Gives, Act, ◌>>=◌, ◌>>◌, and_then, look, alter, come, begun}
 use Rattle.def_machine.specs.State as state
 use Rattle.def_machine.specs.Refs as refs
@@ -66,11 +66,8 @@ module _ (script : Script) (v : ℕ) where
   pub learnt_in : (t : Vat Name) (ns : List Name) (n : Name) → ((m : Msg) → n ≡ Sent m → ⊥) → names_in t.known ≡ world.known_after ns n → IsLearnt v script t n
   unfolding world.known_after world.is_old
   learnt_in t ns (Object h i) f e = inl tt
-  learnt_in t ns (Root h) f e = learnt_by t ns (Root h) tt e
-  learnt_in t ns (Promise h i) f e = learnt_by t ns (Promise h i) tt e
-  learnt_in t ns (Answer h m) f e = learnt_by t ns (Answer h m) tt e
-  learnt_in t ns (Gift h i) f e = learnt_by t ns (Gift h i) tt e
   learnt_in t ns (Sent m) f e = absurd (f m refl)
+  learnt_in t ns other f e = learnt_by t ns other tt e
 
 -- ---- the arrival
 

@@ -37,14 +37,13 @@ get_at : (vs : List (Vat Name)) (v : ℕ) (s t : Vat Name) (u : ℕ) → slice_g
 unfolding world.put_at
 get_at [] v s t u e = cc
 get_at (x ∷ vs) zero s t zero e = inl (refl, e, refl)
-get_at (x ∷ vs) zero s t (suc u) e = inr refl
-get_at (x ∷ vs) (suc v) s t zero e = inr refl
 get_at (x ∷ vs) (suc v) s t (suc u) e = go (get_at vs v s t u e)
   where
     go : ((u ≡ v) × (slice_get vs u ≡ Some s) × (slice_get (world.put_at v t vs) u ≡ Some t)) ⊎ (slice_get (world.put_at v t vs) u ≡ slice_get vs u)
         → ((suc u ≡ suc v) × (slice_get (x ∷ vs) (suc u) ≡ Some s) × (slice_get (world.put_at (suc v) t (x ∷ vs)) (suc u) ≡ Some t)) ⊎ (slice_get (world.put_at (suc v) t (x ∷ vs)) (suc u) ≡ slice_get (x ∷ vs) (suc u))
     go (inl h) = inl (ap suc h.0, h.1, h.2)
     go (inr h) = inr h
+get_at (x ∷ vs) other s t another e = inr refl
 
 among_left : {A : Type 0} (x : A) (xs ys : List A) → IsAmong x xs → IsAmong x (xs ++ ys)
 among_left x [] ys h = absurd h

@@ -2,7 +2,7 @@
 use Rattle.std.proofs.Common.{◌≡◌, ℕ, true, false, refl, ap, arith}
 use Rattle.std.specs.Prelude.{◌==◌}
 use Rattle.def_machine.specs.Values.{Name, Naming}
-use Rattle.def_machine.specs.State.{Note, Deliver, Open, Ask, SettledTo, Elsewhere, Shorten, Vat, Done, Gives, Act, ◌>>=◌, and_then, give, look, send_out}
+use Rattle.def_machine.specs.State.{Note, Open, Shorten, Vat, Done, Gives, Act, ◌>>=◌, and_then, give, look, send_out}
 use Rattle.def_machine.specs.Refs.{Place, Away}
 use Rattle.def_machine.specs.Arrive as arrive
 use Rattle.def_machine.specs.Arrive.{Incoming}
@@ -50,9 +50,5 @@ module _ (i : ℕ) (K : Naming Name Name) where
 
   pub pays_arrive : (from : ℕ) (n : Note (Incoming Name Name)) (s : Vat Name) → After (Pays i (once (asks_to_open i n))) s (arrive.arrive K from n s)
   unfolding arrive.arrive asks_to_open
-  pays_arrive from (Deliver d z verb ys) s = extra_less (once false) s _ ((walked_arrive K R Anyone (pays_walked i K) from (Deliver d z verb ys) tt).after s)
-  pays_arrive from (Open j z) s = extra_less (once false) s _ ((walked_arrive K R Anyone (pays_walked i K) from (Open j z) tt).after s)
-  pays_arrive from (Ask p j z) s = extra_less (once false) s _ ((walked_arrive K R Anyone (pays_walked i K) from (Ask p j z) tt).after s)
-  pays_arrive from (SettledTo z y) s = extra_less (once false) s _ ((walked_arrive K R Anyone (pays_walked i K) from (SettledTo z y) tt).after s)
-  pays_arrive from (Elsewhere z c) s = extra_less (once false) s _ ((walked_arrive K R Anyone (pays_walked i K) from (Elsewhere z c) tt).after s)
   pays_arrive from (Shorten z c j) s = arrive_shorten_extra z j s
+  pays_arrive from other s = extra_less (once false) s _ ((walked_arrive K R Anyone (pays_walked i K) from other tt).after s)

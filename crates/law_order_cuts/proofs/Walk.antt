@@ -1,7 +1,7 @@
 -- What a vat does keeps what single changes and blocks keep, where a note that lets a gift go is put with a draw, and where a vat is told of a name that it may be told of.
 use Rattle.std.proofs.Common.{◌≡◌, ℕ, suc, List, [], ◌∷◌, ◌++◌, Some, refl, length}
 use Rattle.def_machine.specs.Values.{Words, Value, Name, Naming, Coming, Mailing, IsOwn, under}
-use Rattle.def_machine.specs.State.{Binding, Message, Standing, Settled, Known, Change, ToTell, Settle, Settles, Passed, Passeds, AGift, Delivery, Note, Deliver, Open, Ask, SettledTo, Elsewhere, Shorten, Vat, Done, Gives, Act, ◌>>=◌, ◌>>◌, and_then, give, look, tell, each, enqueue, send_out, new_gift, open_gift, mark, alter, with_change, come, mail, new_message, new_lone_message, draw, begun}
+use Rattle.def_machine.specs.State.{Binding, Message, Standing, Settled, Known, Change, ToTell, Settle, Settles, Passed, Passeds, AGift, Delivery, Note, Deliver, Open, Ask, Shorten, Vat, Done, Gives, Act, ◌>>=◌, ◌>>◌, and_then, give, look, tell, each, enqueue, send_out, new_gift, open_gift, mark, alter, with_change, come, mail, new_message, new_lone_message, draw, begun}
 use Rattle.def_machine.specs.Refs as refs
 use Rattle.def_machine.specs.Arrive as arrive
 use Rattle.def_machine.specs.Arrive.{Incoming}
@@ -133,12 +133,9 @@ module _ (K : Naming Name Name) (R : Vat Name → Vat Name → Type 0) (May : Na
 
   pub walked_arrive : (from : ℕ) (n : Note (Incoming Name Name)) → AsksNoProvider n → Keeps R (arrive.arrive K from n)
   unfolding arrive.arrive
-  walked_arrive from (Deliver d z verb ys) h = whole_arrive K R whole from (Deliver d z verb ys) tt
-  walked_arrive from (Open j z) h = whole_arrive K R whole from (Open j z) tt
   walked_arrive from (Ask p j z) h = arriving_ask from p j
-  walked_arrive from (SettledTo z y) h = whole_arrive K R whole from (SettledTo z y) tt
-  walked_arrive from (Elsewhere z c) h = whole_arrive K R whole from (Elsewhere z c) tt
   walked_arrive from (Shorten z c j) h = absurd h
+  walked_arrive from other h = whole_arrive K R whole from other tt
 
   -- ---- what is noticed
 

@@ -2,7 +2,7 @@
 use Rattle.std.proofs.Common.{◌≡◌, ℕ, suc, Bool, true, false, List, [], ◌∷◌, ◌++◌, Option, Some, None, length, refl, sym, ap, subst, ◌∙◌, ◌⊎◌, inl, inr, codes, eqb-true, eq-eqb}
 use Rattle.std.proofs.lemmas.List.{append-nil}
 use Rattle.std.specs.Prelude.{slice_get, not, ◌==◌, ◌&&◌}
-use Rattle.def_machine.specs.Values.{Value, Null, Flag, Number, Letter, Text, Prim, Broken, Items, Ref, Name, Root, Object, Promise, Answer, Gift, Sent, Naming, Spot, Own, Foreign, NoObject, host_of}
+use Rattle.def_machine.specs.Values.{Value, Broken, Ref, Name, Object, Gift, Naming, Spot, Own, Foreign, NoObject, host_of}
 use Rattle.def_machine.specs.State.{Standing, Unsettled, WaitsOn, Viewed, Settled, Known, Note, GiftEntry, Vat, is_in}
 use Rattle.def_machine.specs.Refs as refs
 use Rattle.def_machine.specs.Refs.{Near, Mine, Away, Gone}
@@ -165,7 +165,7 @@ module _ (script : Script) (honest : ℕ → Bool) (v u : ℕ) (s : Vat Name) (o
   same_bool true = refl
   same_bool false = refl
 
-  marked_in : (h : ℕ) (xs : List ℕ) → is_in h (xs ++ u ∷ []) ≡ Either (is_in h xs) (h == u)
+  pub marked_in : (h : ℕ) (xs : List ℕ) → is_in h (xs ++ u ∷ []) ≡ Either (is_in h xs) (h == u)
   unfolding is_in
   marked_in h [] = same_bool (h == u)
   marked_in h (x ∷ xs) = go (h == x) (marked_in h xs)
@@ -269,28 +269,13 @@ module _ (script : Script) (honest : ℕ → Bool) (v u : ℕ) (s : Vat Name) (o
   name_marks : (n : Name) (o : Option (Known Name)) → of_name script honest v T n o ≡ G (of_name script honest v s n o)
   unfolding of_name
   name_marks (Object h i) o = follows_marks (Ref (Object h i))
-  name_marks (Root h) None = host_marks (Root h) (host_of (Root h))
-  name_marks (Promise h i) None = host_marks (Promise h i) (host_of (Promise h i))
-  name_marks (Answer h m) None = host_marks (Answer h m) (host_of (Answer h m))
-  name_marks (Gift h i) None = host_marks (Gift h i) (host_of (Gift h i))
-  name_marks (Sent m) None = host_marks (Sent m) (host_of (Sent m))
-  name_marks (Root h) (Some k) = follows_marks (Ref (Root h))
-  name_marks (Promise h i) (Some k) = follows_marks (Ref (Promise h i))
-  name_marks (Answer h m) (Some k) = follows_marks (Ref (Answer h m))
-  name_marks (Gift h i) (Some k) = follows_marks (Ref (Gift h i))
-  name_marks (Sent m) (Some k) = follows_marks (Ref (Sent m))
+  name_marks other None = host_marks other (host_of other)
+  name_marks other (Some k) = follows_marks (Ref other)
 
   pub leads_marks : (x : Value Name) → leads_in script honest v T x ≡ G (leads_in script honest v s x)
   unfolding leads_in
   leads_marks (Ref n) = name_marks n (refs.entry_of K s.known n)
-  leads_marks Null = follows_marks Null
-  leads_marks (Flag b) = follows_marks (Flag b)
-  leads_marks (Number z) = follows_marks (Number z)
-  leads_marks (Letter c) = follows_marks (Letter c)
-  leads_marks (Text w) = follows_marks (Text w)
-  leads_marks (Prim k) = follows_marks (Prim k)
-  leads_marks (Broken w) = follows_marks (Broken w)
-  leads_marks (Items k) = follows_marks (Items k)
+  leads_marks other = follows_marks other
 
 -- ---- the other vats
 
@@ -303,8 +288,7 @@ module _ (script : Script) (honest : ℕ → Bool) (v u z : ℕ) (r : Vat Name) 
   aimed_stays (Ref n) Near = at_queue v u z n
   aimed_stays y (Mine n) = at_held v u z n n
   aimed_stays y (Away h n o) = from_other v u z h n far
-  aimed_stays y (Gone p) = at_nowhere v u
-  aimed_stays other Near = at_nowhere v u
+  aimed_stays y another = at_nowhere v u
 
   follow_stays : (x : Value Name) → Stays (by_follow script honest z r x)
   unfolding by_follow
@@ -322,28 +306,13 @@ module _ (script : Script) (honest : ℕ → Bool) (v u z : ℕ) (r : Vat Name) 
   name_stays : (n : Name) (o : Option (Known Name)) → Stays (of_name script honest z r n o)
   unfolding of_name
   name_stays (Object h i) o = follow_stays (Ref (Object h i))
-  name_stays (Root h) None = host_stays (Root h) (host_of (Root h))
-  name_stays (Promise h i) None = host_stays (Promise h i) (host_of (Promise h i))
-  name_stays (Answer h m) None = host_stays (Answer h m) (host_of (Answer h m))
-  name_stays (Gift h i) None = host_stays (Gift h i) (host_of (Gift h i))
-  name_stays (Sent m) None = host_stays (Sent m) (host_of (Sent m))
-  name_stays (Root h) (Some k) = follow_stays (Ref (Root h))
-  name_stays (Promise h i) (Some k) = follow_stays (Ref (Promise h i))
-  name_stays (Answer h m) (Some k) = follow_stays (Ref (Answer h m))
-  name_stays (Gift h i) (Some k) = follow_stays (Ref (Gift h i))
-  name_stays (Sent m) (Some k) = follow_stays (Ref (Sent m))
+  name_stays other None = host_stays other (host_of other)
+  name_stays other (Some k) = follow_stays (Ref other)
 
   pub leads_stay : (x : Value Name) → Stays (leads_in script honest z r x)
   unfolding leads_in
   leads_stay (Ref n) = name_stays n (refs.entry_of (names script z) r.known n)
-  leads_stay Null = follow_stays Null
-  leads_stay (Flag b) = follow_stays (Flag b)
-  leads_stay (Number i) = follow_stays (Number i)
-  leads_stay (Letter c) = follow_stays (Letter c)
-  leads_stay (Text w) = follow_stays (Text w)
-  leads_stay (Prim k) = follow_stays (Prim k)
-  leads_stay (Broken w) = follow_stays (Broken w)
-  leads_stay (Items k) = follow_stays (Items k)
+  leads_stay other = follow_stays other
 
 -- ---- the ways
 

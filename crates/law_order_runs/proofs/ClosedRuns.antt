@@ -2,7 +2,7 @@
 use Rattle.std.proofs.Common.{◌≡◌, ℕ, ◌<◌, Bool, true, false, [], Option, Some, None, length, refl, sym, ap, subst, ◌∙◌, ◌⊎◌, inl, inr, ◌==◌, append-nil}
 use Rattle.std.specs.Prelude.{slice_get}
 use Rattle.std.proofs.lemmas.Bool.{eq-eqb}
-use Rattle.def_machine.specs.Values.{Value, Ref, Words, Name, Root, Object, Promise, Answer, Gift, Sent, Own, Foreign, NoObject, naming, host_of, spot_of}
+use Rattle.def_machine.specs.Values.{Value, Ref, Words, Name, Object, Own, Foreign, NoObject, naming, host_of, spot_of}
 use Rattle.def_machine.specs.State.{Passeds, Delivery, Deliver, Known, Vat, is_in}
 use Rattle.def_machine.specs.Refs as refs
 use Rattle.def_machine.specs.Refs.{Near, Mine, Away, entry_of, follow, place}
@@ -88,11 +88,7 @@ module _ (script : Script) (v : ℕ) (s : Vat Name) (own : s.number ≡ v) (host
   spot_other : (n : Name) → IsOfVat script n → PlaceIs (refs.spotted (names script v) s n (spot_of v n))
   unfolding spot_of host_of
   spot_other (Object u i) l = foreign_other u i (v == u) refl l
-  spot_other (Root u) l = eventual_other (Root u) l
-  spot_other (Promise u i) l = eventual_other (Promise u i) l
-  spot_other (Answer h m) l = eventual_other (Answer h m) l
-  spot_other (Gift h i) l = eventual_other (Gift h i) l
-  spot_other (Sent m) l = eventual_other (Sent m) l
+  spot_other other l = eventual_other other l
 
   value_other : (y : Value Name) → ValueOk (IsInside (length script.vats)) y → PlaceIs (place (names script v) s y)
   unfolding place names naming
@@ -117,23 +113,14 @@ module _ (script : Script) (v : ℕ) (s : Vat Name) (own : s.number ≡ v) (host
         aimed_other y (place (names script v) s y) (value_other y (follow_ok (names script v) (IsInside (length script.vats)) s known (Ref n) l)) h q e
 
     host_other : (n : Name) (g : ℕ) (b c : Bool) → (v == g) ≡ c → g < length script.vats → (h : ℕ) (q : Name) → LeadsTo (elim b [ true ↦ Nowhere | false ↦ elim c [ true ↦ End (Held v n) n | false ↦ End (Way v g) n ] ]) h q → IsOther h
-    host_other n g true c f l h q e = cc
-    host_other n g false true f l h q e = cc
     host_other n g false false f l h q e = let same : g ≡ h = cc in subst IsOther same ((λ i. false_true (sym f ∙ eq-eqb v g i)), l)
+    host_other n g other another f l h q e = cc
 
     name_other : (n : Name) (o : Option (Known Name)) → IsOfVat script n → (h : ℕ) (q : Name) → LeadsTo (of_name script honest v s n o) h q → IsOther h
     unfolding of_name by_host
     name_other (Object u i) o l h q e = followed_other (Object u i) l h q e
-    name_other (Root u) (Some k) l h q e = followed_other (Root u) l h q e
-    name_other (Promise u i) (Some k) l h q e = followed_other (Promise u i) l h q e
-    name_other (Answer u m) (Some k) l h q e = followed_other (Answer u m) l h q e
-    name_other (Gift u i) (Some k) l h q e = followed_other (Gift u i) l h q e
-    name_other (Sent m) (Some k) l h q e = followed_other (Sent m) l h q e
-    name_other (Root u) None l h q e = host_other (Root u) (host_of (Root u)) (is_in (host_of (Root u)) s.noticed) (v == host_of (Root u)) refl l h q e
-    name_other (Promise u i) None l h q e = host_other (Promise u i) (host_of (Promise u i)) (is_in (host_of (Promise u i)) s.noticed) (v == host_of (Promise u i)) refl l h q e
-    name_other (Answer u m) None l h q e = host_other (Answer u m) (host_of (Answer u m)) (is_in (host_of (Answer u m)) s.noticed) (v == host_of (Answer u m)) refl l h q e
-    name_other (Gift u i) None l h q e = host_other (Gift u i) (host_of (Gift u i)) (is_in (host_of (Gift u i)) s.noticed) (v == host_of (Gift u i)) refl l h q e
-    name_other (Sent m) None l h q e = host_other (Sent m) (host_of (Sent m)) (is_in (host_of (Sent m)) s.noticed) (v == host_of (Sent m)) refl l h q e
+    name_other other (Some k) l h q e = followed_other other l h q e
+    name_other other None l h q e = host_other other (host_of other) (is_in (host_of other) s.noticed) (v == host_of other) refl l h q e
 
 -- ---- in a world
 

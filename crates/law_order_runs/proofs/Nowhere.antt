@@ -109,9 +109,8 @@ module _ (m : Name) where
       goes_at v n None = tt
 
       brings : (b : ℕ) (n : Name) (l : Link) (x y : Bool) → LacksAt m (elim x [ true ↦ elim y [ true ↦ Nowhere | false ↦ leads script honest w.vats w.links b (Ref n) ] | false ↦ Free ])
-      brings b n l true true = tt
       brings b n l true false = leads_lack m script honest w b (Ref n)
-      brings b n l false y = tt
+      brings b n l other another = tt
 
       brings_at : (b : ℕ) (n : Name) (o : Option Link) → LacksAt m (elim o [ Some l ↦ over script honest w.vats w.links b n l | None ↦ Nowhere ])
       unfolding over

@@ -1,7 +1,7 @@
 -- What a vat hosts: its names end with it, its unopened gifts are shut, and the next answers of what it holds are new.
 use Rattle.std.proofs.Common.{◌≡◌, ℕ, zero, suc, ◌+◌, ◌≤◌, Bool, true, false, List, [], ◌∷◌, Option, Some, None, length, refl, sym, ap, subst, ◌∙◌, ◌⊎◌, inl, inr, arith}
 use Rattle.std.specs.Prelude.{slice_get, ◌&&◌}
-use Rattle.def_machine.specs.Values.{Value, Null, Flag, Number, Letter, Text, Prim, Broken, Items, Ref, Name, Answer, Gift, Sent, Msg, Naming, host_of, same_name, word_of}
+use Rattle.def_machine.specs.Values.{Value, Ref, Name, Answer, Gift, Sent, Msg, Naming, host_of, same_name, word_of}
 use Rattle.def_machine.specs.State.{Message, Standing, Unsettled, Viewed, Settled, Known, GiftEntry, Vat, WhereSome, is_gift}
 use Rattle.def_machine.specs.Refs as refs
 use Rattle.def_machine.specs.Refs.{entry_of, standing_of, standing_in, follow_at}
@@ -47,14 +47,7 @@ module _ (script : Script) (v : ℕ) where
 
   settled_end : (d : ℕ) (ks : List (Known Name)) (y : Value Name) → NoPromise y → NoObjects ks → IsOwnEnd v (follow_at K d ks y)
   settled_end d ks (Ref o) h f = let plain : IsObject o = named_object script v o h in subst (IsOwnEnd v) (sym (object_self script v d ks o (f o plain))) (inl plain)
-  settled_end d ks Null h f = subst (IsOwnEnd v) (sym (data_self script v d ks Null tt)) tt
-  settled_end d ks (Flag b) h f = subst (IsOwnEnd v) (sym (data_self script v d ks (Flag b) tt)) tt
-  settled_end d ks (Number z) h f = subst (IsOwnEnd v) (sym (data_self script v d ks (Number z) tt)) tt
-  settled_end d ks (Letter c) h f = subst (IsOwnEnd v) (sym (data_self script v d ks (Letter c) tt)) tt
-  settled_end d ks (Text t) h f = subst (IsOwnEnd v) (sym (data_self script v d ks (Text t) tt)) tt
-  settled_end d ks (Prim i) h f = subst (IsOwnEnd v) (sym (data_self script v d ks (Prim i) tt)) tt
-  settled_end d ks (Broken t) h f = subst (IsOwnEnd v) (sym (data_self script v d ks (Broken t) tt)) tt
-  settled_end d ks (Items i) h f = subst (IsOwnEnd v) (sym (data_self script v d ks (Items i) tt)) tt
+  settled_end d ks other h f = subst (IsOwnEnd v) (sym (data_self script v d ks other tt)) tt
 
   standing_end : (ks : List (Known Name)) (n : Name) (t : Standing Name) → SettledWell t → ViewsAnother v n t → host_of n ≡ v → NoObjects ks → IsOwnEnd v (refs.led K (λ y. follow_at K (length ks) ks y) n t)
   unfolding refs.led

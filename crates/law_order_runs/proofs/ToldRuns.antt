@@ -2,7 +2,7 @@
 use Rattle.std.proofs.Common.{◌≡◌, ℕ, zero, suc, Bool, true, false, List, [], ◌∷◌, ◌++◌, Option, Some, None, refl, sym, ap, subst, ◌∙◌, ◌⊎◌, inl, inr}
 use Rattle.std.specs.Prelude.{slice_get, ◌==◌}
 use Rattle.def_machine.specs.Values.{Value, Ref, Name, Object, Own, Foreign, NoObject, naming, spot_of, host_of}
-use Rattle.def_machine.specs.State.{Settled, Known, Note, Deliver, Open, Ask, SettledTo, Elsewhere, Shorten, Put, Vat, Done, Gives}
+use Rattle.def_machine.specs.State.{Settled, Known, Note, Open, SettledTo, Elsewhere, Shorten, Put, Vat, Done, Gives}
 use Rattle.def_machine.specs.Refs.{Place, Away, entry_of, standing_of, standing_in}
 use Rattle.def_machine.specs.Arrive as arrive
 use Rattle.def_machine.specs.Arrive.{Incoming}
@@ -43,13 +43,12 @@ get_or : (v : ℕ) (t : Vat Name) (xs : List (Vat Name)) (u : ℕ) (q : Vat Name
 unfolding world.put_at
 get_or v t [] u q e = cc
 get_or zero t (x ∷ xs) zero q e = inr (refl, refl)
-get_or zero t (x ∷ xs) (suc u) q e = inl e
-get_or (suc v) t (x ∷ xs) zero q e = inl e
 get_or (suc v) t (x ∷ xs) (suc u) q e = go (get_or v t xs u q e)
   where
     go : (slice_get (world.put_at v t xs) u ≡ Some q) ⊎ ((u ≡ v) × (slice_get (world.put_at v t xs) u ≡ Some t)) → (slice_get (world.put_at v t xs) u ≡ Some q) ⊎ ((suc u ≡ suc v) × (slice_get (world.put_at v t xs) u ≡ Some t))
     go (inl i) = inl i
     go (inr i) = inr (ap suc i.0, i.1)
+get_or other t (x ∷ xs) another q e = inl e
 
 module _ (script : Script) where
   -- the note of vat u tells truly
@@ -124,12 +123,8 @@ module _ (script : Script) where
 
   arriving : (v from : ℕ) (n : Note (Incoming Name Name)) → Keeps (R v) (arrive.arrive (names script v) from n)
   unfolding arrive.arrive arrive.arrive_shorten
-  arriving v from (Deliver d z verb ys) = walked_arrive (names script v) (R v) (HasSettled script v) (tells_walked script v) from (Deliver d z verb ys) tt
-  arriving v from (Open j z) = walked_arrive (names script v) (R v) (HasSettled script v) (tells_walked script v) from (Open j z) tt
-  arriving v from (Ask p j z) = walked_arrive (names script v) (R v) (HasSettled script v) (tells_walked script v) from (Ask p j z) tt
-  arriving v from (SettledTo z y) = walked_arrive (names script v) (R v) (HasSettled script v) (tells_walked script v) from (SettledTo z y) tt
-  arriving v from (Elsewhere z c) = walked_arrive (names script v) (R v) (HasSettled script v) (tells_walked script v) from (Elsewhere z c) tt
   arriving v from (Shorten z c j) = arriving_shorten v j z
+  arriving v from other = walked_arrive (names script v) (R v) (HasSettled script v) (tells_walked script v) from other tt
 
   pub steps_tell : (v : ℕ) (what : Step Name Name) (s : Vat Name) → After (R v) s (does (names script v) what s)
   unfolding does

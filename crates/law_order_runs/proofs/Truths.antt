@@ -1,8 +1,9 @@
 -- Notes tell truly where names settled: what a vat puts, and what is under way.
 use Rattle.std.proofs.Common.{◌≡◌, ℕ, zero, suc, Bool, true, false, List, [], ◌∷◌, ◌++◌, Option, Some, None, length, refl, sym, ap, subst, ◌∙◌, if◌then◌else◌}
-use Rattle.std.specs.Prelude.{◌==◌, codes}
-use Rattle.def_machine.specs.Values.{Words, Value, Null, Flag, Number, Letter, Text, Prim, Broken, Items, Ref, Name, Naming, Spot, Own, Foreign, NoObject, Coming, Mailing, under}
-use Rattle.def_machine.specs.State.{Message, Standing, Settled, Known, Change, Settle, ToTell, Passed, AGift, Note, Deliver, Open, Ask, SettledTo, Elsewhere, Shorten, Put, Vat, Done, Gives, Act, ◌>>=◌, ◌>>◌, and_then, give, look, enqueue, send_out, new_gift, open_gift, mark, alter, with_change, changed, changed_to, unless_settled, come, mail, new_message, new_lone_message, draw, draws, is_in}
+use Rattle.std.specs.Prelude.{◌==◌, ◌-◌, nat_le, codes}
+use Rattle.def_machine.specs.Values.{Words, Value, Broken, Items, Ref, Name, Object, Naming, Spot, Own, Foreign, NoObject, Coming, Mailing, naming, spot_of, under}
+use Rattle.def_machine.specs.State.{Message, Standing, Settled, Known, Change, Settle, ToTell, Passed, Passeds, Plain, AGift, Many, Note, Deliver, Open, Ask, SettledTo, Elsewhere, Shorten, Put, Vat, Done, Gives, Act, ◌>>=◌, ◌>>◌, and_then, give, look, enqueue, send_out, new_gift, open_gift, mark, alter, with_change, changed, changed_to, unless_settled, come, mail, new_message, new_lone_message, draw, draws, is_in, spend, spent}
+use Rattle.def_machine.specs.Native.{list_at}
 use Rattle.def_machine.specs.Refs as refs
 use Rattle.def_machine.specs.Refs.{Place, Near, Mine, Away, Gone, entry_of, standing_of, standing_in, follow_at}
 use Rattle.def_run.specs.World.{Script, names}
@@ -12,7 +13,8 @@ use Rattle.law_machine.proofs.StepLaws.{settled_names, settled_entry, standing_f
 use Rattle.law_name.specs.Names.{AllOf}
 use Rattle.law_name.proofs.Facts.{all_end}
 use Rattle.law_reference.proofs.Entries.{changed_at}
-use Rattle.law_order.specs.Settle.{IsEnded}
+use Rattle.law_order.specs.Settle.{IsEnded, IsOwnSpot}
+use Rattle.law_order.specs.Worlds.{IsObject}
 use Rattle.law_order.proofs.Moves.{Keeps, IsKept, keeps_bind, keeps_then, keeps_give}
 use Rattle.law_order.proofs.Passings.{keeps_pass}
 use Rattle.law_order.proofs.Entries.{Differs, as_it_was, changes, differs}
@@ -28,9 +30,14 @@ module _ (script : Script) (v : ℕ) where
   abbrev pub IsElsewhere : List (Known Name) → ℕ → Value Name → Type 0
   IsElsewhere ks c z = IsEnded z → ((o : Name) → z ≡ Ref o → entry_of K ks o ≡ None) → (o : Name) × (z ≡ Ref o) × (K.spot o ≡ Foreign c)
 
+  -- And where that is told by its name, it is that object, of the vat itself.
+  abbrev pub IsPassedAs : List (Known Name) → Value Name → Passed Name → Type 0
+  IsPassedAs ks z (Plain (Ref o)) = IsEnded z → ((q : Name) → z ≡ Ref q → entry_of K ks q ≡ None) → (z ≡ Ref o) × IsOwnSpot (K.spot o)
+  IsPassedAs ks z other = Unit {0}
+
   abbrev pub TellsTruly : List (Known Name) → Note Name → Type 0
   TellsTruly ks (Elsewhere n c) = (z : Value Name) × (standing_of K ks n ≡ Settled z) × IsElsewhere ks c z
-  TellsTruly ks (SettledTo n y) = (z : Value Name) × (standing_of K ks n ≡ Settled z)
+  TellsTruly ks (SettledTo n y) = (z : Value Name) × (standing_of K ks n ≡ Settled z) × IsPassedAs ks z y
   TellsTruly ks other = Unit {0}
 
   abbrev pub AllTell : Vat Name → Type 0
@@ -49,9 +56,13 @@ module _ (script : Script) (v : ℕ) where
   unfolding standing_of
   settled_still s t h n z e = let found = settled_entry (entry_of K s.known n) z e in standing_found K t.known n found.0 z (h n found.0 z found.1 found.2) found.2
 
+  passed_still : (s t : Vat Name) → Lasts s t → (z : Value Name) (y : Passed Name) → IsPassedAs s.known z y → IsPassedAs t.known z y
+  passed_still s t h z (Plain (Ref o)) k = λ ended none. k ended (λ q e. h.known q (none q e))
+  passed_still s t h z other k = tt
+
   pub truly_still : (s t : Vat Name) → Lasts s t → (n : Note Name) → TellsTruly s.known n → TellsTruly t.known n
   truly_still s t h (Elsewhere n c) k = (k.0, settled_still s t h.stays n k.0 k.1, λ ended none. k.2 ended (λ o e. h.known o (none o e)))
-  truly_still s t h (SettledTo n y) k = (k.0, settled_still s t h.stays n k.0 k.1)
+  truly_still s t h (SettledTo n y) k = (k.0, settled_still s t h.stays n k.0 k.1, passed_still s t h k.0 y k.2)
   truly_still s t h other k = tt
 
   all_still : (s t : Vat Name) → Lasts s t → (ps : List (Put Name)) → AllOf (λ (p : Put Name). TellsTruly s.known p.note) ps → AllOf (λ (p : Put Name). TellsTruly t.known p.note) ps
@@ -232,14 +243,7 @@ module _ (script : Script) (v : ℕ) where
   leads_away : (s : Vat Name) (p : Name) (h : ℕ) (n : Name) (z : Value Name) → standing_of K s.known p ≡ Settled z → refs.place K s (refs.severed K s (follow_at K (length s.known) s.known z)) ≡ Away h n true → IsElsewhere s.known h z
   unfolding refs.severed
   leads_away s p h n (Ref o) e f ended none = (o, refl, severed_spot s o h n (K.spot o) (sym (ap (λ y. refs.place K s (refs.severed K s y)) (object_self (length s.known) s.known o (none o refl))) ∙ f))
-  leads_away s p h n Null e f ended none = absurd (data_apart s h n Null (length s.known) tt f)
-  leads_away s p h n (Flag b) e f ended none = absurd (data_apart s h n (Flag b) (length s.known) tt f)
-  leads_away s p h n (Number x) e f ended none = absurd (data_apart s h n (Number x) (length s.known) tt f)
-  leads_away s p h n (Letter c) e f ended none = absurd (data_apart s h n (Letter c) (length s.known) tt f)
-  leads_away s p h n (Text t) e f ended none = absurd (data_apart s h n (Text t) (length s.known) tt f)
-  leads_away s p h n (Prim k) e f ended none = absurd (data_apart s h n (Prim k) (length s.known) tt f)
-  leads_away s p h n (Broken t) e f ended none = absurd (data_apart s h n (Broken t) (length s.known) tt f)
-  leads_away s p h n (Items k) e f ended none = absurd (data_apart s h n (Items k) (length s.known) tt f)
+  leads_away s p h n other e f ended none = absurd (data_apart s h n other (length s.known) tt f)
 
   followed_away : (s : Vat Name) (p : Name) (h : ℕ) (n : Name) (z : Value Name) → standing_of K s.known p ≡ Settled z → refs.place K s (refs.follow K s (Ref p)) ≡ Away h n true → IsElsewhere s.known h z
   unfolding refs.follow follow_at refs.led
@@ -248,20 +252,182 @@ module _ (script : Script) (v : ℕ) where
   passing : (w : ℕ) (y : Value Name) → Keeps Tells (refs.pass K w y)
   passing w y = keeps_pass K Tells base (λ h n. tells_alter (ToTell h) n) lets_one w y
 
+  -- ---- what passes for what it settled to
+
+  -- what is given
+  abbrev Gave : (Passed Name → Type 0) → Done Name (Passed Name) → Type 0
+  Gave P (Gives z t) = P z
+  Gave P other = Unit {0}
+
+  -- it is no name
+  abbrev IsNameless : Passed Name → Type 0
+  IsNameless (Plain (Ref o)) = ⊥
+  IsNameless other = Unit {0}
+
+  by_shape : (f : List (Value Name) → Passed Name) (ls : List (List (Value Name))) (y : Value Name) → IsData y → ((vs : List (Value Name)) → IsNameless (f vs)) → IsNameless (refs.shape_by K f ls y)
+  unfolding refs.shape_by
+  by_shape f ls (Ref o) h g = absurd h
+  by_shape f ls (Items k) h g = g (list_at ls k)
+  by_shape f ls other h g = tt
+
+  shape_nameless : (s : Vat Name) (d : ℕ) (x : Value Name) → IsData (refs.follow K s x) → IsNameless (refs.shape K d s x)
+  unfolding refs.shape
+  shape_nameless s zero x h = by_shape (λ vs. Plain (Broken (codes "too heavy"))) s.lists (refs.follow K s x) h (λ vs. tt)
+  shape_nameless s (suc d) x h = by_shape (λ vs. Many (refs.shapes K (λ v. refs.shape K d s v) vs)) s.lists (refs.follow K s x) h (λ vs. tt)
+
+  data_followed : (s : Vat Name) (y : Value Name) → IsData y → refs.follow K s y ≡ y
+  unfolding refs.follow refs.severed
+  data_followed s (Ref o) h = absurd h
+  data_followed s other h = ap (λ z. refs.severed K s z) (data_self (suc (length s.known)) s.known other tt)
+
+  list_nameless : (s : Vat Name) (k : ℕ) (o : Option ℕ) → IsNameless (refs.parcel_of_list K s (Items k) o).value
+  unfolding refs.parcel_of_list refs.too_heavy
+  list_nameless s k (Some left) = shape_nameless s refs.highest (Items k) (subst IsData (sym (data_followed s (Items k) tt)) tt)
+  list_nameless s k None = tt
+
+  parcel_nameless : (s : Vat Name) (y : Value Name) → IsData y → IsNameless (refs.parcel_at K s y).value
+  unfolding refs.parcel_at
+  parcel_nameless s (Ref o) h = absurd h
+  parcel_nameless s (Items k) h = list_nameless s k (refs.room_after (refs.follow K s) s.lists refs.highest (Items k) refs.most)
+  parcel_nameless s other h = tt
+
+  many_nameless : (d : Done Name (Passeds Name)) → Gave IsNameless (and_then d (λ zs. give (Many zs)))
+  unfolding and_then give
+  many_nameless (Gives zs t) = tt
+  many_nameless other = tt
+
+  address_nameless : (w : ℕ) (v : Passed Name) (s : Vat Name) → IsNameless v → Gave IsNameless (refs.address K w v s)
+  unfolding refs.address refs.address_plain refs.place ◌>>=◌ and_then look give
+  address_nameless w (Plain (Ref o)) s h = absurd h
+  address_nameless w (Many ys) s h = many_nameless (refs.address_all K w ys s)
+  address_nameless w other s h = tt
+
+  spent_nameless : (w n : ℕ) (c : Bool) (v : Passed Name) (s : Vat Name) → IsNameless v → Gave IsNameless (and_then (spent n c s) (λ u. refs.address K w v))
+  unfolding spent and_then
+  spent_nameless w n true v s h = address_nameless w v (record s { fuel = s.fuel - n }) h
+  spent_nameless w n false v s h = tt
+
+  parcel_given : (w : ℕ) (b : refs.Parcel Name) (s : Vat Name) → IsNameless b.value → Gave IsNameless (and_then (spend b.weight s) (λ u. refs.address K w b.value))
+  unfolding spend
+  parcel_given w b s h = spent_nameless w b.weight (nat_le b.weight s.fuel) b.value s h
+
+  pass_nameless : (w : ℕ) (y : Value Name) (s : Vat Name) → IsData y → Gave IsNameless (refs.pass K w y s)
+  unfolding refs.pass refs.parcel ◌>>=◌ ◌>>◌ and_then look
+  pass_nameless w y s h = parcel_given w (refs.parcel_at K s (refs.follow K s y)) s (subst (λ z. IsNameless (refs.parcel_at K s z).value) (sym (data_followed s y h)) (parcel_nameless s y h))
+
+  -- an object of the vat passes as itself
+  abbrev IsIt : Name → Passed Name → Type 0
+  IsIt o (Plain (Ref q)) = o ≡ q
+  IsIt o other = Unit {0}
+
+  module _ (o : Name) (own : IsOwnSpot (K.spot o)) where
+    near_by : (s : Vat Name) (q : Spot) → IsOwnSpot q → refs.spotted K s o q ≡ Near
+    unfolding refs.spotted
+    near_by s (Own i) h = refl
+    near_by s other h = absurd h
+
+    whole_by : (s : Vat Name) (q : Spot) → IsOwnSpot q → refs.severed_at K s o q ≡ Ref o
+    unfolding refs.severed_at
+    whole_by s (Own i) h = refl
+    whole_by s other h = absurd h
+
+    object_address : (w : ℕ) (p : Place Name) (s : Vat Name) → p ≡ Near → Gave (IsIt o) (refs.address_plain K w (Ref o) p s)
+    unfolding refs.address_plain give
+    object_address w Near s e = refl
+    object_address w other s e = cc
+
+    object_spent : (w n : ℕ) (c : Bool) (s : Vat Name) → Gave (IsIt o) (and_then (spent n c s) (λ u. refs.address K w (Plain (Ref o))))
+    unfolding spent and_then refs.address ◌>>=◌ look refs.place
+    object_spent w n true s = let t : Vat Name = record s { fuel = s.fuel - n } in object_address w (refs.spotted K t o (K.spot o)) t (near_by t (K.spot o) own)
+    object_spent w n false s = tt
+
+    object_parcel : (w : ℕ) (b : refs.Parcel Name) (s : Vat Name) → b ≡ record { weight = refs.own_weight (Ref o); value = Plain (Ref o) } → Gave (IsIt o) (and_then (spend b.weight s) (λ u. refs.address K w b.value))
+    unfolding spend
+    object_parcel w b s e = subst (λ (c : refs.Parcel Name). Gave (IsIt o) (and_then (spend c.weight s) (λ u. refs.address K w c.value))) (sym e) (object_spent w (refs.own_weight (Ref o)) (nat_le (refs.own_weight (Ref o)) s.fuel) s)
+
+    pass_object : (w : ℕ) (s : Vat Name) → entry_of K s.known o ≡ None → Gave (IsIt o) (refs.pass K w (Ref o) s)
+    unfolding refs.pass refs.parcel refs.parcel_at refs.follow refs.severed ◌>>=◌ ◌>>◌ and_then look
+    pass_object w s none = object_parcel w (refs.parcel_at K s (refs.severed K s (follow_at K (suc (length s.known)) s.known (Ref o)))) s
+        (ap (λ y. refs.parcel_at K s y) (ap (λ y. refs.severed K s y) (object_self (suc (length s.known)) s.known o none) ∙ whole_by s (K.spot o) own))
+
+  -- no object of another vat, which is told elsewhere
+  abbrev IsNotFar : Place Name → Type 0
+  IsNotFar (Away h n true) = ⊥
+  IsNotFar other = Unit {0}
+
+  abbrev IsAs : Value Name → Passed Name → Type 0
+  IsAs z (Plain (Ref o)) = (z ≡ Ref o) × IsOwnSpot (K.spot o)
+  IsAs z other = Unit {0}
+
+  nameless_as : (z : Value Name) (d : Done Name (Passed Name)) → Gave IsNameless d → Gave (IsAs z) d
+  nameless_as z (Gives (Plain (Ref o)) t) h = absurd h
+  nameless_as z (Gives other t) h = tt
+  nameless_as z other h = tt
+
+  it_as : (o : Name) → IsOwnSpot (K.spot o) → (d : Done Name (Passed Name)) → Gave (IsIt o) d → Gave (IsAs (Ref o)) d
+  it_as o own (Gives (Plain (Ref q)) t) h = (ap Ref h, subst (λ z. IsOwnSpot (K.spot z)) h own)
+  it_as o own (Gives other t) h = tt
+  it_as o own other h = tt
+
+  gave_under : (ks : List (Known Name)) (z : Value Name) (d : Done Name (Passed Name)) → (IsEnded z → ((q : Name) → z ≡ Ref q → entry_of K ks q ≡ None) → Gave (IsAs z) d) → Gave (IsPassedAs ks z) d
+  gave_under ks z (Gives (Plain (Ref o)) t) f = f
+  gave_under ks z (Gives other t) f = tt
+  gave_under ks z other f = tt
+
+  object_spot : (o : Name) → IsObject o → K.spot o ≡ NoObject → ⊥
+  unfolding names naming spot_of
+  object_spot (Object w i) h e = go (v == w) e
+    where
+      go : (b : Bool) → elim b [ true ↦ Own i | false ↦ Foreign w ] ≡ NoObject → ⊥
+      go true f = cc
+      go false f = cc
+  object_spot other h e = absurd h
+
+  module _ (w : ℕ) (s : Vat Name) where
+    severed_as : (o : Name) (b : Bool) (h : ℕ) → K.spot o ≡ Foreign h → let y : Value Name = elim b [ true ↦ Broken (codes "partition") | false ↦ Ref o ] in IsNotFar (refs.place K s y) → Gave (IsAs (Ref o)) (refs.pass K w y s)
+    unfolding refs.place refs.spotted
+    severed_as o true h e f = nameless_as (Ref o) (refs.pass K w (Broken (codes "partition")) s) (pass_nameless w (Broken (codes "partition")) s tt)
+    severed_as o false h e f = absurd (subst (λ q. IsNotFar (refs.spotted K s o q)) e f)
+
+    spot_as : (o : Name) (q : Spot) → K.spot o ≡ q → IsObject o → entry_of K s.known o ≡ None → let y = refs.severed_at K s o q in IsNotFar (refs.place K s y) → Gave (IsAs (Ref o)) (refs.pass K w y s)
+    unfolding refs.severed_at refs.severed_by
+    spot_as o (Own i) e h none f = let own : IsOwnSpot (K.spot o) = subst IsOwnSpot (sym e) tt in it_as o own (refs.pass K w (Ref o) s) (pass_object o own w s none)
+    spot_as o (Foreign g) e h none f = severed_as o (is_in g s.noticed) g e f
+    spot_as o NoObject e h none f = absurd (object_spot o h e)
+
+    data_severed : (z : Value Name) → IsData z → refs.severed K s z ≡ z
+    unfolding refs.severed
+    data_severed (Ref o) h = absurd h
+    data_severed other h = refl
+
+    data_as : (z : Value Name) → IsData z → let y = refs.severed K s (follow_at K (length s.known) s.known z) in Gave (IsAs z) (refs.pass K w y s)
+    data_as z h = subst (λ y. Gave (IsAs z) (refs.pass K w y s)) (sym (ap (λ y. refs.severed K s y) (data_self (length s.known) s.known z h) ∙ data_severed z h)) (nameless_as z (refs.pass K w z s) (pass_nameless w z s h))
+
+    value_as : (z : Value Name) → IsEnded z → ((q : Name) → z ≡ Ref q → entry_of K s.known q ≡ None) → let y = refs.severed K s (follow_at K (length s.known) s.known z) in IsNotFar (refs.place K s y) → Gave (IsAs z) (refs.pass K w y s)
+    unfolding refs.severed
+    value_as (Ref o) h none f = subst (λ y. IsNotFar (refs.place K s y) → Gave (IsAs (Ref o)) (refs.pass K w y s)) (sym (ap (λ y. refs.severed K s y) (object_self (length s.known) s.known o (none o refl)))) (spot_as o (K.spot o) refl h (none o refl)) f
+    value_as other h none f = data_as other tt
+
+    passes_as : (p : Name) (has : HasSettled p s) → IsNotFar (refs.place K s (refs.follow K s (Ref p))) → Gave (IsPassedAs s.known has.0) (refs.pass K w (refs.follow K s (Ref p)) s)
+    unfolding refs.follow follow_at refs.led
+    passes_as p has f = gave_under s.known has.0 (refs.pass K w (refs.follow K s (Ref p)) s)
+        (λ ended none. let is = ap (λ t. refs.severed K s (refs.led K (λ y. follow_at K (length s.known) s.known y) p t)) has.1 in
+        subst (λ y. Gave (IsAs has.0) (refs.pass K w y s)) (sym is) (value_as has.0 ended none (subst (λ y. IsNotFar (refs.place K s y)) is f)))
+
   -- what it settled to passes, and then the note is put
-  settled_then : (p : Name) (w : ℕ) (s : Vat Name) → HasSettled p s → (d : Done Name (Passed Name)) → After Tells s d → After Tells s (and_then d (λ z. send_out w (SettledTo p z)))
+  settled_then : (p : Name) (w : ℕ) (s : Vat Name) (has : HasSettled p s) → (d : Done Name (Passed Name)) → Gave (IsPassedAs s.known has.0) d → After Tells s d → After Tells s (and_then d (λ z. send_out w (SettledTo p z)))
   unfolding and_then send_out
-  settled_then p w s has (Gives z t) h = base.trans h (after_out t w (SettledTo p z) (has.0, settled_still s t h.lasts.stays p has.0 has.1))
-  settled_then p w s has other h = h
+  settled_then p w s has (Gives z t) g h = base.trans h (after_out t w (SettledTo p z) (has.0, settled_still s t h.lasts.stays p has.0 has.1, passed_still s t h.lasts has.0 z g))
+  settled_then p w s has other g h = h
 
-  settled_out : (p : Name) (w : ℕ) (y : Value Name) (s : Vat Name) → HasSettled p s → After Tells s ((refs.pass K w y >>= (λ z. send_out w (SettledTo p z))) s)
+  settled_out : (p : Name) (w : ℕ) (s : Vat Name) → IsNotFar (refs.place K s (refs.follow K s (Ref p))) → HasSettled p s → After Tells s ((refs.pass K w (refs.follow K s (Ref p)) >>= (λ z. send_out w (SettledTo p z))) s)
   unfolding ◌>>=◌
-  settled_out p w y s has = settled_then p w s has (refs.pass K w y s) ((passing w y).after s)
+  settled_out p w s f has = settled_then p w s has (refs.pass K w (refs.follow K s (Ref p)) s) (passes_as w s p has f) ((passing w (refs.follow K s (Ref p))).after s)
 
-  informs_of : (p : Name) (w : ℕ) (y : Value Name) (q : Place Name) (s : Vat Name) → refs.place K s (refs.follow K s (Ref p)) ≡ q → HasSettled p s → After Tells s (refs.inform_of K p w y q s)
+  informs_of : (p : Name) (w : ℕ) (q : Place Name) (s : Vat Name) → refs.place K s (refs.follow K s (Ref p)) ≡ q → HasSettled p s → After Tells s (refs.inform_of K p w (refs.follow K s (Ref p)) q s)
   unfolding refs.inform_of send_out
-  informs_of p w y (Away h n true) s e has = after_out s w (Elsewhere p h) (has.0, has.1, followed_away s p h n has.0 has.1 e)
-  informs_of p w y other s e has = settled_out p w y s has
+  informs_of p w (Away h n true) s e has = after_out s w (Elsewhere p h) (has.0, has.1, followed_away s p h n has.0 has.1 e)
+  informs_of p w other s e has = settled_out p w s (subst IsNotFar (sym e) tt) has
 
   informs_if : (b : Bool) (m : Act Name (Unit {0})) (s : Vat Name) → After Tells s (m s) → After Tells s ((if b then give tt else m) s)
   unfolding give
@@ -270,7 +436,7 @@ module _ (script : Script) (v : ℕ) where
 
   tells_inform : (p : Name) (w : ℕ) (s : Vat Name) → HasSettled p s → After Tells s (refs.inform K p w s)
   unfolding refs.inform ◌>>=◌ and_then look
-  tells_inform p w s has = informs_if (is_in w s.noticed) (refs.inform_of K p w (refs.follow K s (Ref p)) (refs.place K s (refs.follow K s (Ref p)))) s (informs_of p w (refs.follow K s (Ref p)) (refs.place K s (refs.follow K s (Ref p))) s refl has)
+  tells_inform p w s has = informs_if (is_in w s.noticed) (refs.inform_of K p w (refs.follow K s (Ref p)) (refs.place K s (refs.follow K s (Ref p)))) s (informs_of p w (refs.place K s (refs.follow K s (Ref p))) s refl has)
 
   unless_so : (x : Standing Name) (k new : Known Name) → ((z : Value Name) → x ≡ Settled z → ⊥) → unless_settled x k new ≡ new
   unfolding unless_settled

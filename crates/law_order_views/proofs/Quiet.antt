@@ -2,7 +2,7 @@
 use Rattle.std.proofs.Common.{◌≡◌, ℕ, Bool, true, false, List, [], Option, Some, None, refl, sym, ap, subst, ◌∙◌, ◌⊎◌, inl, inr, codes}
 use Rattle.std.proofs.lemmas.List.{append-nil}
 use Rattle.std.specs.Prelude.{slice_get, ◌≤◌, ◌==◌}
-use Rattle.def_machine.specs.Values.{Value, Null, Flag, Number, Letter, Text, Prim, Broken, Items, Ref, Name, Root, Object, Promise, Answer, Gift, Sent, Naming, Spot, Own, Foreign, NoObject, host_of, same_name}
+use Rattle.def_machine.specs.Values.{Value, Broken, Ref, Name, Object, Promise, Answer, Naming, Spot, Own, Foreign, NoObject, host_of, same_name}
 use Rattle.def_machine.specs.State.{Known, Vat, is_in}
 use Rattle.def_machine.specs.Refs as refs
 use Rattle.def_machine.specs.Refs.{entry_of, standing_of, standing_in}
@@ -101,11 +101,7 @@ module _ (script : Script) (honest : ℕ → Bool) (v : ℕ) (s t : Vat Name) (p
     of_unknown : (n : Name) → of_name script honest v t n None ≡ of_name script honest v s n None
     unfolding of_name
     of_unknown (Object h i) = follows_on (Ref (Object h i))
-    of_unknown (Root h) = by_host_same (Root h) (host_of (Root h))
-    of_unknown (Promise h i) = by_host_same (Promise h i) (host_of (Promise h i))
-    of_unknown (Answer h m) = by_host_same (Answer h m) (host_of (Answer h m))
-    of_unknown (Gift h i) = by_host_same (Gift h i) (host_of (Gift h i))
-    of_unknown (Sent m) = by_host_same (Sent m) (host_of (Sent m))
+    of_unknown other = by_host_same other (host_of other)
 
     known_on : (n : Name) (j k : Known Name) → entry_of K t.known n ≡ Some j → entry_of K s.known n ≡ Some k → leads_in script honest v t (Ref n) ≡ leads_in script honest v s (Ref n)
     unfolding leads_in
@@ -126,14 +122,7 @@ module _ (script : Script) (honest : ℕ → Bool) (v : ℕ) (s t : Vat Name) (p
     pub leads_on : (x : Value Name) → leads_in script honest v t x ≡ leads_in script honest v s x
     unfolding leads_in
     leads_on (Ref n) = name_on n
-    leads_on Null = follows_on Null
-    leads_on (Flag b) = follows_on (Flag b)
-    leads_on (Number z) = follows_on (Number z)
-    leads_on (Letter c) = follows_on (Letter c)
-    leads_on (Text w) = follows_on (Text w)
-    leads_on (Prim k) = follows_on (Prim k)
-    leads_on (Broken w) = follows_on (Broken w)
-    leads_on (Items k) = follows_on (Items k)
+    leads_on other = follows_on other
 
 -- ---- in the middle of a step
 

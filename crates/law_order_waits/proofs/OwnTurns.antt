@@ -1,7 +1,7 @@
 -- A turn keeps where a name waits that is not owed, as a promise of the vat's own is: what a resolver resolves is known by then, and did neither settle nor wait.
 use Rattle.std.proofs.Common.{◌≡◌, ℕ, ◌+◌, ◌*◌, ◌≤◌, Bool, true, false, List, [], ◌∷◌, ◌++◌, Option, Some, None, refl, sym, ap, subst, ◌∙◌, ◌⊎◌, inl, inr, arith}
 use Rattle.std.specs.Prelude.{slice_get}
-use Rattle.def_machine.specs.Values.{Value, Broken, Name, Root, Object, Promise, Answer, Gift, Sent, Naming, naming, same_name}
+use Rattle.def_machine.specs.Values.{Value, Broken, Name, Root, Promise, Naming, naming, same_name}
 use Rattle.def_machine.specs.State.{Message, Unsettled, Vat, Done, Stops, Act, new_promise, WhereSome}
 use Rattle.def_machine.specs.Refs.{standing_of, settle, resolve, send, send_only, react}
 use Rattle.def_machine.specs.Eval.{opening, taking}
@@ -183,8 +183,4 @@ module _ (script : Script) (v : ℕ) (x : Name) (unowed : owed_at v x ≡ false)
 pub turning : (script : Script) (v : ℕ) (x : Name) → TurnsKeep script v x
 unfolding one once same_name owed_at
 turning script v (Promise w i) = turns_known script v (Promise w i) refl tt
-turning script v (Root w) = turns_by script v (Root w) (λ i. refl)
-turning script v (Object w j) = turns_by script v (Object w j) (λ i. refl)
-turning script v (Answer w m) = turns_by script v (Answer w m) (λ i. refl)
-turning script v (Gift w j) = turns_by script v (Gift w j) (λ i. refl)
-turning script v (Sent m) = turns_by script v (Sent m) (λ i. refl)
+turning script v other = turns_by script v other (λ i. refl)

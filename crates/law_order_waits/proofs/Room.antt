@@ -1,7 +1,7 @@
 -- What is kept of one name at a vat: that there is room for the messages of which it is the answer and for one wait, and that what it waits on is where it waits.
 use Rattle.std.proofs.Common.{◌≡◌, ℕ, suc, ◌+◌, ◌≤◌, Bool, true, false, List, [], ◌∷◌, ◌++◌, Option, Some, refl, sym, ap, subst, ◌∙◌, ◌⊎◌, inl, inr, arith}
 use Rattle.def_machine.specs.Values.{Value, Name, Object, Sent, Naming, naming, same_reference, same_name}
-use Rattle.def_machine.specs.State.{Standing, Unsettled, Settled, Known, Change, Hold, Wait, WaitOn, See, React, ToTell, Settle, changed, changed_to, with_change, begun}
+use Rattle.def_machine.specs.State.{Standing, Unsettled, Settled, Known, Change, Wait, WaitOn, See, Settle, changed, changed_to, with_change, begun}
 use Rattle.def_machine.specs.Refs.{entry_of, standing_of}
 use Rattle.law_machine.proofs.StepLaws.{changed_head}
 use Rattle.law_name.specs.Names.{AllOf, IsAmong, names_in, IsKnownIn, IsEventual}
@@ -180,10 +180,7 @@ module _ (word : ℕ → ℕ) (v : ℕ) (x : Name) where
   spent_changed (WaitOn q) n ks = spent_turned (WaitOn q) n ks
   spent_changed (See q) n ks = spent_turned (See q) n ks
   spent_changed (Settle y) n ks = spent_turned (Settle y) n ks
-  spent_changed (Hold m) n ks = spent_mild (Hold m) tt n ks 0
-  spent_changed (Wait q) n ks = spent_mild (Wait q) tt n ks 0
-  spent_changed (React m) n ks = spent_mild (React m) tt n ks 0
-  spent_changed (ToTell w) n ks = spent_mild (ToTell w) tt n ks 0
+  spent_changed other n ks = spent_mild other tt n ks 0
 
   pub burden_changed : (c : Change Name) (n : Name) (ks : List (Known Name)) → burden (with_change N c n ks) ≤ burden ks + (waits_more x c + turns_more c n)
   unfolding burden waitings

@@ -3,7 +3,7 @@ use Rattle.std.proofs.Common.{◌≡◌, ℕ, suc, ◌+◌, ◌*◌, ◌≤◌, 
 use Rattle.def_machine.specs.Values.{Words, Value, Null, Ref, Name, Answer, Gift, Sent, Msg, Naming, naming, name_of, answer_of, mail_of}
 use Rattle.def_machine.specs.State.{Message, Sends, Reacts, Vat, Done, Gives, Act, ◌>>=◌, ◌>>◌, and_then, give, look, tell, new_message, new_lone_message, begun}
 use Rattle.def_machine.specs.Refs as refs
-use Rattle.def_machine.specs.Refs.{Place, Near, Mine, Away, Gone}
+use Rattle.def_machine.specs.Refs.{Place, Mine, Away}
 use Rattle.law_name.specs.Names.{IsEventual}
 use Rattle.law_fate.specs.Fate.{one}
 use Rattle.law_order.proofs.Moves.{IsKept}
@@ -47,9 +47,7 @@ module _ (word : ℕ → ℕ) (v : ℕ) (x : Name) (owed : Bool) (fit : IsFit v 
   pub free_first : (m : Message Name) (y : Value Name) (p : Place Name) → Costs (2 * answers x m) (refs.send_first N m y p)
   unfolding refs.send_first
   free_first m y (Away h n o) = costs.costs_free word v x owed (2 * answers x m) (settling.spare_deliver word v x owed fit.eventual m h n)
-  free_first m y Near = settling.costs_send_to word v x owed fit.eventual (refs.settle N) (settling.costs_settle word v x owed fit.eventual) m y Near
-  free_first m y (Mine n) = settling.costs_send_to word v x owed fit.eventual (refs.settle N) (settling.costs_settle word v x owed fit.eventual) m y (Mine n)
-  free_first m y (Gone t) = settling.costs_send_to word v x owed fit.eventual (refs.settle N) (settling.costs_settle word v x owed fit.eventual) m y (Gone t)
+  free_first m y other = settling.costs_send_to word v x owed fit.eventual (refs.settle N) (settling.costs_settle word v x owed fit.eventual) m y other
 
   -- a message whose answer just came to be known, here
   here_after : (u : ℕ) → u ≡ v → (i : Msg) (m : Message Name) (y : Value Name) (p : Place Name) → m.answer ≡ Some (Answer u i) → (e : ℕ) (s : Vat Name) → At (2 * share owed (one (Answer u i) x) + e) s → Ends (At e) (refs.send_first N m y p s)
@@ -63,9 +61,7 @@ module _ (word : ℕ → ℕ) (v : ℕ) (x : Name) (owed : Bool) (fit : IsFit v 
   unfolding refs.send_first refs.answer_host
   first_after u own i m y (Away h n o) is e s g = let free : Costs 0 (refs.deliver N m h n) = costs.costs_free word v x owed 0 (settling.spare_deliver word v x owed fit.eventual m h n) in
       free.after e s (costs.less word v x owed (2 * share owed (one (Answer h i) x) + e) (0 + e) (omega arith) s g)
-  first_after u own i m y Near is e s g = here_after u own i m y Near is e s g
-  first_after u own i m y (Mine n) is e s g = here_after u own i m y (Mine n) is e s g
-  first_after u own i m y (Gone t) is e s g = here_after u own i m y (Gone t) is e s g
+  first_after u own i m y other is e s g = here_after u own i m y other is e s g
 
   then_gives : {A B : Type 0} (e : ℕ) (d : Done Name A) (b : B) → Ends (At e) d → Ends {A = B} (At e) (and_then d (λ _. give b))
   unfolding and_then give

@@ -29,7 +29,7 @@ use Rattle.law_frame.proofs.Sources.{push_all_goes, take_splits, waiting_logged}
 use Rattle.law_frame.proofs.WireArrivals.{arrived_is}
 use Rattle.law_gift.proofs.Found.{kept_more, calms}
 use Rattle.law_gift.proofs.Keeps.{alone_kept, arrive_kept}
-use Rattle.law_gift.proofs.Kept.{Entry as Fits, Kept}
+use Rattle.law_gift.proofs.Kept.{settling, Entry as Fits, Kept}
 use Rattle.law_gift.proofs.Rests as rests
 use Rattle.law_hearing.proofs.Lift.{opened_holds, stepped_holds}
 use Rattle.law_hearing.proofs.Moves.{goes_of}
@@ -108,7 +108,7 @@ module _ (script : Script) where
   own_gift w v i = inl refl
 
   abbrev AllWell : World → Type 0
-  AllWell w = (v : ℕ) (s : Vat Name) → slice_get w.vats v ≡ Some s → Kept word v (May w v) s
+  AllWell w = (v : ℕ) (s : Vat Name) → slice_get w.vats v ≡ Some s → Kept word v (settling word v (May w v)) s
 
   record Past (w : World) : Type 0 where
     worldly : Worldly script w
@@ -130,17 +130,17 @@ module _ (script : Script) where
         on : (m : Link) → m.cut ≡ false → FoundFrom x.links (host_of n) v m → IsAmong n (news_in (arrived (Some m)))
         on m uncut k = let goes = k.2 in let r = news_of n (arrived (Some k.0)) (h k.0 k.1 (goes.uncut uncut)) in in_news n r.0 (arrived (Some m)) (goes.arrivals uncut r.0 r.1) r.2
 
-    held : AllWell x → (v : ℕ) (s : Vat Name) → slice_get x.vats v ≡ Some s → Kept word v (May y v) s
+    held : AllWell x → (v : ℕ) (s : Vat Name) → slice_get x.vats v ≡ Some s → Kept word v (settling word v (May y v)) s
     held h v s there = kept_more word v (May x v) (May y v) (later v) s (h v s there)
 
     same_vats : y.vats ≡ x.vats → AllWell x → AllWell y
     same_vats e h v s there = held h v s (subst (λ vs. slice_get vs v ≡ Some s) e there)
 
-    one_vat : (a : ℕ) (t : Vat Name) → y.vats ≡ put_at a t x.vats → Kept word a (May y a) t → AllWell x → AllWell y
+    one_vat : (a : ℕ) (t : Vat Name) → y.vats ≡ put_at a t x.vats → Kept word a (settling word a (May y a)) t → AllWell x → AllWell y
     one_vat a t e k h v s there = go (put_cases a t x.vats v s (subst (λ vs. slice_get vs v ≡ Some s) e there))
       where
-        go : ((v ≡ a) × (t ≡ s)) ⊎ ((v ≡ a → ⊥) × (slice_get x.vats v ≡ Some s)) → Kept word v (May y v) s
-        go (inl i) = subst (λ (z : Vat Name). Kept word v (May y v) z) i.1 (subst (λ (c : ℕ). Kept word c (May y c) t) (sym i.0) k)
+        go : ((v ≡ a) × (t ≡ s)) ⊎ ((v ≡ a → ⊥) × (slice_get x.vats v ≡ Some s)) → Kept word v (settling word v (May y v)) s
+        go (inl i) = subst (λ (z : Vat Name). Kept word v (settling word v (May y v)) z) i.1 (subst (λ (c : ℕ). Kept word c (settling word c (May y c)) t) (sym i.0) k)
         go (inr i) = held h v s i.1
 
   -- ---- a note that arrives
@@ -185,7 +185,7 @@ module _ (script : Script) where
     told_may : (z : Name) → host_of z ≡ a → IsAmong z (with_news n []) → May y v (told_name (world.read_name (names_of s) z))
     told_may z e b = subst (May y v) (sym (told_is (names_of s) z)) (told z e b)
 
-    note_may : (k : Note Name) → k ≡ n → NoteOk MailBits k → IsBetween a v k → rests.NoteMay word v (May y v) (own_answers y v) (read_note (names_of s) k)
+    note_may : (k : Note Name) → k ≡ n → NoteOk MailBits k → IsBetween a v k → rests.NoteMay word v (settling word v (May y v)) (own_answers y v) (read_note (names_of s) k)
     unfolding read_note with_news
     note_may (Deliver d z verb ys) e ok b = ok.0
     note_may (Open i z) e ok b = own_gift y v i
@@ -193,7 +193,7 @@ module _ (script : Script) where
     note_may (Elsewhere z c) e ok b = told_may z b (subst (λ (m : Note Name). IsAmong z (with_news m [])) e (inl refl))
     note_may other e ok b = tt
 
-    arrived_well : Does script x v s s t (Receives a (read_note (names_of s) n)) → AllWell x → Kept word v (May y v) t
+    arrived_well : Does script x v s s t (Receives a (read_note (names_of s) n)) → AllWell x → Kept word v (settling word v (May y v)) t
     unfolding naming world.names
     arrived_well d h = let sound = f.sound in arrive_kept script v x (May y v) (own_answers y v) (own_promises y v) a s t n d.gives (note_may n refl mail ends) passes (sound.vats v s d.there) (held x y f move h v s d.there)
 
@@ -212,18 +212,18 @@ module _ (script : Script) where
 
   -- ---- the start
 
-  roots_fit : (v : ℕ) (M : Name → Type 0) (us : List ℕ) → AllOf (Fits word v M) (map world.known_root us)
+  roots_fit : (v : ℕ) (M : Name → Type 0) (us : List ℕ) → AllOf (Fits word v (settling word v M)) (map world.known_root us)
   unfolding world.known_root begun
   roots_fit v M [] = tt
   roots_fit v M (u ∷ us) = ((inl tt, tt, tt, tt), roots_fit v M us)
 
-  fresh_well : (v : ℕ) (M : Name → Type 0) (c : ℕ) (ps : List Program) (i : ℕ) (s : Vat Name) → slice_get (world.fresh_from script c ps) i ≡ Some s → s.number ≡ v → Kept word v M s
+  fresh_well : (v : ℕ) (M : Name → Type 0) (c : ℕ) (ps : List Program) (i : ℕ) (s : Vat Name) → slice_get (world.fresh_from script c ps) i ≡ Some s → s.number ≡ v → Kept word v (settling word v M) s
   unfolding world.fresh_from world.fresh world.known_root begun
   fresh_well v M c [] i s e k = cc
-  fresh_well v M c (p ∷ ps) zero s e k = let same : world.fresh script c p ≡ s = some_is (world.fresh script c p) s e in subst (λ (z : Vat Name). Kept word v M z) same (ap (λ (z : Vat Name). z.number) same ∙ k, ((inl tt, tt, tt, tt), roots_fit v M p.knows), tt, tt)
+  fresh_well v M c (p ∷ ps) zero s e k = let same : world.fresh script c p ≡ s = some_is (world.fresh script c p) s e in subst (λ (z : Vat Name). Kept word v (settling word v M) z) same (ap (λ (z : Vat Name). z.number) same ∙ k, ((inl tt, tt, tt, tt), roots_fit v M p.knows), tt, tt)
   fresh_well v M c (p ∷ ps) (suc i) s e k = fresh_well v M (suc c) ps i s e k
 
-  pub fresh_kept : (v : ℕ) (M : Name → Type 0) (s : Vat Name) → slice_get (world.fresh_from script zero script.vats) v ≡ Some s → Kept word v M s
+  pub fresh_kept : (v : ℕ) (M : Name → Type 0) (s : Vat Name) → slice_get (world.fresh_from script zero script.vats) v ≡ Some s → Kept word v (settling word v M) s
   unfolding world.begins
   fresh_kept v M s e = let own = begins_own script v s e in fresh_well v M zero script.vats v s e own.0
 

@@ -31,7 +31,7 @@ use Rattle.law_order_cuts.proofs.Counts.{sum_of, taken_sum}
 use Rattle.law_order_cuts.proofs.Reached.{each_gift_is_opened_once}
 use Rattle.law_gift.proofs.Found.{kept_more, calms}
 use Rattle.law_gift.proofs.Keeps.{alone_kept, arrive_kept}
-use Rattle.law_gift.proofs.Kept.{Kept}
+use Rattle.law_gift.proofs.Kept.{settling, Kept}
 use Rattle.law_gift.proofs.Rests as rests
 use Rattle.law_told_once.specs.Opened.{OpensNew, OpenedGiftsAreNew}
 use Rattle.law_told_once.proofs.News.{fresh_kept}
@@ -164,7 +164,7 @@ module _ (script : Script) where
 
   record Holds (w : World) : Type 0 where
     most : (i : ℕ) → way_all i w.links ≤ put_all i w.links
-    well : (v : ℕ) (s : Vat Name) → slice_get w.vats v ≡ Some s → Kept word v (May w.links v) s
+    well : (v : ℕ) (s : Vat Name) → slice_get w.vats v ≡ Some s → Kept word v (settling word v (May w.links v)) s
 
   abbrev Past : World → Type 0
   Past w = Before script w × WorldSound script w
@@ -175,17 +175,17 @@ module _ (script : Script) where
     most_on : (i : ℕ) → way_all i y.links ≤ put_all i y.links
     most_on i = let a = h.most i in let b = gap i in omega arith
 
-    held : (v : ℕ) (s : Vat Name) → slice_get x.vats v ≡ Some s → Kept word v (May y.links v) s
+    held : (v : ℕ) (s : Vat Name) → slice_get x.vats v ≡ Some s → Kept word v (settling word v (May y.links v)) s
     held v s there = kept_more word v (May x.links v) (May y.links v) (later x.links y.links gap v) s (h.well v s there)
 
     same_vats : y.vats ≡ x.vats → Holds y
     same_vats e = record { most = most_on; well = λ v s there. held v s (subst (λ vs. slice_get vs v ≡ Some s) e there) }
 
-    one_vat : (a : ℕ) (t : Vat Name) → y.vats ≡ put_at a t x.vats → Kept word a (May y.links a) t → Holds y
+    one_vat : (a : ℕ) (t : Vat Name) → y.vats ≡ put_at a t x.vats → Kept word a (settling word a (May y.links a)) t → Holds y
     one_vat a t e k = record { most = most_on; well = λ v s there. go v s (put_cases a t x.vats v s (subst (λ vs. slice_get vs v ≡ Some s) e there)) }
       where
-        go : (v : ℕ) (s : Vat Name) → ((v ≡ a) × (t ≡ s)) ⊎ ((v ≡ a → ⊥) × (slice_get x.vats v ≡ Some s)) → Kept word v (May y.links v) s
-        go v s (inl i) = subst (λ (z : Vat Name). Kept word v (May y.links v) z) i.1 (subst (λ (c : ℕ). Kept word c (May y.links c) t) (sym i.0) k)
+        go : (v : ℕ) (s : Vat Name) → ((v ≡ a) × (t ≡ s)) ⊎ ((v ≡ a → ⊥) × (slice_get x.vats v ≡ Some s)) → Kept word v (settling word v (May y.links v)) s
+        go v s (inl i) = subst (λ (z : Vat Name). Kept word v (settling word v (May y.links v)) z) i.1 (subst (λ (c : ℕ). Kept word c (settling word c (May y.links c)) t) (sym i.0) k)
         go v s (inr i) = held v s i.1
 
   first_of : (P : Note Name → Type 0) (ks : List (Note Name)) (n : Note Name) (ns : List (Note Name)) → AllOf P ks → ks ≡ n ∷ ns → P n
@@ -211,7 +211,7 @@ module _ (script : Script) where
     told_may : (ks : List Link) (z : Name) → IsBetween a v (Elsewhere z v) → May ks v (told_name (world.read_name (names_of s) z))
     told_may ks z b = subst (May ks v) (sym (told_is (names_of s) z)) (far_may ks v z (λ e. apart (sym b ∙ e)))
 
-    note_may : (ks : List Link) → ((j : ℕ) → way_all j x.links ≤ put_all j x.links) → Gap (with_link (with_notes ns) a v x.links) ks → (k : Note Name) → k ≡ n → NoteOk MailBits k → IsBetween a v k → rests.NoteMay word v (May ks v) (λ m. tt) (read_note (names_of s) k)
+    note_may : (ks : List Link) → ((j : ℕ) → way_all j x.links ≤ put_all j x.links) → Gap (with_link (with_notes ns) a v x.links) ks → (k : Note Name) → k ≡ n → NoteOk MailBits k → IsBetween a v k → rests.NoteMay word v (settling word v (May ks v)) (λ m. tt) (read_note (names_of s) k)
     unfolding read_note
     note_may ks most gap (Deliver d z verb ys) e ok b = ok.0
     note_may ks most gap (Open i z) e ok b = opened_may ks i z e most gap

@@ -1,7 +1,7 @@
 -- What a step of one vat tells another.
 use Rattle.std.proofs.Common.{◌≡◌, ℕ}
 use Rattle.def_machine.specs.Values.{Name, Gift, Naming, naming}
-use Rattle.def_machine.specs.State.{Note, Deliver, Open, Ask, SettledTo, Elsewhere, Shorten, Vat}
+use Rattle.def_machine.specs.State.{Note, Ask, Shorten, Vat}
 use Rattle.def_machine.specs.Arrive.{arrive}
 use Rattle.law_machine.specs.Steps.{Step, Opens as Starts, Takes, Receives, Notices, does}
 use Rattle.def_run.specs.Draws.{draw_word}
@@ -62,8 +62,5 @@ module _ (script : Script) (w : World) (h v : ℕ) where
   pub note_tells : (from : ℕ) (s t : Vat Name) (n : Note Name) → s.number ≡ h → AllOf (IsNamed h) s.gifts → IsBareOf s n → Does script w h s s t (Receives from (read_note (names_of s) n)) → Told word h v (LateBy from n) (readied w s) t
   unfolding does names read_note arrive
   note_tells from s t (Ask p i x) number named b d = arriving.arriving_ask word h v i from p (readied w s) t (number_ready s number) (named_ready s named) (cared s i number b.0 b.1) d.gives
-  note_tells from s t (Deliver m x verb ys) number named b d = tells_told word h v (LateBy from (Deliver m x verb ys)) (readied w s) t (given_by Tells (readied w s) t tt _ d.gives ((whole_arrive K Tells (settling.walked K v) from (read_note (names_of s) (Deliver m x verb ys)) tt).after (readied w s)))
-  note_tells from s t (Open i x) number named b d = tells_told word h v (LateBy from (Open i x)) (readied w s) t (given_by Tells (readied w s) t tt _ d.gives ((whole_arrive K Tells (settling.walked K v) from (read_note (names_of s) (Open i x)) tt).after (readied w s)))
-  note_tells from s t (SettledTo x y) number named b d = tells_told word h v (LateBy from (SettledTo x y)) (readied w s) t (given_by Tells (readied w s) t tt _ d.gives ((whole_arrive K Tells (settling.walked K v) from (read_note (names_of s) (SettledTo x y)) tt).after (readied w s)))
-  note_tells from s t (Elsewhere x c) number named b d = tells_told word h v (LateBy from (Elsewhere x c)) (readied w s) t (given_by Tells (readied w s) t tt _ d.gives ((whole_arrive K Tells (settling.walked K v) from (read_note (names_of s) (Elsewhere x c)) tt).after (readied w s)))
   note_tells from s t (Shorten x c i) number named b d = tells_told word h v (LateBy from (Shorten x c i)) (readied w s) t (given_by Tells (readied w s) t tt _ d.gives ((arriving.arriving_shorten word h v _ i).after (readied w s)))
+  note_tells from s t other number named b d = tells_told word h v (LateBy from other) (readied w s) t (given_by Tells (readied w s) t tt _ d.gives ((whole_arrive K Tells (settling.walked K v) from (read_note (names_of s) other) tt).after (readied w s)))

@@ -31,7 +31,7 @@ use Rattle.law_uses_seen.proofs.NumbersApart.{number_in, number_is, numbers_apar
 
 -- ---- Events with the same numbers for their vats have the same lines. It is said of these that their vats have places, since places are carried along by what renumbers.
 
-abbrev again : List Event → List Event
+abbrev pub again : List Event → List Event
 again es = map (event_to (λ v. v)) es
 
 module _ (names : List (List ℕ)) where
@@ -58,10 +58,10 @@ module _ (names : List (List ℕ)) where
 
   module _ (are : AreNames names) where
     -- the number that a reader gives a vat, and one behind these for each that does not stand there
-    abbrev number : List Event → ℕ → ℕ
+    abbrev pub number : List Event → ℕ → ℕ
     number es v = number_in names (found names es) v
 
-    number_apart : (es : List Event) (v w : ℕ) → number es v ≡ number es w → v ≡ w
+    pub number_apart : (es : List Event) (v w : ℕ) → number es v ≡ number es w → v ≡ w
     number_apart es v w e = numbers_apart names (found names es) are (names_are (map (words names) es)) v w e
 
     any : (es : List Event) → AllOf (IsRead (Below names)) es → AreAny es
@@ -86,7 +86,7 @@ module _ (names : List (List ℕ)) where
         (same_through (again es) numbered (map seen numbered) (uses_of_renumbered (number es) (number_apart es) (again es)) (uses_of_seen numbered))
 
     -- what is read of their text
-    abbrev read_as : List Event → Option (List ℕ) → Trace
+    abbrev pub read_as : List Event → Option (List ℕ) → Trace
     read_as es stop = record { history = map seen (map (event_to (number es)) (again es)); names = found names (again es); stop = stop }
 
     ended_text : (es : List Event) → AllOf (IsRead (Below names)) (es ++ End ∷ []) → length (found names (es ++ End ∷ [])) ≤ 16 → read_text (render names (es ++ End ∷ [])) ≡ Ok (read_as (es ++ End ∷ []) None)
@@ -97,7 +97,7 @@ module _ (names : List (List ℕ)) where
         ap read_text (sym (text_again all (any all h)) ∙ ap (render names) last) ∙ read
         ∙ ap (λ (fs : List Event). Ok (record { history = map seen (map (event_to (number all)) fs); names = found names fs; stop = None })) (sym last)
 
-    stopped_text : (es : List Event) (stop : List ℕ) → AllOf (IsRead (Below names)) es → length (found names es) ≤ 16 → IsOneLine stop → is_stop (words_of stop) ≡ true → read_text (render names es ++ (stop ++ 10 ∷ [])) ≡ Ok (read_as es (Some stop))
+    pub stopped_text : (es : List Event) (stop : List ℕ) → AllOf (IsRead (Below names)) es → length (found names es) ≤ 16 → IsOneLine stop → is_stop (words_of stop) ≡ true → read_text (render names es ++ (stop ++ 10 ∷ [])) ≡ Ok (read_as es (Some stop))
     stopped_text es stop h few one is =
         ap (λ (text : List ℕ). read_text (text ++ (stop ++ 10 ∷ []))) (sym (text_again es (any es h))) ∙ texts_again.stopped names (number es) (again es) stop (renumbers es h few) one is
 

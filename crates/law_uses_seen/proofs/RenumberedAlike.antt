@@ -19,11 +19,11 @@ use Rattle.law_uses_seen.proofs.Whole.{uses_are_same}
 
 module _ (to : ℕ → ℕ) where
   -- a place is 0 for none, or one more than the number of a vat
-  abbrev place_to : ℕ → ℕ
+  abbrev pub place_to : ℕ → ℕ
   place_to zero = zero
   place_to (suc v) = suc (to v)
 
-  abbrev by_number : Renaming
+  abbrev pub by_number : Renaming
   by_number = record { vat = to; place = place_to; name = name_to to; message = message_to to; value = value_to to }
 
   -- ---- events
@@ -37,7 +37,7 @@ module _ (to : ℕ → ℕ) where
   event_numbered (LeftLink v w n) = ap (LeftLink (to v) (to w)) (note_numbered n)
   event_numbered e = refl
 
-  events_numbered : (es : List Event) → map (event by_number) es ≡ map (event_to to) es
+  pub events_numbered : (es : List Event) → map (event by_number) es ≡ map (event_to to) es
   events_numbered [] = refl
   events_numbered (e ∷ es) = ap (λ (x : Event). x ∷ map (event by_number) es) (event_numbered e) ∙ ap (λ (xs : List Event). event_to to e ∷ xs) (events_numbered es)
 
@@ -118,7 +118,7 @@ module _ (to : ℕ → ℕ) where
     messages_there : (m n : Msg) → same_message (message_to to m) (message_to to n) ≡ same_message m n
     messages_there m n = ap (λ (b : Bool). b && (m.number == n.number)) (test_same to apart m.sender n.sender)
 
-    is_numbered : IsRenaming by_number
+    pub is_numbered : IsRenaming by_number
     is_numbered = record {
       vats_apart = apart;
       places_apart = places_apart;

@@ -18,7 +18,7 @@ use Rattle.law_uses_seen.proofs.Whole.{uses_are_same, hold_alike}
 use Rattle.law_uses_seen.proofs.Joining.{hold_same, hold_through, hold_turned}
 
 -- all but values stays
-abbrev as_seen : Renaming
+abbrev pub as_seen : Renaming
 as_seen = record { vat = λ v. v; place = λ v. v; name = λ n. n; message = λ m. m; value = seen_value }
 
 -- ---- events
@@ -32,7 +32,7 @@ event_seen (Carry k v w n) = ap (Carry k v w) (note_seen n)
 event_seen (LeftLink v w n) = ap (LeftLink v w) (note_seen n)
 event_seen e = refl
 
-events_seen : (es : List Event) → map (event as_seen) es ≡ map seen es
+pub events_seen : (es : List Event) → map (event as_seen) es ≡ map seen es
 events_seen [] = refl
 events_seen (e ∷ es) = ap (λ (x : Event). x ∷ map (event as_seen) es) (event_seen e) ∙ ap (λ (xs : List Event). seen e ∷ xs) (events_seen es)
 
@@ -75,7 +75,7 @@ mutual
   row_parts end_of-Shown = refl
   row_parts (more_of-Shown x rest) = joined (thing as_seen) (parts x) (member_parts rest) (parts (seen_value x)) (all_parts (seen_members rest)) (seen_parts x) (row_parts rest)
 
-is_seen : IsRenaming as_seen
+pub is_seen : IsRenaming as_seen
 is_seen = record {
   vats_apart = λ v w e. e;
   places_apart = λ v w e. e;

@@ -59,7 +59,7 @@ module _ (r : Renaming) (good : IsRenaming r) where
   lines_are past later is es fs (one_event xs ys e a) = lines_are (line_after past e ∷ past) (line_after later (event r e) ∷ later) (next_are past later is e) xs ys a
   lines_are past later is es fs (silent_event xs ys bytes a) = lines_are (line_after past (Frame bytes) ∷ past) later (quiet_are past later is bytes) xs ys a
 
-  all_are : (es : List Event) → AreEvents r es (map (event r) es)
+  pub all_are : (es : List Event) → AreEvents r es (map (event r) es)
   all_are [] = no_event
   all_are (e ∷ es) = one_event es (map (event r) es) e (all_are es)
 

@@ -1,0 +1,92 @@
+-- As a note that asks for a gift is carried in a run, order is kept, whatever its receiver noticed.
+use Rattle.std.proofs.Common.{◌≡◌, ℕ, zero, Bool, true, false, List, [], ◌∷◌, Option, Some, None, refl, sym, ap, subst, ◌∙◌, ◌⊎◌, inl, inr, ◌==◌}
+use Rattle.std.proofs.lemmas.Bool.{eqb-true, eq-eqb}
+use Rattle.def_machine.specs.Values.{Name, Gift, naming, word_of}
+use Rattle.def_machine.specs.State.{Ask, GiftEntry, is_gift}
+use Rattle.def_machine.specs.Arrive.{gift_at}
+use Rattle.def_run.specs.Draws.{draw_word}
+use Rattle.def_run.specs.World.{Script, Entry, World, Goes, begins, open_from, steps_from, names}
+use Rattle.law_fate.specs.Lasting.{Each}
+use Rattle.law_name.specs.Names.{IsAmong, names_in}
+use Rattle.law_name.specs.Runs.{KnowsOnce}
+use Rattle.law_reference.specs.Cuts.{NoticesFollowCuts}
+use Rattle.law_reference.specs.GiftPassing.{Provides, IsProvided, HasProviders}
+use Rattle.law_reference.specs.Standing.{IsEntered}
+use Rattle.law_reference.proofs.ApartWhole.{own_stand}
+use Rattle.law_reference.proofs.GiftLaws.{one_provider}
+use Rattle.law_reference.proofs.GiftLinks.{found_tells}
+use Rattle.law_reference.proofs.First.{among_dec}
+use Rattle.law_reference.proofs.Told.{unknown}
+use Rattle.law_order_runs.proofs.Beginnings.{reached_is}
+use Rattle.law_order_asks.specs.Asks.{NoOldBreaks, stands_fast, comes_new, Bears}
+use Rattle.law_order_asks.proofs.AskRuns.{ask_carries_keep_in_runs}
+use Rattle.law_order_asked.specs.Asked.{AsksKeepInRuns}
+use Rattle.law_order_asked.proofs.Asked.{asked_for_are_opened}
+
+-- ---- the gift that is found
+
+pub found_among : (p i : ℕ) (gs : List (GiftEntry Name)) (g : GiftEntry Name) → gift_at p i gs ≡ Some g → IsAmong g gs × (g.number ≡ i)
+unfolding gift_at is_gift
+found_among p i [] g e = cc
+found_among p i (h ∷ gs) g e = go (λ q. found_among p i gs g q) (h.provider == p) (h.number == i) refl e
+  where
+    same : Some h ≡ Some g → h ≡ g
+    same q = cc
+
+    go : (gift_at p i gs ≡ Some g → IsAmong g gs × (g.number ≡ i)) → (b c : Bool) → (h.number == i) ≡ c → ◌≡◌ {A = Option (GiftEntry Name)} (elim (elim b as (λ q. Bool) [ true ↦ c | false ↦ false ]) [ true ↦ Some h | false ↦ gift_at p i gs ]) (Some g) → IsAmong g (h ∷ gs) × (g.number ≡ i)
+    go later true true k q = (inl (sym (same q)), subst (λ (z : GiftEntry Name). z.number ≡ i) (same q) (eqb-true h.number i k))
+    go later true false k q = let r = later q in (inr r.0, r.1)
+    go later false c k q = let r = later q in (inr r.0, r.1)
+
+-- one that stands under the key is found by its provider
+entered_found : (P : ℕ → ℕ) (d : List ℕ) (p i : ℕ) (gs : List (GiftEntry Name)) → Each (IsProvided P d) gs → P (word_of i) ≡ p → IsEntered i gs → gift_at p i gs ≡ None → ⊥
+unfolding gift_at is_gift
+entered_found P d p i [] h e a f = a
+entered_found P d p i (g ∷ gs) h e a f = go (λ b q. entered_found P d p i gs h.1 e b q) a
+  where
+    none_some : ◌≡◌ {A = Option (GiftEntry Name)} (Some g) None → ⊥
+    none_some q = cc
+
+    is : g.number ≡ i → is_gift p i g ≡ true
+    is j = let own : g.provider ≡ p = sym h.0.1 ∙ ap (λ z. P (word_of z)) j ∙ e in subst (λ c. elim c [ true ↦ g.number == i | false ↦ false ] ≡ true) (sym (eq-eqb g.provider p own)) (eq-eqb g.number i j)
+
+    rest : (c : Bool) → ◌≡◌ {A = Option (GiftEntry Name)} (elim c [ true ↦ Some g | false ↦ gift_at p i gs ]) None → (gift_at p i gs ≡ None → ⊥) → ⊥
+    rest true q later = none_some q
+    rest false q later = later q
+
+    go : (IsEntered i gs → gift_at p i gs ≡ None → ⊥) → (g.number ≡ i) ⊎ IsEntered i gs → ⊥
+    go later (inl j) = none_some (subst (λ c. ◌≡◌ {A = Option (GiftEntry Name)} (elim c [ true ↦ Some g | false ↦ gift_at p i gs ]) None) (is j) f)
+    go later (inr b) = rest (is_gift p i g) f (later b)
+
+module _ (script : Script) (knows : KnowsOnce script) (w x : World) (es : List Entry) (k : ℕ) (cuts : NoticesFollowCuts es) (o : open_from script zero script.vats (begins script) ≡ Goes w) (e : steps_from script es k w ≡ Goes x)
+    (a b p i : ℕ) (n : Name) (h : Bears x a b (Ask p i n)) where
+  providers : HasProviders x
+  providers = reached_is HasProviders (steps_from script es k w) x e ((one_provider script).1 w es k o)
+
+  provider : providers.0 (word_of i) ≡ p
+  provider = (head (found_tells providers.0 x.drawn a b h.link x.links providers.1 h.found)).1
+    where
+      head : Each (Provides providers.0 x.drawn a b) h.link.notes → Provides providers.0 x.drawn a b (Ask p i n)
+      head q = let one : Each (Provides providers.0 x.drawn a b) (Ask p i n ∷ h.rest) = subst (λ ms. Each (Provides providers.0 x.drawn a b) ms) h.first q in one.0
+
+  asked : IsAmong (Ask p i n) h.link.notes
+  asked = subst (λ ms. IsAmong (Ask p i n) ms) (sym h.first) (inl refl)
+
+  no_old : NoOldBreaks script b h.vat p i
+  unfolding names naming
+  no_old = go (gift_at p i h.vat.gifts) refl
+    where
+      stood : (g : GiftEntry Name) → gift_at p i h.vat.gifts ≡ Some g → g.opened ≡ true
+      stood g f = let r = found_among p i h.vat.gifts g f in (asked_for_are_opened script knows).1 w x es k o e a b h.link p i n h.found asked b h.vat g h.there r.0 r.1
+
+      known_or : gift_at p i h.vat.gifts ≡ None → IsAmong (Gift b i) (names_in h.vat.known) ⊎ (IsAmong (Gift b i) (names_in h.vat.known) → ⊥) → NoOldBreaks script b h.vat p i
+      known_or f (inl c) = absurd (entered_found providers.0 x.drawn p i h.vat.gifts (providers.2 b h.vat h.there) provider ((own_stand script knows).1 w x es k cuts o e b i h.vat h.there c) f)
+      known_or f (inr c) = comes_new f (unknown (draw_word script.key) b h.vat.known (Gift b i) c)
+
+      go : (q : Option (GiftEntry Name)) → gift_at p i h.vat.gifts ≡ q → NoOldBreaks script b h.vat p i
+      go (Some g) f = stands_fast g f (inl (stood g f))
+      go None f = known_or f (among_dec (Gift b i) (names_in h.vat.known))
+
+pub asks_keep_in_runs : AsksKeepInRuns
+asks_keep_in_runs script knows w x y es k a b p i n cuts o e f h honest =
+    ask_carries_keep_in_runs script knows w x y es k a b p i n o e f (record { borne = h; spares = inr (no_old script knows w x es k cuts o e a b p i n h) }) honest

@@ -1,0 +1,16 @@
+pub mod Begins
+pub mod Kept
+pub mod Lines
+pub mod Links
+pub mod News
+pub mod Passed
+pub mod ReactStep
+pub mod Reaches
+pub mod Refs
+pub mod Same
+pub mod SendActs
+pub mod SendLaws
+pub mod SentStep
+pub mod TakeStep
+pub mod Takes
+pub mod Tales

@@ -1,0 +1,5 @@
+use Rattle.law_order_history.proofs.Passed.{arguments_pass_behind}
+use Rattle.law_order_history.proofs.arguments_pass_behind.Goals as goal
+
+pub returns : goal.returns
+returns c = arguments_pass_behind

@@ -1,0 +1,4 @@
+pub mod Placing
+pub mod Telling
+pub mod Reaching
+pub mod Whole

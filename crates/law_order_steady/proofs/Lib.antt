@@ -1,0 +1,11 @@
+pub mod Blocks
+pub mod Deeper
+pub mod Ends
+pub mod Facts
+pub mod Orders
+pub mod Sending
+pub mod Starts
+pub mod Staying
+pub mod Steady
+pub mod Viewed
+pub mod Wells

@@ -1,0 +1,12 @@
+pub mod Resting
+pub mod Cuts
+pub mod Links
+pub mod Middle
+pub mod Begun
+pub mod Silent
+pub mod Stilling
+pub mod Arriving
+pub mod Asks
+pub mod Receivers
+pub mod Entries
+pub mod AskTales

@@ -1,0 +1,4 @@
+pub mod Resting
+pub mod Middle
+pub mod Tales
+pub mod Entries

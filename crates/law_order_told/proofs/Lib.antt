@@ -1,0 +1,3 @@
+pub mod Placed
+pub mod Brought
+pub mod Whole

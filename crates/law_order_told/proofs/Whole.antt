@@ -1,0 +1,13 @@
+-- A run that is in order is shown in order.
+use Rattle.def_run.specs.World.{run}
+use Rattle.def_run.specs.Text.{draws_of, history_of}
+use Rattle.law_order_shown.proofs.Whole.{shown_in_order}
+use Rattle.law_order_told.specs.Told.{WhatIsCarriedWasSent, RunsAreShownInOrder}
+use Rattle.law_order_told.proofs.Placed.{in_place}
+use Rattle.law_order_told.proofs.Brought.{carries_were_sent}
+
+pub carried_was_sent : WhatIsCarriedWasSent
+carried_was_sent script = carries_were_sent script
+
+pub shown_runs : RunsAreShownInOrder
+shown_runs script apart ordered = shown_in_order (draws_of (run script)) (history_of (run script)) (in_place script (draws_of (run script))) apart.messages (carries_were_sent script) apart.apart ordered
