@@ -1,2 +1,1 @@
-pub mod Problems
 pub mod Turn

@@ -1,6 +1,6 @@
 //! Turns.
 
-ghost use Rattle.std.specs.Prelude.{◌≡◌, ◌++◌, ◌∷◌, ℕ, List, [], true, reverse, IfOk, OnOk};
+ghost use Rattle.std.specs.Prelude.{◌≡◌, ◌++◌, ◌∷◌, ℕ, List, [], true, map, reverse, IfOk, OnOk};
 ghost use Rattle.def_machine.specs.Calls.{turn_value};
 ghost use Rattle.def_machine.specs.Eval as theirs;
 ghost use Rattle.ev_heap.specs.Contents.{nothing};
@@ -9,7 +9,6 @@ ghost use Rattle.ev_room.specs.Reading.{World, names, roots_from, texts_of, valu
 ghost use Rattle.ev_room.specs.Sound.{Grown, IsSound, Stays, are_there, cycle_id, is_there, partition_id, problems, too_heavy_id};
 ghost use Rattle.ev_steps.specs.Steps.{alone, evaluator};
 ghost use Rattle.ev_room.specs.Acts.{Gives};
-ghost use Rattle.ev_eval.specs.Problems.{eventual_problems, guard_problems, native_problems, or_null_problems, own_problems, reference_problems, with_texts};
 ghost use Rattle.ev_eval.specs.Turn as machine;
 ghost use Rattle.ev_eval.specs.Turn.{Ends, EndsAs, EndsBy, GivesThere, LeftBy, bonds_from, turn_of};
 
@@ -26,6 +25,57 @@ use ev_room::scope::{Binding, Bound, NO_GUARD, Scope};
 use ev_told::Micro;
 use ev_word::Word;
 use std::alloc::Global;
+
+/// What evaluation throws, and what references make of a cut link and of names that lead back to themselves.
+const PROBLEMS: [&str; 47] = [
+    "integer overflow",
+    "not int",
+    "no method",
+    "zero divisor",
+    "negative power",
+    "not char",
+    "not boolean",
+    "not String",
+    "not List",
+    "out of range",
+    "bad argument",
+    "not comparable",
+    "too heavy",
+    "not a text",
+    "ejector is dead",
+    "no match",
+    "not a list",
+    "not a guard",
+    "not an auditor",
+    "audition is dead",
+    "not free",
+    "not any",
+    "not void",
+    "not int",
+    "not boolean",
+    "not char",
+    "not String",
+    "not List",
+    "not nullOk",
+    "not near",
+    "not DeepFrozen",
+    "not nullOk:any",
+    "not nullOk:void",
+    "not nullOk:int",
+    "not nullOk:boolean",
+    "not nullOk:char",
+    "not nullOk:String",
+    "not nullOk:List",
+    "not nullOk:nullOk",
+    "not nullOk:near",
+    "not nullOk:DeepFrozen",
+    "partition",
+    "cycle",
+    "not settled",
+    "bad message",
+    "not resolved",
+    "already resolved",
+];
 
 /// How a turn ended.
 #[derive(Clone, Copy, PartialEq, Eq)]
@@ -45,98 +95,13 @@ pub enum Ended {
     Astray,
 }
 
-/// A heap that holds what native methods throw.
-fn native_heap(alloc: Global) -> Result<Heap, Memory>
-    ensures { IfOk result (λ heap. heap ≡ with_texts native_problems) }
+/// Keeps these texts, which have the next numbers.
+fn make_texts(heap: &mut Heap, texts: &[&str]) -> Result<(), Memory>
+    ensures { OnOk result (heap.new ≡ record heap.old { texts = heap.old.texts ++ map (λ text. text.now) texts.now }) }
 {
-    let mut heap = Heap::new(alloc);
-    heap.make_text("integer overflow")?;
-    heap.make_text("not int")?;
-    heap.make_text("no method")?;
-    heap.make_text("zero divisor")?;
-    heap.make_text("negative power")?;
-    heap.make_text("not char")?;
-    heap.make_text("not boolean")?;
-    heap.make_text("not String")?;
-    heap.make_text("not List")?;
-    heap.make_text("out of range")?;
-    heap.make_text("bad argument")?;
-    heap.make_text("not comparable")?;
-    heap.make_text("too heavy")?;
-    heap.make_text("not a text")?;
-    heap.make_text("ejector is dead")?;
-    Ok(heap)
-}
-
-/// What evaluation throws besides.
-fn add_own_problems(heap: &mut Heap) -> Result<(), Memory>
-    requires { heap.old ≡ with_texts (native_problems) }
-    ensures { OnOk result (heap.new ≡ with_texts (native_problems ++ own_problems)) }
-{
-    heap.make_text("no match")?;
-    heap.make_text("not a list")?;
-    heap.make_text("not a guard")?;
-    heap.make_text("not an auditor")?;
-    heap.make_text("audition is dead")?;
-    heap.make_text("not free")?;
-    Ok(())
-}
-
-/// What native guards throw, each at its place among them.
-fn add_guard_problems(heap: &mut Heap) -> Result<(), Memory>
-    requires { heap.old ≡ with_texts (native_problems ++ own_problems) }
-    ensures { OnOk result (heap.new ≡ with_texts (native_problems ++ own_problems ++ guard_problems)) }
-{
-    heap.make_text("not any")?;
-    heap.make_text("not void")?;
-    heap.make_text("not int")?;
-    heap.make_text("not boolean")?;
-    heap.make_text("not char")?;
-    heap.make_text("not String")?;
-    heap.make_text("not List")?;
-    heap.make_text("not nullOk")?;
-    heap.make_text("not near")?;
-    heap.make_text("not DeepFrozen")?;
-    Ok(())
-}
-
-/// The same of guards that take null as well.
-fn add_or_null_problems(heap: &mut Heap) -> Result<(), Memory>
-    requires { heap.old ≡ with_texts ((native_problems ++ own_problems) ++ guard_problems) }
-    ensures { OnOk result (heap.new ≡ with_texts ((native_problems ++ own_problems) ++ guard_problems ++ or_null_problems)) }
-{
-    heap.make_text("not nullOk:any")?;
-    heap.make_text("not nullOk:void")?;
-    heap.make_text("not nullOk:int")?;
-    heap.make_text("not nullOk:boolean")?;
-    heap.make_text("not nullOk:char")?;
-    heap.make_text("not nullOk:String")?;
-    heap.make_text("not nullOk:List")?;
-    heap.make_text("not nullOk:nullOk")?;
-    heap.make_text("not nullOk:near")?;
-    heap.make_text("not nullOk:DeepFrozen")?;
-    Ok(())
-}
-
-/// What references make of a cut link, and of names that lead back to themselves.
-fn add_reference_problems(heap: &mut Heap) -> Result<(), Memory>
-    requires { heap.old ≡ with_texts (((native_problems ++ own_problems) ++ guard_problems) ++ or_null_problems) }
-    ensures { OnOk result (heap.new ≡ with_texts ((((native_problems ++ own_problems) ++ guard_problems) ++ or_null_problems) ++ reference_problems)) }
-{
-    heap.make_text("partition")?;
-    heap.make_text("cycle")?;
-    Ok(())
-}
-
-/// What evaluation throws where it asks references.
-fn add_eventual_problems(heap: &mut Heap) -> Result<(), Memory>
-    requires { heap.old ≡ with_texts ((((native_problems ++ own_problems) ++ guard_problems) ++ or_null_problems) ++ reference_problems) }
-    ensures { OnOk result (heap.new ≡ with_texts (((((native_problems ++ own_problems) ++ guard_problems) ++ or_null_problems) ++ reference_problems) ++ eventual_problems)) }
-{
-    heap.make_text("not settled")?;
-    heap.make_text("bad message")?;
-    heap.make_text("not resolved")?;
-    heap.make_text("already resolved")?;
+    for text in texts {
+        heap.make_text(text)?;
+    }
     Ok(())
 }
 
@@ -144,12 +109,8 @@ fn add_eventual_problems(heap: &mut Heap) -> Result<(), Memory>
 pub fn new_heap(alloc: Global) -> Result<Heap, Memory>
     ensures texts { IfOk result (λ heap. heap ≡ record nothing { texts = problems }) }
 {
-    let mut heap = native_heap(alloc)?;
-    add_own_problems(&mut heap)?;
-    add_guard_problems(&mut heap)?;
-    add_or_null_problems(&mut heap)?;
-    add_reference_problems(&mut heap)?;
-    add_eventual_problems(&mut heap)?;
+    let mut heap = Heap::new(alloc);
+    make_texts(&mut heap, &PROBLEMS)?;
     Ok(heap)
 }
 
