@@ -48,7 +48,8 @@ pub fn write_all(
     let mut out = Vec::new(inside.alloc);
     for put in puts {
         let op = write_put(inside, connections, put)?;
-        if let Err(_full) = out.push(Outgoing { to: put.to, op }) {
+        if let Err(full) = out.push(Outgoing { to: put.to, op }) {
+            drop(full);
             return Err(WriteFault::Memory);
         }
     }

@@ -67,8 +67,13 @@ fn write_open(inside: &Interior, connection: &mut Connection, note: &Note) -> Re
 {
     number_note(connection, inside, note)?;
     let op = describe_note(inside, connection, note)?;
-    ask(connection, asked_of(note))?;
-    Ok(op)
+    match ask(connection, asked_of(note)) {
+        Ok(()) => Ok(op),
+        Err(memory) => {
+            drop(op);
+            Err(memory)
+        }
+    }
 }
 
 /// Writes a note for the peer of a connection: the operation that says it by the numbers of the two vats. Things of this vat that it
