@@ -12,7 +12,7 @@ use def_syntax::TokenKind;
 pub(crate) const BEGINS_NOTHING: u8 = 1;
 
 /// What stands at the front of a text.
-#[derive(Clone, Copy, PartialEq, Eq)]
+#[derive(Clone, Copy)]
 pub enum Piece {
     /// So many bytes of white space, or of a comment.
     Blank(usize),
@@ -23,7 +23,7 @@ pub enum Piece {
 }
 
 /// What a byte begins.
-#[derive(Clone, Copy, PartialEq, Eq)]
+#[derive(Clone, Copy)]
 pub enum Start {
     Space,
     LineFeed,
