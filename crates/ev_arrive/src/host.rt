@@ -21,21 +21,21 @@ pub struct Host {
 }
 
 /// A name in what a vat hears: one that it knows, or one that it comes to know, of that vat.
-#[derive(Clone, Copy, PartialEq, Eq)]
+#[derive(Clone, Copy)]
 pub enum Incoming {
     Known(Reference),
     New(VatId),
 }
 
 /// What a vat hears that settled: a name that it knows, or one that it comes to know, of that vat.
-#[derive(Clone, Copy, PartialEq, Eq)]
+#[derive(Clone, Copy)]
 pub enum Subject {
     Known(PromId),
     New(VatId),
 }
 
 /// A message that a note carries: one that the vat has had, by its number, or one that comes to be here.
-#[derive(Clone, Copy, PartialEq, Eq)]
+#[derive(Clone, Copy)]
 pub enum Carried {
     Back(MsgId),
     New,

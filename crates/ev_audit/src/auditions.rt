@@ -15,7 +15,7 @@ use ev_heap::{AuditView, Bound, Capture, FreeName, GuardKind};
 const ANY: PrimId = PrimId(8);
 
 /// What an audition is asked.
-#[derive(Clone, Copy, Debug, PartialEq, Eq)]
+#[derive(Clone, Copy)]
 pub enum AuditionAsk {
     /// The form of the object expression.
     GetsForm,

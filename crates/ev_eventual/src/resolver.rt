@@ -19,7 +19,7 @@ use ev_word::Word;
 pub const ALREADY_RESOLVED: TextId = TextId(46);
 
 /// What a resolver is asked.
-#[derive(Clone, Copy, PartialEq, Eq)]
+#[derive(Clone, Copy)]
 pub enum Resolving {
     /// To resolve its promise to this value.
     Resolves(Value),

@@ -5,14 +5,14 @@ use ev_base::{NodeId, ObjId, PrimId, PromId, Seq, SlotId, Value};
 use ev_word::Word;
 
 /// The guard under which a name is bound: a native guard, or an object.
-#[derive(Clone, Copy, PartialEq, Eq)]
+#[derive(Clone, Copy)]
 pub enum GuardKind {
     Native(PrimId),
     User(ObjId),
 }
 
 /// What an object holds of a name that its code uses.
-#[derive(Clone, Copy, PartialEq, Eq)]
+#[derive(Clone, Copy)]
 pub enum Capture {
     /// A name that was bound finally: its value, and its guard.
     Fixed { value: Value, guard: GuardKind },
@@ -28,7 +28,7 @@ pub struct Caught {
 }
 
 /// What an auditor may know of how a free name of the object that it judges is bound.
-#[derive(Clone, Copy, PartialEq, Eq)]
+#[derive(Clone, Copy)]
 pub enum Bound {
     /// It is of the safe scope.
     Safe,
@@ -80,7 +80,7 @@ pub struct Thing {
 }
 
 /// A var slot: the guard of what is written to it, and its value.
-#[derive(Clone, Copy, PartialEq, Eq)]
+#[derive(Clone, Copy)]
 pub struct Cell {
     pub guard: GuardKind,
     pub value: Value,

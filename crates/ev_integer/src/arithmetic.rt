@@ -8,7 +8,7 @@ use std::error::Error;
 use std::fmt;
 
 /// An operation on two integers.
-#[derive(Clone, Copy, PartialEq, Eq)]
+#[derive(Clone, Copy)]
 pub enum IntOp {
     Add,
     Subtract,

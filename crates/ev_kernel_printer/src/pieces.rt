@@ -8,7 +8,7 @@ use std::alloc::{AllocError, Global};
 use std::marker::Model;
 
 /// A piece of a form. A part comes with the number of levels to which it is written.
-#[derive(Clone, Copy, PartialEq, Eq)]
+#[derive(Clone, Copy)]
 pub enum Piece {
     /// The form of a node, behind a space.
     Spaced(NodeId, usize),

@@ -16,7 +16,7 @@ use std::alloc::Global;
 use std::marker::Model;
 
 /// What a line gives for a name.
-#[derive(Clone, Copy, PartialEq, Eq)]
+#[derive(Clone, Copy)]
 pub enum Goal {
     /// A name.
     To(Label),

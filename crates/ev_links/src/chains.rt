@@ -23,14 +23,14 @@ pub struct Spot {
 }
 
 /// Where a name stands: the chain, by its first name, and how many names are before it there.
-#[derive(Clone, Copy, PartialEq, Eq)]
+#[derive(Clone, Copy)]
 pub struct Standing {
     pub chain: Label,
     pub place: u64,
 }
 
 /// How far a chain goes: its last name, and how many are before that.
-#[derive(Clone, Copy, PartialEq, Eq)]
+#[derive(Clone, Copy)]
 pub struct End {
     pub place: u64,
     pub name: Label,

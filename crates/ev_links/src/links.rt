@@ -10,7 +10,7 @@ use std::alloc::Global;
 use std::marker::Model;
 
 /// How one thing leads to another.
-#[derive(Clone, Copy, PartialEq, Eq)]
+#[derive(Clone, Copy)]
 pub enum Way {
     /// A list and its members, at every place.
     Listed,
@@ -19,14 +19,14 @@ pub enum Way {
 }
 
 /// Something that is led to, and how.
-#[derive(Clone, Copy, PartialEq, Eq)]
+#[derive(Clone, Copy)]
 pub struct Link {
     pub way: Way,
     pub other: Label,
 }
 
 /// The ways that are gone.
-#[derive(Clone, Copy, PartialEq, Eq)]
+#[derive(Clone, Copy)]
 pub enum Scope {
     /// From lists to their members alone.
     Lists,

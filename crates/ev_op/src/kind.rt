@@ -7,7 +7,7 @@ ghost use Rattle.ev_op.specs.Reading.{Gives, kind_at, is_list};
 use crate::fault::ReadError;
 
 /// What the first byte of a description tells. Each stands at its code.
-#[derive(Clone, Copy, PartialEq, Eq)]
+#[derive(Clone, Copy)]
 pub enum Kind {
     Null,
     False,

@@ -3,7 +3,7 @@
 use def_grammar::{Place, Shape, Tail, Word};
 
 /// A part of a node: the number of a node, or a token.
-#[derive(Clone, Copy, Debug)]
+#[derive(Clone, Copy)]
 pub enum Part {
     Tree(usize),
     Token(Word),

@@ -14,7 +14,7 @@ use ev_told::Micro;
 use std::alloc::Global;
 
 /// Why something that a vat does came to no end.
-#[derive(Clone, Copy, Debug, PartialEq, Eq)]
+#[derive(Clone, Copy)]
 pub enum Stop {
     /// The fuel did not suffice.
     Fuel,

@@ -18,7 +18,7 @@ const MOST_HEIGHT: u64 = 100;
 const WEIGHT_OF_TOO_HEAVY: u64 = 10;
 
 /// Why there is no room for a value.
-#[derive(Clone, Copy, PartialEq, Eq)]
+#[derive(Clone, Copy)]
 pub enum Misfit {
     /// It would be heavier or higher than the limits.
     TooHeavy,
@@ -27,7 +27,7 @@ pub enum Misfit {
 }
 
 /// What passes, and its weight.
-#[derive(Clone, Copy, PartialEq, Eq)]
+#[derive(Clone, Copy)]
 pub struct Weighed {
     pub weight: u64,
     pub value: Value,

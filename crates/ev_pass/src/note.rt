@@ -5,7 +5,7 @@ use ev_base::{MsgId, ObjId, PromId, Value, VatId};
 use ev_word::Word;
 
 /// What a note is about at the vat that it goes to: an object or a promise, as this vat knows it.
-#[derive(Clone, Copy, PartialEq, Eq)]
+#[derive(Clone, Copy)]
 pub enum Reference {
     /// An object of this vat.
     Object(ObjId),

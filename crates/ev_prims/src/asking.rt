@@ -20,7 +20,7 @@ use crate::verbs::is_verb;
 use ev_base::{PrimId, Value};
 
 /// What `Ref` tells of a value.
-#[derive(Clone, Copy, PartialEq, Eq)]
+#[derive(Clone, Copy)]
 pub enum RefTest {
     IsNear,
     IsFar,
@@ -31,7 +31,7 @@ pub enum RefTest {
 }
 
 /// What is asked of a primitive. Its values are the arguments, as they are held.
-#[derive(Clone, Copy, PartialEq, Eq)]
+#[derive(Clone, Copy)]
 pub enum Asked {
     /// The list of all the arguments.
     MakesList,

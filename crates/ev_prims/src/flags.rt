@@ -9,7 +9,7 @@ use crate::reply::Reply;
 use ev_base::Value;
 
 /// How two booleans are joined.
-#[derive(Clone, Copy, PartialEq, Eq)]
+#[derive(Clone, Copy)]
 pub(crate) enum Joining {
     Both,
     Either,

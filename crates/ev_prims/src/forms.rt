@@ -6,7 +6,7 @@ ghost use Rattle.ev_prims.specs.Forms.{args_of, form_of};
 use ev_base::Value;
 
 /// The arguments of a call on a text or a list.
-#[derive(Clone, Copy, PartialEq, Eq)]
+#[derive(Clone, Copy)]
 pub(crate) enum Form {
     /// There is none.
     Alone,
@@ -37,7 +37,7 @@ pub(crate) fn form_of(held: &[Value], args: &[Value]) -> Form
 }
 
 /// The arguments of a call on a primitive.
-#[derive(Clone, Copy, PartialEq, Eq)]
+#[derive(Clone, Copy)]
 pub(crate) enum Args {
     Empty,
     One(Value),

@@ -16,7 +16,7 @@ use crate::primitives::{Guard, Kind};
 use ev_base::Value;
 
 /// What a native guard answers for a specimen.
-#[derive(Clone, Copy, PartialEq, Eq)]
+#[derive(Clone, Copy)]
 pub enum Taken {
     Takes(Value),
     Refuses,

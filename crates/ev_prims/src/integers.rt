@@ -65,7 +65,7 @@ fn as_char(number: i128) -> Reply
 }
 
 /// A verb of an integer without arguments.
-#[derive(Clone, Copy, PartialEq, Eq)]
+#[derive(Clone, Copy)]
 pub(crate) enum AloneVerb {
     Negate,
     ToChar,

@@ -13,7 +13,7 @@ use ev_heap::Heap;
 use std::cmp::Ordering;
 
 /// A test of an order.
-#[derive(Clone, Copy, PartialEq, Eq)]
+#[derive(Clone, Copy)]
 pub enum Test {
     LessThan,
     /// Less than the other, or as big.

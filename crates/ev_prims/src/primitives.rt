@@ -15,7 +15,7 @@ use ev_base::{PrimId, Value};
 const FIRST_WITH_NULL: u8 = 32;
 
 /// What a native guard wants.
-#[derive(Clone, Copy, PartialEq, Eq)]
+#[derive(Clone, Copy)]
 pub enum Kind {
     Any,
     Void,
@@ -30,14 +30,14 @@ pub enum Kind {
 }
 
 /// A native guard: what it wants, and whether null will do as well.
-#[derive(Clone, Copy, PartialEq, Eq)]
+#[derive(Clone, Copy)]
 pub struct Guard {
     pub kind: Kind,
     pub or_null: bool,
 }
 
 /// By what a native auditor judges an object: by the object's free names.
-#[derive(Clone, Copy, PartialEq, Eq)]
+#[derive(Clone, Copy)]
 pub enum Rule {
     /// Each is a safe name, the object's own name, or bound finally under a frozen guard.
     DeepFrozen,
@@ -48,7 +48,7 @@ pub enum Rule {
 }
 
 /// A primitive of the safe scope.
-#[derive(Clone, Copy, PartialEq, Eq)]
+#[derive(Clone, Copy)]
 pub enum Primitive {
     MakeList,
     Equalizer,

@@ -6,7 +6,7 @@ ghost use Rattle.ev_prims.specs.Problems.{problem_words};
 use ev_integer::NumFault;
 
 /// Why a native method gives no value. What a program is told of it is its text, `as_str`.
-#[derive(Clone, Copy, PartialEq, Eq)]
+#[derive(Clone, Copy)]
 pub enum Problem {
     /// The value answers no such verb with so many arguments.
     NoMethod,

@@ -14,7 +14,7 @@ pub(crate) fn is_verb(verb: &str, name: &str) -> bool
 }
 
 /// A verb of a text or a list with one argument.
-#[derive(Clone, Copy, PartialEq, Eq)]
+#[derive(Clone, Copy)]
 pub(crate) enum SeqVerb {
     /// The member at an index.
     Get,

@@ -16,7 +16,7 @@ use ev_pass::Stop;
 use ev_refs::Standing;
 
 /// What a vat's connections and names tell of a note that comes in, besides what its inside and the gifts that it hosts tell.
-#[derive(Clone, Copy, PartialEq, Eq)]
+#[derive(Clone, Copy)]
 pub struct Sight {
     /// Of a gift that is asked for and is there: whether its name has a number for the sender, who was told of it then.
     pub numbered: bool,

@@ -9,7 +9,7 @@ use crate::refs::Refs;
 use ev_base::{PromId, TextId, Value, VatId};
 
 /// Where a followed value is.
-#[derive(Clone, Copy, PartialEq, Eq)]
+#[derive(Clone, Copy)]
 pub enum Place {
     /// Data that is not broken, or an object of this vat.
     Near,
@@ -24,7 +24,7 @@ pub enum Place {
 }
 
 /// Where a name leads in one step.
-#[derive(Clone, Copy, PartialEq, Eq)]
+#[derive(Clone, Copy)]
 enum Step {
     Stays,
     /// To another name.

@@ -10,7 +10,7 @@ use std::alloc::Global;
 use std::mem;
 
 /// How a name stands at a vat.
-#[derive(Clone, Copy, Debug, PartialEq, Eq)]
+#[derive(Clone, Copy)]
 pub enum Standing {
     Unsettled,
     /// It waits on another name.

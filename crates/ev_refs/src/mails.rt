@@ -8,7 +8,7 @@ use crate::refs::Refs;
 use ev_base::{Memory, MsgId, PromId, VatId};
 
 /// The number of a new message, and the name of its answer.
-#[derive(Clone, Copy, PartialEq, Eq)]
+#[derive(Clone, Copy)]
 pub struct Fresh {
     pub id: MsgId,
     pub answer: PromId,

@@ -10,7 +10,7 @@ use ev_base::{TextId, Value};
 use ev_prims::RefTest;
 
 /// What `Ref` answers of a value.
-#[derive(Clone, Copy, PartialEq, Eq)]
+#[derive(Clone, Copy)]
 pub enum RefReply {
     Says(Value),
     /// It throws this problem, of a broken value.

@@ -14,7 +14,7 @@ use ev_prims::{Guard, Kind, Primitive, Problem, Reply, primitive_of};
 const FIRST_WITH_NULL: u8 = 32;
 
 /// What comes of a coercion.
-#[derive(Clone, Copy, PartialEq, Eq)]
+#[derive(Clone, Copy)]
 pub enum Coerced {
     /// It gives this value.
     Takes(Value),

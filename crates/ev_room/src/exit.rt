@@ -6,7 +6,7 @@ ghost use Rattle.ev_room.specs.Acts.{unless_stopped};
 use ev_base::{Memory, ObjId, TextId, Value};
 
 /// Why evaluation gave no value.
-#[derive(Clone, Copy, PartialEq, Eq)]
+#[derive(Clone, Copy)]
 pub enum Exit {
     /// A problem was thrown.
     Thrown(TextId),
@@ -35,7 +35,7 @@ impl From<Memory> for Exit {
 }
 
 /// How something came to an end that did not stop.
-#[derive(Clone, Copy, PartialEq, Eq)]
+#[derive(Clone, Copy)]
 pub enum Came {
     /// It gave a value.
     Gave(Value),

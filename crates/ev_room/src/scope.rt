@@ -13,7 +13,7 @@ use std::alloc::Global;
 pub const NO_GUARD: GuardKind = GuardKind::Native(PrimId(8));
 
 /// What a noun stands for.
-#[derive(Clone, Copy, PartialEq, Eq)]
+#[derive(Clone, Copy)]
 pub enum Bound {
     /// A value, for good, and the guard under which it was bound.
     Fixed { value: Value, guard: GuardKind },

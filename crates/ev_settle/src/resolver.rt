@@ -10,7 +10,7 @@ use ev_base::{PromId, Value};
 use ev_pass::{Interior, Stop};
 
 /// How a call on a resolver ends.
-#[derive(Clone, Copy, PartialEq, Eq)]
+#[derive(Clone, Copy)]
 pub enum Resolution {
     /// It answers null.
     Resolved,

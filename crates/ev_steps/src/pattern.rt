@@ -21,7 +21,7 @@ use ev_room::tree::node_at;
 use ev_word::Word;
 
 /// Whether a pattern was bound at once, or is to be bound later.
-#[derive(Clone, Copy, PartialEq, Eq)]
+#[derive(Clone, Copy)]
 pub enum Early {
     Bound,
     Later,
