@@ -3,7 +3,7 @@ use Rattle.std.proofs.Common.{◌≡◌, ℕ, Bool, true, false, List, [], ◌�
 use Rattle.std.specs.Prelude.{nat_le}
 use Rattle.std.proofs.lemmas.Bool.{eq-eqb}
 use Rattle.def_machine.specs.Values.{Words, Value, Broken, Naming}
-use Rattle.def_machine.specs.State.{ListCame, Sends, Reacts, Thing, Audition, Ejector, See, Settle, Message, Happened, Took, Called, Back, Thrown, Left, EjectorMade, AuditionMade, Settles, Views, Vat, Stop, Done, Gives, Throws, Ejects, Stops, Act, ◌>>=◌, ◌>>◌, and_then, end_by, ending, give, throw, stop, eject, look, tell, spend, spent, new_activation, new_thing, kill, new_slot, write_slot, new_list, enqueue, Change, send_out, new_gift, open_gift, mark, draws, alter, come, mail, new_promise, new_message, draw, new_lone_message}
+use Rattle.def_machine.specs.State.{ListCame, Sends, Reacts, Thing, Made, Resolver, Audition, Ejector, See, Settle, Message, Happened, Took, Called, Back, Thrown, Left, EjectorMade, AuditionMade, Settles, Views, Vat, Stop, Done, Gives, Throws, Ejects, Stops, Act, ◌>>=◌, ◌>>◌, and_then, end_by, ending, give, throw, stop, eject, look, tell, spend, spent, new_activation, new_thing, kill, new_slot, write_slot, new_list, enqueue, Change, send_out, new_gift, open_gift, mark, draws, alter, come, mail, new_promise, new_message, draw, new_lone_message}
 use Rattle.def_machine.specs.Scopes.{ended}
 use Rattle.def_kernel.specs.declared.node.Node.{Node}
 use Rattle.law_machine.proofs.Walks.{Property, Holds, IsClosed, IsEnding, IsOfRefs, IsOfEval, InRefs, InRefsUnder, InSettling, InSending, InArrive, InArriveUnder, InEval, InEvalUnder, walk_then}
@@ -208,7 +208,7 @@ module _ {N : Type 0} where
     tells = λ e h. nests_tell e (of_eval e h);
     spends = nests_spend;
     activates = record { after = λ s. refl };
-    makes = λ t h. record { after = λ s. refl };
+    objects = λ node caught stamps. record { after = λ s. refl };
     slots = λ g v. record { after = λ s. refl };
     writes = λ n v. record { after = λ s. refl };
     lists = λ vs. record { after = λ s. refl };
@@ -254,6 +254,7 @@ module _ {N : Type 0} where
     pub nests_in_eval_under : (tree : List Node) → InEvalUnder NestsBy K tree
     nests_in_eval_under tree = record {
       promises = promises;
+      resolvers = λ p. things (Resolver p);
       audits = λ act view {m} {f} h k. audits_by_kills NestsBy nests_closed nests_ends K tree kills act view m f (things (Audition true view)) (λ n. nests_tell (AuditionMade act (K.object n)) tt) h k;
       escapes = λ act {f} {g} {h} {m} x y z w. escapes_by_kills NestsBy nests_closed nests_ends K tree kills act f g h m (things (Ejector true)) (λ n. nests_tell (EjectorMade act (K.object n)) tt) x y z w;
       breaks = λ p t. walk_settle NestsBy K nests_closed nests_in_refs nests_in_refs_under nests_settling p (Broken t);

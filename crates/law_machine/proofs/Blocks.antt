@@ -1,7 +1,7 @@
 -- Blocks that hold by their parts, and all that holds where each single change does.
 use Rattle.std.proofs.Common.{ℕ, true, List, None, Some}
 use Rattle.def_machine.specs.Values.{Words, Value, Broken, Naming, Coming, Mailing}
-use Rattle.def_machine.specs.State.{Took, Sends, Reacts, Lost, Posted, Thing, Ejector, Audition, View, Message, Note, Ask, Shorten, ListCame, Happened, Called, Back, Thrown, Left, EjectorMade, AuditionMade, Settles, Views, Change, See, Settle, Standing, Unsettled, Act, ◌>>=◌, ◌>>◌, ending, look, tell, spend, new_activation, new_thing, new_slot, write_slot, new_list, enqueue, send_out, new_gift, open_gift, mark, alter, come, mail, new_promise, new_message, new_lone_message, draw, kill}
+use Rattle.def_machine.specs.State.{Took, Sends, Reacts, Lost, Posted, Thing, Made, Resolver, Ejector, Audition, View, Message, Note, Ask, Shorten, ListCame, Happened, Called, Back, Thrown, Left, EjectorMade, AuditionMade, Settles, Views, Change, See, Settle, Standing, Unsettled, Act, ◌>>=◌, ◌>>◌, ending, look, tell, spend, new_activation, new_thing, new_slot, write_slot, new_list, enqueue, send_out, new_gift, open_gift, mark, alter, come, mail, new_promise, new_message, new_lone_message, draw, kill}
 use Rattle.def_machine.specs.Refs.{settle, resolve, send, send_only, react, standing_of}
 use Rattle.def_machine.specs.Scopes.{ended}
 use Rattle.def_machine.specs.Calls.{leave, leaving, new_ejector, where_unresolved}
@@ -89,7 +89,7 @@ module _ {N : Type 0} (P : Property N) (base : IsClosed P) (ending' : IsEnding P
     tells = λ e h. law.tells e (of_turn e h);
     spends = law.spends;
     activates = law.activates;
-    makes = λ t h. law.makes t;
+    objects = λ node caught stamps. law.makes (Made node caught stamps);
     slots = law.slots;
     writes = law.writes;
     lists = law.lists;
@@ -100,6 +100,7 @@ module _ {N : Type 0} (P : Property N) (base : IsClosed P) (ending' : IsEnding P
   pub turn_eval_under : {W : Type 0} (K : Naming N W) (tree : List Node) → TurnRefs P K → ((p : N) (y : Value N) → Holds P (look (λ s. standing_of K s.known p) >>= λ w. where_unresolved K tree w (resolve K p y))) → InEvalUnder P K tree
   turn_eval_under K tree refs resolves = record {
     promises = refs.promises;
+    resolvers = λ p. law.makes (Resolver p);
     audits = λ act view {m} {f} h k. audits_by_kills P base ending' K tree law.kills act view m f (law.makes (Audition true view)) (λ n. law.tells (AuditionMade act (K.object n)) tt) h k;
     escapes = λ act {f} {g} {h} {m} x y z w. escapes_by_kills P base ending' K tree law.kills act f g h m (law.makes (Ejector true)) (λ n. law.tells (EjectorMade act (K.object n)) tt) x y z w;
     breaks = refs.breaks;

@@ -11,7 +11,7 @@ use Rattle.def_machine.specs.Eval as eval
 use Rattle.def_machine.specs.Scopes.{Answer, Evaluator, Caller, Case}
 use Rattle.def_kernel.specs.declared.node.Node.{Node}
 use Rattle.law_machine.proofs.Walks.{where_some}
-use Rattle.law_machine.proofs.Walks.{InEval, InEvalUnder}
+use Rattle.law_machine.proofs.Walks.{InEval, InEvalUnder, InNodes}
 use Rattle.law_machine.proofs.Blocks.{eval_of, eval_under_of, leaves}
 use Rattle.law_machine.proofs.EvalWalk as walk
 use Rattle.law_machine.proofs.EvalWalk.{eval_walks}
@@ -38,50 +38,53 @@ module _ {N W : Type 0} (K : Naming N W) (R : Vat N → Vat N → Type 0) (base 
   pub keeps_in_eval_under : InEvalUnder (KeepsBy R) K tree
   keeps_in_eval_under = eval_under_of (KeepsBy R) (keeps_closed R base) (keeps_singles R base) K (keeps_singles_under R base K law) (keeps_ends R base) tree
 
+  pub keeps_in_nodes : InNodes (KeepsBy R) K tree
+  keeps_in_nodes = walk.in_nodes (KeepsBy R) K tree (keeps_closed R base) (keeps_ends R base) (keeps_in_eval R base) keeps_in_eval_under
+
   pub keeps_iterate : (x1 : Caller N) → GoodCaller R x1 → (x2 : ℕ) → (x3 : Value N) → (x4 : ℕ) → (x5 : List (Value N)) → Keeps R (perform.iterate K tree x1 x2 x3 x4 x5)
-  keeps_iterate = walk.walk_iterate (KeepsBy R) K tree (keeps_closed R base) (keeps_ends R base) (keeps_in_eval R base) keeps_in_eval_under
+  keeps_iterate = walk.walk_iterate (KeepsBy R) K tree (keeps_closed R base) (keeps_ends R base) (keeps_in_eval R base) keeps_in_nodes
 
   pub keeps_turns : (x1 : ℕ) → (x2 : Act N (Value N)) → Keeps R x2 → Keeps R (perform.turns K tree x1 x2)
-  keeps_turns = walk.walk_turns (KeepsBy R) K tree (keeps_closed R base) (keeps_ends R base) (keeps_in_eval R base) keeps_in_eval_under
+  keeps_turns = walk.walk_turns (KeepsBy R) K tree (keeps_closed R base) (keeps_ends R base) (keeps_in_eval R base) keeps_in_nodes
 
   pub keeps_ask_all : (x1 : Caller N) → GoodCaller R x1 → (x2 : ℕ) → (x3 : View N) → (x4 : List (Value N)) → Keeps R (calls.ask_all K tree x1 x2 x3 x4)
-  keeps_ask_all = walk.walk_ask_all (KeepsBy R) K tree (keeps_closed R base) (keeps_ends R base) (keeps_in_eval R base) keeps_in_eval_under
+  keeps_ask_all = walk.walk_ask_all (KeepsBy R) K tree (keeps_closed R base) (keeps_ends R base) (keeps_in_eval R base) keeps_in_nodes
 
   pub keeps_build : (x1 : ℕ) → (x2 : List Item) → (x3 : List (List (Value N))) → Keeps R (calls.build K tree x1 x2 x3)
-  keeps_build = walk.walk_build (KeepsBy R) K tree (keeps_closed R base) (keeps_ends R base) (keeps_in_eval R base) keeps_in_eval_under
+  keeps_build = walk.walk_build (KeepsBy R) K tree (keeps_closed R base) (keeps_ends R base) (keeps_in_eval R base) keeps_in_nodes
 
   pub keeps_bind_all : (x1 : Evaluator N) → GoodEvaluator R x1 → (x2 : List ℕ) → (x3 : List (Value N)) → (x4 : Value N) → (x5 : Scope N) → Keeps R (calls.bind_all K tree x1 x2 x3 x4 x5)
-  keeps_bind_all = walk.walk_bind_all (KeepsBy R) K tree (keeps_closed R base) (keeps_ends R base) (keeps_in_eval R base) keeps_in_eval_under
+  keeps_bind_all = walk.walk_bind_all (KeepsBy R) K tree (keeps_closed R base) (keeps_ends R base) (keeps_in_eval R base) keeps_in_nodes
 
   pub keeps_match_all : (x1 : Evaluator N) → GoodEvaluator R x1 → (x2 : List Case) → (x3 : Value N) → (x4 : Scope N) → Keeps R (calls.match_all K tree x1 x2 x3 x4)
-  keeps_match_all = walk.walk_match_all (KeepsBy R) K tree (keeps_closed R base) (keeps_ends R base) (keeps_in_eval R base) keeps_in_eval_under
+  keeps_match_all = walk.walk_match_all (KeepsBy R) K tree (keeps_closed R base) (keeps_ends R base) (keeps_in_eval R base) keeps_in_nodes
 
   pub keeps_call_at : (x1 : ℕ) → (x2 : Evaluator N) → GoodEvaluator R x2 → (x3 : ℕ) → (x4 : Value N) → (x5 : Words) → (x6 : List (Value N)) → Keeps R (calls.call_at K tree x1 x2 x3 x4 x5 x6)
-  keeps_call_at = walk.walk_call_at (KeepsBy R) K tree (keeps_closed R base) (keeps_ends R base) (keeps_in_eval R base) keeps_in_eval_under
+  keeps_call_at = walk.walk_call_at (KeepsBy R) K tree (keeps_closed R base) (keeps_ends R base) (keeps_in_eval R base) keeps_in_nodes
 
   pub keeps_call : (x1 : Evaluator N) → GoodEvaluator R x1 → (x2 : ℕ) → (x3 : Value N) → (x4 : Words) → (x5 : List (Value N)) → Keeps R (calls.call K tree x1 x2 x3 x4 x5)
-  keeps_call = walk.walk_call (KeepsBy R) K tree (keeps_closed R base) (keeps_ends R base) (keeps_in_eval R base) keeps_in_eval_under
+  keeps_call = walk.walk_call (KeepsBy R) K tree (keeps_closed R base) (keeps_ends R base) (keeps_in_eval R base) keeps_in_nodes
 
   pub keeps_turn_value : (x1 : Evaluator N) → GoodEvaluator R x1 → (x2 : ℕ) → (x3 : Value N) → (x4 : Words) → (x5 : List (Value N)) → Keeps R (calls.turn_value K tree x1 x2 x3 x4 x5)
-  keeps_turn_value = walk.walk_turn_value (KeepsBy R) K tree (keeps_closed R base) (keeps_ends R base) (keeps_in_eval R base) keeps_in_eval_under
+  keeps_turn_value = walk.walk_turn_value (KeepsBy R) K tree (keeps_closed R base) (keeps_ends R base) (keeps_in_eval R base) keeps_in_nodes
 
   pub keeps_all_of : (x1 : Evaluator N) → GoodEvaluator R x1 → (x2 : List ℕ) → (x3 : Scope N) → Keeps R (eval.all_of K tree x1 x2 x3)
-  keeps_all_of = walk.walk_all_of (KeepsBy R) K tree (keeps_closed R base) (keeps_ends R base) (keeps_in_eval R base) keeps_in_eval_under
+  keeps_all_of = walk.walk_all_of (KeepsBy R) K tree (keeps_closed R base) (keeps_ends R base) (keeps_in_eval R base) keeps_in_nodes
 
   pub keeps_last_of : (x1 : Evaluator N) → GoodEvaluator R x1 → (x2 : Answer N) → (x3 : List ℕ) → Keeps R (eval.last_of K tree x1 x2 x3)
-  keeps_last_of = walk.walk_last_of (KeepsBy R) K tree (keeps_closed R base) (keeps_ends R base) (keeps_in_eval R base) keeps_in_eval_under
+  keeps_last_of = walk.walk_last_of (KeepsBy R) K tree (keeps_closed R base) (keeps_ends R base) (keeps_in_eval R base) keeps_in_nodes
 
   pub keeps_unmatched : (x1 : List BoundNoun) → (x2 : Scope N) → Keeps R (eval.unmatched K tree x1 x2)
-  keeps_unmatched = walk.walk_unmatched (KeepsBy R) K tree (keeps_closed R base) (keeps_ends R base) (keeps_in_eval R base) keeps_in_eval_under
+  keeps_unmatched = walk.walk_unmatched (KeepsBy R) K tree (keeps_closed R base) (keeps_ends R base) (keeps_in_eval R base) keeps_in_nodes
 
   pub keeps_step_found : (x1 : Evaluator N) → GoodEvaluator R x1 → (x2 : ℕ) → (x3 : Option Node) → (x4 : Scope N) → Keeps R (eval.step_found K tree x1 x2 x3 x4)
-  keeps_step_found = walk.walk_step_found (KeepsBy R) K tree (keeps_closed R base) (keeps_ends R base) (keeps_in_eval R base) keeps_in_eval_under
+  keeps_step_found = walk.walk_step_found (KeepsBy R) K tree (keeps_closed R base) (keeps_ends R base) (keeps_in_eval R base) keeps_in_nodes
 
   pub keeps_bind_found : (x1 : Evaluator N) → GoodEvaluator R x1 → (x2 : Option Node) → (x3 : Value N) → (x4 : Value N) → (x5 : Scope N) → Keeps R (eval.bind_found K tree x1 x2 x3 x4 x5)
-  keeps_bind_found = walk.walk_bind_found (KeepsBy R) K tree (keeps_closed R base) (keeps_ends R base) (keeps_in_eval R base) keeps_in_eval_under
+  keeps_bind_found = walk.walk_bind_found (KeepsBy R) K tree (keeps_closed R base) (keeps_ends R base) (keeps_in_eval R base) keeps_in_nodes
 
   pub good_evaluator : (d : ℕ) → GoodEvaluator R (eval.evaluator K tree d)
-  good_evaluator = walk.good_evaluator (KeepsBy R) K tree (keeps_closed R base) (keeps_ends R base) (keeps_in_eval R base) keeps_in_eval_under
+  good_evaluator = walk.good_evaluator (KeepsBy R) K tree (keeps_closed R base) (keeps_ends R base) (keeps_in_eval R base) keeps_in_nodes
 
   pub keeps_closes : (act : ℕ) (o : Option N) (m : Act N (Value N)) → Keeps R m → Keeps R (eval.closes K tree act o m)
   keeps_closes act o m h = walk.walk_closes (KeepsBy R) K tree (keeps_closed R base) (keeps_ends R base) (keeps_in_eval R base) keeps_in_eval_under act o (where_some _ (keeps_resolve K R base law) o) m h
@@ -103,7 +106,7 @@ module _ {N W : Type 0} (K : Naming N W) (R : Vat N → Vat N → Type 0) (base 
   unfolding calls.new_ejector
   keeps_new_ejector act = search (keeps) depth 14
 
-  ruleset parts = (keeps_refs, keeps_leave, eval_walks, keeps_ends, keeps_in_eval, keeps_in_eval_under)
+  ruleset parts = (keeps_refs, keeps_leave, eval_walks, keeps_ends, keeps_in_eval, keeps_in_nodes)
 
   pub keeps_matched : (x1 : Evaluator N) → GoodEvaluator R x1 → (x2 : ℕ) → (x3 : ℕ) → (x4 : ℕ) → (x5 : Act N (Value N)) → Keeps R x5 → (x6 : Act N (Scope N)) → Keeps R x6 → Keeps R (calls.matched K tree x1 x2 x3 x4 x5 x6)
   unfolding calls.matched
@@ -117,4 +120,4 @@ module _ {N W : Type 0} (K : Naming N W) (R : Vat N → Vat N → Type 0) (base 
   unfolding eval.match_ended
   keeps_match_ended j p here m h4 = search (parts) depth 16
 
-pub ruleset keeps_eval = (keeps_refs, keeps_ended, keeps_leave, keeps_leaving, keeps_new_ejector, keeps_matched, keeps_escaped, keeps_match_ended, eval_walks, keeps_ends, keeps_in_eval, keeps_in_eval_under)
+pub ruleset keeps_eval = (keeps_refs, keeps_ended, keeps_leave, keeps_leaving, keeps_new_ejector, keeps_matched, keeps_escaped, keeps_match_ended, eval_walks, keeps_ends, keeps_in_eval, keeps_in_nodes)

@@ -1,8 +1,8 @@
 -- All of evaluation has what each change and block of it has.
 use Rattle.std.proofs.Common.{ℕ, zero, suc, Bool, true, false, List, [], ◌∷◌, Option, Some, None, codes, if◌then◌else◌, ◌==◌}
 use Rattle.def_machine.specs.Values.{Words, Value, Null, Flag, Text, Prim, Broken, Items, Ref, Naming, Spot, Own}
-use Rattle.def_machine.specs.State.{Bound, Slot, Scope, Binding, Cell, View, Thing, Made, Ejector, Resolver, Message, Standing, Unsettled, Act, Took, Got, SlotMade, SlotRead, SlotWrote, ListMade, PromiseMade, ObjectMade, Finished, Threw, ◌>>=◌, ◌>>◌, give, throw, eject, ending, tell, spend, new_activation, new_thing, new_slot, write_slot, new_list, new_promise, for_some, WhereSome}
-use Rattle.def_machine.specs.Refs.{Place, Near, settle, resolve, send, send_only, react}
+use Rattle.def_machine.specs.State.{Bound, Slot, Scope, Binding, Cell, View, Thing, Made, Ejector, Audition, Resolver, Message, Standing, Unsettled, Act, Took, Got, SlotMade, SlotRead, SlotWrote, ListMade, PromiseMade, ObjectMade, Finished, Threw, ◌>>=◌, ◌>>◌, give, throw, eject, ending, tell, spend, new_activation, new_thing, new_slot, write_slot, new_list, new_promise, for_some, WhereSome}
+use Rattle.def_machine.specs.Refs.{Place, Near, follow, standing_of, settle, resolve, send, send_only, react}
 use Rattle.def_machine.specs.Form.{Item, Begin, End, Word, Fact}
 use Rattle.def_machine.specs.Free.{BoundNoun}
 use Rattle.def_machine.specs.Native.{Reply, Writes, Guard, Asked, MakesList}
@@ -13,7 +13,8 @@ use Rattle.def_machine.specs.Eval as eval
 use Rattle.def_machine.specs.Scopes.{Answer, Evaluator, Caller, Body, Case, AuditionAsk, GetsForm, NoAuditionAsk, ResolverAsk, Resolves, Smashes, NoResolverAsk}
 use Rattle.def_kernel.specs.declared.node.Node.{Node}
 use Rattle.def_kernel.specs.declared.node.Node.TheVariants.{Escape, MatchBind, Any}
-use Rattle.law_machine.proofs.Walks.{Property, Holds, IsClosed, IsEnding, InEval, InEvalUnder, walk, walk_bind}
+use Rattle.std.specs.Prelude.{slice_get}
+use Rattle.law_machine.proofs.Walks.{Property, Holds, IsClosed, IsEnding, IsNoResolver, InEval, InEvalUnder, InNodes, walk, walk_bind, walk_look}
 
 module _ {N : Type 0} (P : Property N) (law : IsEnding P) where
   pub eval_throw : {A : Type 0} (p : Words) → Holds P (throw {A = A} p)
@@ -61,10 +62,7 @@ module _ {N : Type 0} (P : Property N) (law : InEval P) where
   eval_activation = law.activates
 
   pub eval_object : (node : ℕ) (caught : List (Binding N)) (stamps : List (Value N)) → Holds P (new_thing (Made node caught stamps))
-  eval_object node caught stamps = law.makes (Made node caught stamps) tt
-
-  pub eval_resolver : (p : N) → Holds P (new_thing (Resolver p))
-  eval_resolver p = law.makes (Resolver p) tt
+  eval_object node caught stamps = law.objects node caught stamps
 
   pub eval_slot : (g v : Value N) → Holds P (new_slot g v)
   eval_slot g v = law.slots g v
@@ -75,13 +73,7 @@ module _ {N : Type 0} (P : Property N) (law : InEval P) where
   pub eval_list : (vs : List (Value N)) → Holds P (new_list vs)
   eval_list vs = law.lists vs
 
-module _ {N W : Type 0} (P : Property N) (K : Naming N W) (tree : List Node) (under : InEvalUnder P K tree) where
-  pub eval_promise : Holds P (new_promise K)
-  eval_promise = under.promises
-
-  pub eval_break : (p : N) (t : Words) → Holds P (settle K p (Broken t))
-  eval_break p t = under.breaks p t
-
+module _ {N W : Type 0} (P : Property N) (K : Naming N W) (tree : List Node) (under : InNodes P K tree) where
   pub eval_send : (act : ℕ) (x : Value N) (verb : Words) (args : List (Value N)) → Holds P (send K act x verb args)
   eval_send act x verb args = under.sends act x verb args
 
@@ -91,7 +83,7 @@ module _ {N W : Type 0} (P : Property N) (K : Naming N W) (tree : List Node) (un
   pub eval_react : (act : ℕ) (x o near : Value N) → Holds P (react K act x o near)
   eval_react act x o near = under.reacts act x o near
 
-pub ruleset eval_walk = (walk, tells_got, tells_slot_made, tells_slot_read, tells_slot_wrote, tells_list_made, tells_promise_made, tells_object_made, tells_finished, tells_threw, eval_throw, eval_eject, eval_ending, eval_spend, eval_activation, eval_object, eval_resolver, eval_slot, eval_write, eval_list, eval_promise)
+pub ruleset eval_walk = (walk, tells_got, tells_slot_made, tells_slot_read, tells_slot_wrote, tells_list_made, tells_promise_made, tells_object_made, tells_finished, tells_threw, eval_throw, eval_eject, eval_ending, eval_spend, eval_activation, eval_object, eval_slot, eval_write, eval_list)
 
 -- a call has it, whatever is called
 abbrev pub GoodCaller : {N : Type 0} → Property N → Caller N → Type 0
@@ -121,7 +113,32 @@ module _ {N : Type 0} (P : Property N) (base : IsClosed P) (law : InEval P) wher
   unfolding scopes.with_lines
   walk_with_lines act x verb args m h5 = law.calls act x verb args h5
 
-module _ {N W : Type 0} (P : Property N) (K : Naming N W) (tree : List Node) (base : IsClosed P) (ending' : IsEnding P) (law : InEval P) (under : InEvalUnder P K tree) where
+-- what a resolver answers
+module _ {N W : Type 0} (P : Property N) (K : Naming N W) (tree : List Node) (under : InNodes P K tree) where
+  smash_by_resolver : (p : N) → (x2 : Value N) → Holds (under.by_resolver p) (calls.smash K tree p x2)
+  unfolding calls.smash
+  smash_by_resolver p (Text t) = under.breaks p t
+  smash_by_resolver p other = (under.ends p).throws (codes "bad argument")
+
+  answer_by_resolver : (p : N) → (x2 : ResolverAsk N) → Holds (under.by_resolver p) (calls.resolver_answer K tree p x2)
+  unfolding calls.resolver_answer
+  answer_by_resolver p (Resolves x) = under.resolves p x
+  answer_by_resolver p (Smashes x) = walk_bind (under.by_resolver p) (under.closed p) (walk_look (under.by_resolver p) (under.closed p) (λ s. follow K s x)) (λ y. smash_by_resolver p y)
+  answer_by_resolver p NoResolverAsk = (under.ends p).throws (codes "no method")
+
+  thing_by_resolver : (again : Caller N) (act i : ℕ) (p : N) (verb : Words) (args : List (Value N)) → Holds (under.by_resolver p) (calls.thing_answer K tree again act i (Resolver p) verb args)
+  unfolding calls.thing_answer
+  thing_by_resolver again act i p verb args = answer_by_resolver p (scopes.resolver_ask verb args)
+
+  call_by_resolver : (rec : Evaluator N) (again : Caller N) (act : ℕ) (x : Value N) (i : ℕ) (p : N) (verb : Words) (args : List (Value N)) → Holds (under.by_resolver p) (calls.call_thing K tree rec again act x i (Some (Resolver p)) verb args)
+  unfolding calls.call_thing scopes.with_lines
+  call_by_resolver rec again act x i p verb args = under.calls p act x verb args (thing_by_resolver again act i p verb args)
+
+  turn_by_resolver : (rec : Evaluator N) (act i : ℕ) (p : N) (verb : Words) (args : List (Value N)) → Holds (under.by_resolver p) (calls.turn_thing K tree rec act i (Some (Resolver p)) verb args)
+  unfolding calls.turn_thing
+  turn_by_resolver rec act i p verb args = thing_by_resolver (calls.call K tree rec) act i p verb args
+
+module _ {N W : Type 0} (P : Property N) (K : Naming N W) (tree : List Node) (base : IsClosed P) (ending' : IsEnding P) (law : InEval P) (under : InNodes P K tree) where
   pub walk_fail_by : {A : Type 0} → (x1 : Caller N) → GoodCaller P x1 → (x2 : ℕ) → (x3 : Value N) → (x4 : Words) → (x5 : Bool) → Holds P (perform.fail_by K tree {A = A} x1 x2 x3 x4 x5)
   unfolding perform.fail_by
   walk_fail_by again h1 act j p true = search (eval_walk) depth 14
@@ -208,7 +225,7 @@ module _ {N W : Type 0} (P : Property N) (K : Naming N W) (tree : List Node) (ba
 
   pub walk_make_promise : (x1 : ℕ) → Holds P (perform.make_promise K tree x1)
   unfolding perform.make_promise
-  walk_make_promise act = search (eval_walk, walk_make_list) depth 14
+  walk_make_promise act = under.promises {f = λ p r. tell (PromiseMade act p (K.object r)) >> perform.make_list K tree act (Ref p ∷ Ref (K.object r) ∷ [])} (λ p r. search (eval_walk, walk_make_list) depth 14)
 
   pub walk_react_near : (x1 : ℕ) → (x2 : Value N) → (x3 : Value N) → (x4 : Value N) → (x5 : Place N) → Holds P (perform.react_near K tree x1 x2 x3 x4 x5)
   unfolding perform.react_near
@@ -279,22 +296,6 @@ module _ {N W : Type 0} (P : Property N) (K : Naming N W) (tree : List Node) (ba
   walk_ejector_answer i true (Some v) = search (eval_walk) depth 14
   walk_ejector_answer i false (Some v) = search (eval_walk) depth 14
 
-  pub walk_where_unresolved : (x1 : Standing N) → (x2 : Act N (Unit {0})) → Holds P x2 → Holds P (calls.where_unresolved K tree x1 x2)
-  unfolding calls.where_unresolved
-  walk_where_unresolved Unsettled m h2 = search (eval_walk) depth 14
-  walk_where_unresolved _ m h2 = search (eval_walk) depth 14
-
-  pub walk_smash : (x1 : N) → (x2 : Value N) → Holds P (calls.smash K tree x1 x2)
-  unfolding calls.smash
-  walk_smash p (Text t) = search (eval_walk, walk_where_unresolved, eval_break) depth 14
-  walk_smash p _ = search (eval_walk) depth 14
-
-  pub walk_resolver_answer : (x1 : N) → (x2 : ResolverAsk N) → Holds P (calls.resolver_answer K tree x1 x2)
-  unfolding calls.resolver_answer
-  walk_resolver_answer p (Resolves x) = under.resolves p x
-  walk_resolver_answer p (Smashes x) = search (eval_walk, walk_smash) depth 14
-  walk_resolver_answer p NoResolverAsk = search (eval_walk) depth 14
-
   pub walk_bind_all : (x1 : Evaluator N) → GoodEvaluator P x1 → (x2 : List ℕ) → (x3 : List (Value N)) → (x4 : Value N) → (x5 : Scope N) → Holds P (calls.bind_all K tree x1 x2 x3 x4 x5)
   unfolding calls.bind_all
   walk_bind_all rec good [] vs j here = search eval_walk
@@ -330,20 +331,21 @@ module _ {N W : Type 0} (P : Property N) (K : Naming N W) (tree : List Node) (ba
   unfolding calls.run_object
   walk_run_object rec good members verb args here = search (eval_walk, walk_run_body) depth 14
 
-  pub walk_thing_answer : (x1 : Caller N) → GoodCaller P x1 → (x2 : ℕ) → (x3 : ℕ) → (x4 : Thing N) → (x5 : Words) → (x6 : List (Value N)) → Holds P (calls.thing_answer K tree x1 x2 x3 x4 x5 x6)
+  pub walk_thing_answer : (x1 : Caller N) → GoodCaller P x1 → (x2 : ℕ) → (x3 : ℕ) → (x4 : Thing N) → IsNoResolver (Some x4) → (x5 : Words) → (x6 : List (Value N)) → Holds P (calls.thing_answer K tree x1 x2 x3 x4 x5 x6)
   unfolding calls.thing_answer
-  walk_thing_answer again h1 act i (Ejector live) verb args = search (eval_walk, walk_ejector_answer, walk_audition_answer, walk_resolver_answer) depth 14
-  walk_thing_answer again h1 act i other verb args = search (eval_walk, walk_ejector_answer, walk_audition_answer, walk_resolver_answer) depth 14
+  walk_thing_answer again h1 act i (Resolver p) plain verb args = absurd plain
+  walk_thing_answer again h1 act i (Ejector live) plain verb args = search (eval_walk, walk_ejector_answer) depth 14
+  walk_thing_answer again h1 act i other plain verb args = search (eval_walk, walk_audition_answer) depth 14
 
-  pub walk_call_thing : (x1 : Evaluator N) → GoodEvaluator P x1 → (x2 : Caller N) → GoodCaller P x2 → (x3 : ℕ) → (x4 : Value N) → (x5 : ℕ) → (x6 : Option (Thing N)) → (x7 : Words) → (x8 : List (Value N)) → Holds P (calls.call_thing K tree x1 x2 x3 x4 x5 x6 x7 x8)
+  pub walk_call_thing : (x1 : Evaluator N) → GoodEvaluator P x1 → (x2 : Caller N) → GoodCaller P x2 → (x3 : ℕ) → (x4 : Value N) → (x5 : ℕ) → (x6 : Option (Thing N)) → IsNoResolver x6 → (x7 : Words) → (x8 : List (Value N)) → Holds P (calls.call_thing K tree x1 x2 x3 x4 x5 x6 x7 x8)
   unfolding calls.call_thing
-  walk_call_thing rec good again h2 act x i None verb args = search (eval_walk) depth 14
-  walk_call_thing rec good again h2 act x i (Some (Made node caught stamps)) verb args = law.begins act x verb args (λ b. search (eval_walk, walk_run_object) depth 14)
-  walk_call_thing rec good again h2 act x i (Some t) verb args = search (eval_walk, walk_with_lines, walk_thing_answer) depth 14
+  walk_call_thing rec good again h2 act x i None plain verb args = search (eval_walk) depth 14
+  walk_call_thing rec good again h2 act x i (Some (Made node caught stamps)) plain verb args = law.begins act x verb args (λ b. search (eval_walk, walk_run_object) depth 14)
+  walk_call_thing rec good again h2 act x i (Some t) plain verb args = walk_with_lines P base law act x verb args _ (walk_thing_answer again h2 act i t plain verb args)
 
   pub walk_call_spot : (x1 : Evaluator N) → GoodEvaluator P x1 → (x2 : Caller N) → GoodCaller P x2 → (x3 : ℕ) → (x4 : Value N) → (x5 : Spot) → (x6 : Words) → (x7 : List (Value N)) → Holds P (calls.call_spot K tree x1 x2 x3 x4 x5 x6 x7)
   unfolding calls.call_spot
-  walk_call_spot rec good again h2 act x (Own i) verb args = search (eval_walk, walk_call_thing) depth 14
+  walk_call_spot rec good again h2 act x (Own i) verb args = under.things i {f = λ t. calls.call_thing K tree rec again act x i t verb args} (λ p. call_by_resolver P K tree under rec again act x i p verb args) (λ o plain. walk_call_thing rec good again h2 act x i o plain verb args)
   walk_call_spot rec good again h2 act x _ verb args = search (eval_walk) depth 14
 
   pub walk_call_value : (x1 : Evaluator N) → GoodEvaluator P x1 → (x2 : Caller N) → GoodCaller P x2 → (x3 : ℕ) → (x4 : Value N) → (x5 : Value N) → (x6 : Words) → (x7 : List (Value N)) → Holds P (calls.call_value K tree x1 x2 x3 x4 x5 x6 x7)
@@ -364,14 +366,15 @@ module _ {N W : Type 0} (P : Property N) (K : Naming N W) (tree : List Node) (ba
   unfolding calls.call
   walk_call rec good act x verb args = search (eval_walk, walk_call_at) depth 14
 
-  pub walk_turn_thing : (x1 : Evaluator N) → GoodEvaluator P x1 → (x2 : ℕ) → (x3 : ℕ) → (x4 : Option (Thing N)) → (x5 : Words) → (x6 : List (Value N)) → Holds P (calls.turn_thing K tree x1 x2 x3 x4 x5 x6)
+  pub walk_turn_thing : (x1 : Evaluator N) → GoodEvaluator P x1 → (x2 : ℕ) → (x3 : ℕ) → (x4 : Option (Thing N)) → IsNoResolver x4 → (x5 : Words) → (x6 : List (Value N)) → Holds P (calls.turn_thing K tree x1 x2 x3 x4 x5 x6)
   unfolding calls.turn_thing
-  walk_turn_thing rec good act i (Some (Made node caught stamps)) verb args = search (eval_walk, walk_run_object, walk_thing_answer, walk_call) depth 14
-  walk_turn_thing rec good act i other verb args = search (eval_walk, walk_run_object, walk_thing_answer, walk_call) depth 14
+  walk_turn_thing rec good act i None plain verb args = search (eval_walk) depth 14
+  walk_turn_thing rec good act i (Some (Made node caught stamps)) plain verb args = search (eval_walk, walk_run_object) depth 14
+  walk_turn_thing rec good act i (Some t) plain verb args = walk_thing_answer (calls.call K tree rec) (λ a y w xs. walk_call rec good a y w xs) act i t plain verb args
 
   pub walk_turn_spot : (x1 : Evaluator N) → GoodEvaluator P x1 → (x2 : ℕ) → (x3 : Spot) → (x4 : Words) → (x5 : List (Value N)) → Holds P (calls.turn_spot K tree x1 x2 x3 x4 x5)
   unfolding calls.turn_spot
-  walk_turn_spot rec good act (Own i) verb args = search (eval_walk, walk_turn_thing) depth 14
+  walk_turn_spot rec good act (Own i) verb args = under.things i {f = λ t. calls.turn_thing K tree rec act i t verb args} (λ p. turn_by_resolver P K tree under rec act i p verb args) (λ o plain. walk_turn_thing rec good act i o plain verb args)
   walk_turn_spot rec good act _ verb args = search (eval_walk) depth 14
 
   pub walk_turn_value : (x1 : Evaluator N) → GoodEvaluator P x1 → (x2 : ℕ) → (x3 : Value N) → (x4 : Words) → (x5 : List (Value N)) → Holds P (calls.turn_value K tree x1 x2 x3 x4 x5)
@@ -519,24 +522,52 @@ module _ {N W : Type 0} (P : Property N) (K : Naming N W) (tree : List Node) (ba
   good_evaluator zero = record { expression = λ id here. search eval_walk; pattern = λ id v j here. search eval_walk }
   good_evaluator (suc d) = good_deeper (eval.evaluator K tree d) (good_evaluator d)
 
+pub ruleset eval_walks = (eval_walk, eval_send, eval_send_only, eval_react, walk_answered, walk_read_cell, walk_read_bound, walk_with_lines, walk_fail_by, walk_failed, walk_handed, walk_native_coerce, walk_coerce_near, walk_coerce_native, walk_coerce, walk_store, walk_make_list, walk_spell, walk_write_text, walk_iterate, walk_reply, walk_data_answer, walk_send_by, walk_send_listed, walk_send_with, walk_call_listed, walk_call_with, walk_make_promise, walk_react_near, walk_when_resolved, walk_after_turn, walk_turns, walk_loop, walk_perform, walk_audit, walk_verdict, walk_ask_all, walk_build, walk_audition_live, walk_audition_answer, walk_ejector_answer, walk_bind_all, walk_hand_over, walk_matched, walk_match_all, walk_try_matchers, walk_run_body, walk_run_object, walk_thing_answer, walk_call_thing, walk_call_spot, walk_call_value, walk_call_one, walk_call_at, walk_call, walk_turn_thing, walk_turn_spot, walk_turn_value, walk_object_made, walk_object_in, walk_object_as, walk_make_object, walk_all_of, walk_last_of, walk_exit_of, walk_caught_by, walk_escaped, walk_handles, walk_tried, walk_at_last, walk_choose, walk_unmatched_noun, walk_unmatched, walk_not_matched, walk_match_ended, walk_write_cell, walk_write_bound, walk_step, walk_guard_of, walk_bind_list, walk_bind_items, walk_bind_step, walk_step_found, walk_bind_found)
+
+-- Where all of P is kept from each state, there is no need to ask for a resolver.
+module _ {N W : Type 0} (P : Property N) (K : Naming N W) (tree : List Node) (base : IsClosed P) (ending' : IsEnding P) (law : InEval P) (under : InEvalUnder P K tree) where
+  walk_where_unresolved : (x1 : Standing N) → (x2 : Act N (Unit {0})) → Holds P x2 → Holds P (calls.where_unresolved K tree x1 x2)
+  unfolding calls.where_unresolved
+  walk_where_unresolved Unsettled m h2 = search (eval_walk) depth 14
+  walk_where_unresolved _ m h2 = search (eval_walk) depth 14
+
+  by_kind : {f : Option (Thing N) → Act N (Value N)} → ((p : N) → Holds P (f (Some (Resolver p)))) → ((o : Option (Thing N)) → IsNoResolver o → Holds P (f o)) → (o : Option (Thing N)) → Holds P (f o)
+  by_kind h k (Some (Resolver p)) = h p
+  by_kind h k other = k other tt
+
+  pub in_nodes : InNodes P K tree
+  in_nodes = record {
+    by_resolver = λ p. P;
+    closed = λ p. base;
+    ends = λ p. ending';
+    calls = λ p act x verb args {m} h. law.calls act x verb args h;
+    promises = λ {f} h. walk_bind P base under.promises (λ p. walk_bind P base (under.resolvers p) (λ r. h p r));
+    things = λ i {f} h k. walk_bind P base (walk_look P base (λ s. slice_get s.things i)) (by_kind h k);
+    audits = λ act view {m} {f} h k. under.audits act view {m = m} {f = f} h k;
+    escapes = λ act {f} {g} {h} {m} x y z w. under.escapes act {f = f} {g = g} {h = h} {m = m} x y z w;
+    breaks = λ p t. walk_bind P base (walk_look P base (λ s. standing_of K s.known p)) (λ w. walk_where_unresolved w _ (under.breaks p t));
+    resolves = under.resolves;
+    sends = under.sends;
+    sends_only = under.sends_only;
+    reacts = under.reacts;
+  }
+
   pub walk_closes : (act : ℕ) (o : Option N) → WhereSome (λ p. (v : Value N) → Holds P (resolve K p v)) o → (m : Act N (Value N)) → Holds P m → Holds P (eval.closes K tree act o m)
   unfolding eval.closes for_some
-  walk_closes act (Some p) settled m h = search (eval_walk, settled, eval_break) depth 14
+  walk_closes act (Some p) settled m h = search (eval_walk, settled, under.breaks) depth 14
   walk_closes act None settled m h = search (eval_walk) depth 14
 
   -- the opening turn, where the root may be resolved at its end
   pub walk_opening : (depth : ℕ) (p : N) (given : List (Binding N)) → ((v : Value N) → Holds P (resolve K p v)) → Holds P (eval.opening K tree depth p given)
   unfolding eval.opening
-  walk_opening depth p given settled = let good = good_evaluator depth in
+  walk_opening depth p given settled = let good = good_evaluator P K tree base ending' law in_nodes depth in
       walk_bind P base law.activates (λ a. walk_closes a (Some p) settled _ (search (eval_walk, good.expression) depth 14))
 
   -- what a turn does with a message that is taken
   pub walk_turn : (depth act : ℕ) (m : Message N) → WhereSome (λ p. (v : Value N) → Holds P (resolve K p v)) m.answer → Holds P (eval.closes K tree act m.answer (calls.turn_value K tree (eval.evaluator K tree depth) act m.target m.verb m.args))
-  walk_turn depth act m settled = let good = good_evaluator depth in walk_closes act m.answer settled _ (search (eval_walk, walk_turn_value) depth 14)
+  walk_turn depth act m settled = let good = good_evaluator P K tree base ending' law in_nodes depth in walk_closes act m.answer settled _ (walk_turn_value P K tree base ending' law in_nodes _ good act m.target m.verb m.args)
 
   -- a turn, where the answer may be resolved at its end and the message be taken
   pub walk_taking : (depth : ℕ) (m : Message N) → ((f : ℕ → Act N (Unit {0})) → ((a : ℕ) → Holds P (f a)) → Holds P (new_activation >>= λ a. tell (Took a m) >> f a)) → WhereSome (λ p. (v : Value N) → Holds P (resolve K p v)) m.answer → Holds P (eval.taking K tree depth m)
   unfolding eval.taking
   walk_taking depth m took settled = took _ (λ a. walk_turn depth a m settled)
-
-pub ruleset eval_walks = (eval_walk, eval_break, eval_send, eval_send_only, eval_react, walk_answered, walk_read_cell, walk_read_bound, walk_with_lines, walk_fail_by, walk_failed, walk_handed, walk_native_coerce, walk_coerce_near, walk_coerce_native, walk_coerce, walk_store, walk_make_list, walk_spell, walk_write_text, walk_iterate, walk_reply, walk_data_answer, walk_send_by, walk_send_listed, walk_send_with, walk_call_listed, walk_call_with, walk_make_promise, walk_react_near, walk_when_resolved, walk_after_turn, walk_turns, walk_loop, walk_perform, walk_audit, walk_verdict, walk_ask_all, walk_build, walk_audition_live, walk_audition_answer, walk_ejector_answer, walk_where_unresolved, walk_smash, walk_resolver_answer, walk_bind_all, walk_hand_over, walk_matched, walk_match_all, walk_try_matchers, walk_run_body, walk_run_object, walk_thing_answer, walk_call_thing, walk_call_spot, walk_call_value, walk_call_one, walk_call_at, walk_call, walk_turn_thing, walk_turn_spot, walk_turn_value, walk_object_made, walk_object_in, walk_object_as, walk_make_object, walk_all_of, walk_last_of, walk_exit_of, walk_caught_by, walk_escaped, walk_handles, walk_tried, walk_at_last, walk_choose, walk_unmatched_noun, walk_unmatched, walk_not_matched, walk_match_ended, walk_write_cell, walk_write_bound, walk_step, walk_guard_of, walk_bind_list, walk_bind_items, walk_bind_step, walk_step_found, walk_bind_found, walk_closes, walk_opening, walk_turn, walk_taking)

@@ -1,10 +1,11 @@
 -- What is to be shown of a predicate of acts, that it holds of all that a vat does.
 use Rattle.std.proofs.Common.{ℕ, Bool, true, false, List, [], ◌∷◌, Option, Some, None, if◌then◌else◌}
 use Rattle.def_machine.specs.Values.{Words, Value, Broken, Naming, Coming, Mailing}
-use Rattle.def_machine.specs.State.{Thing, Ejector, Audition, View, Message, Note, Ask, Shorten, Happened, Called, Got, SlotMade, SlotRead, SlotWrote, ListMade, EjectorMade, AuditionMade, PromiseMade, ObjectMade, Sends, Reacts, Finished, Threw, Waits, Views, Lost, Posted, Change, See, Settle, Vat, Stop, Act, ◌>>=◌, ◌>>◌, WhereSome, for_some, ending, each, give, throw, stop, eject, look, tell, spend, new_activation, new_thing, new_slot, write_slot, new_list, enqueue, send_out, new_gift, open_gift, mark, alter, come, mail, new_promise, new_message, new_lone_message, draw}
+use Rattle.def_machine.specs.State.{Thing, Made, Resolver, Binding, Ejector, Audition, View, Message, Note, Ask, Shorten, Happened, Called, Got, SlotMade, SlotRead, SlotWrote, ListMade, EjectorMade, AuditionMade, PromiseMade, ObjectMade, Sends, Reacts, Finished, Threw, Waits, Views, Lost, Posted, Change, See, Settle, Vat, Stop, Act, ◌>>=◌, ◌>>◌, WhereSome, for_some, ending, each, give, throw, stop, eject, look, tell, spend, new_activation, new_thing, new_slot, write_slot, new_list, enqueue, send_out, new_gift, open_gift, mark, alter, come, mail, new_promise, new_message, new_lone_message, draw}
 use Rattle.def_machine.specs.Refs.{settle_at, settle_one, settle, resolve, send, send_only, react, standing_of}
 use Rattle.def_machine.specs.Arrive.{make_list}
 use Rattle.def_machine.specs.Scopes.{ended}
+use Rattle.std.specs.Prelude.{slice_get}
 use Rattle.def_machine.specs.Calls.{leave, leaving, new_ejector, where_unresolved}
 use Rattle.def_kernel.specs.declared.node.Node.{Node}
 
@@ -151,7 +152,7 @@ pub record InEval {N : Type 0} (P : Property N) : Type 1 where
   pub tells : (e : Happened N) → IsOfEval e → Holds P (tell e)
   pub spends : (n : ℕ) → Holds P (spend n)
   pub activates : Holds P new_activation
-  pub makes : (t : Thing N) → IsDull t → Holds P (new_thing t)
+  pub objects : (node : ℕ) (caught : List (Binding N)) (stamps : List (Value N)) → Holds P (new_thing (Made node caught stamps))
   pub slots : (g v : Value N) → Holds P (new_slot g v)
   pub writes : (n : ℕ) (v : Value N) → Holds P (write_slot n v)
   pub lists : (vs : List (Value N)) → Holds P (new_list vs)
@@ -162,6 +163,7 @@ pub record InEval {N : Type 0} (P : Property N) : Type 1 where
 
 pub record InEvalUnder {N W : Type 0} (P : Property N) (K : Naming N W) (tree : List Node) : Type 1 where
   pub promises : Holds P (new_promise K)
+  pub resolvers : (p : N) → Holds P (new_thing (Resolver p))
   -- an audition, and what is done while it is live
   pub audits : {A B : Type 0} (act : ℕ) (view : View N) {m : ℕ → Act N A} {f : A → Act N B} → ((n : ℕ) → Holds P (m n)) → ((a : A) → Holds P (f a))
       → Holds P (new_thing (Audition true view) >>= λ n. tell (AuditionMade act (K.object n)) >> (leaving K tree n (m n) >>= f))
@@ -172,6 +174,36 @@ pub record InEvalUnder {N W : Type 0} (P : Property N) (K : Naming N W) (tree : 
   -- what is done with references
   pub breaks : (p : N) (t : Words) → Holds P (settle K p (Broken t))
   pub resolves : (p : N) (y : Value N) → Holds P (look (λ s. standing_of K s.known p) >>= λ w. where_unresolved K tree w (resolve K p y))
+  pub sends : (act : ℕ) (x : Value N) (verb : Words) (args : List (Value N)) → Holds P (send K act x verb args)
+  pub sends_only : (act : ℕ) (x : Value N) (verb : Words) (args : List (Value N)) → Holds P (send_only K act x verb args)
+  pub reacts : (act : ℕ) (x o near : Value N) → Holds P (react K act x o near)
+
+-- all but a resolver
+abbrev pub IsNoResolver : {N : Type 0} → Option (Thing N) → Type 0
+IsNoResolver (Some (Resolver p)) = ⊥
+IsNoResolver other = Unit {0}
+
+-- The same where what a resolver does may ask for a state that has it: no promise is resolved or broken in evaluation but by one.
+pub record InNodes {N W : Type 0} (P : Property N) (K : Naming N W) (tree : List Node) : Type 1 where
+  -- what holds of an act that has P from each state with a resolver of p
+  pub by_resolver : N → Property N
+  pub closed : (p : N) → IsClosed (by_resolver p)
+  pub ends : (p : N) → IsEnding (by_resolver p)
+  pub calls : (p : N) (act : ℕ) (x : Value N) (verb : Words) (args : List (Value N)) {m : Act N (Value N)} → Holds (by_resolver p) m → Holds (by_resolver p) (tell (Called act x verb args None) >> ended act m)
+  -- a promise, and its resolver
+  pub promises : {f : N → ℕ → Act N (Value N)} → ((p : N) (r : ℕ) → Holds P (f p r)) → Holds P (new_promise K >>= λ p. new_thing (Resolver p) >>= λ r. f p r)
+  -- what is done with a thing
+  pub things : (i : ℕ) {f : Option (Thing N) → Act N (Value N)} → ((p : N) → Holds (by_resolver p) (f (Some (Resolver p)))) → ((o : Option (Thing N)) → IsNoResolver o → Holds P (f o)) → Holds P (look (λ s. slice_get s.things i) >>= f)
+  -- an audition, and what is done while it is live
+  pub audits : {A B : Type 0} (act : ℕ) (view : View N) {m : ℕ → Act N A} {f : A → Act N B} → ((n : ℕ) → Holds P (m n)) → ((a : A) → Holds P (f a))
+      → Holds P (new_thing (Audition true view) >>= λ n. tell (AuditionMade act (K.object n)) >> (leaving K tree n (m n) >>= f))
+  -- an ejector, and what is done while it is live and by how that ended
+  pub escapes : {A B : Type 0} (act : ℕ) {f : ℕ → A → Act N B} {g : ℕ → Words → Act N B} {h : ℕ → ℕ → Value N → Act N B} {m : ℕ → Act N A}
+      → ((j : ℕ) (a : A) → Holds P (f j a)) → ((j : ℕ) (p : Words) → Holds P (g j p)) → ((j n : ℕ) (v : Value N) → Holds P (h j n v)) → ((j : ℕ) → Holds P (m j))
+      → Holds P (new_ejector K tree act >>= λ j. ending (λ a. leave K tree j (f j a)) (λ p. leave K tree j (g j p)) (λ n v. leave K tree j (h j n v)) (m j))
+  -- what is done with references
+  pub breaks : (p : N) (t : Words) → Holds (by_resolver p) (look (λ s. standing_of K s.known p) >>= λ w. where_unresolved K tree w (settle K p (Broken t)))
+  pub resolves : (p : N) (y : Value N) → Holds (by_resolver p) (look (λ s. standing_of K s.known p) >>= λ w. where_unresolved K tree w (resolve K p y))
   pub sends : (act : ℕ) (x : Value N) (verb : Words) (args : List (Value N)) → Holds P (send K act x verb args)
   pub sends_only : (act : ℕ) (x : Value N) (verb : Words) (args : List (Value N)) → Holds P (send_only K act x verb args)
   pub reacts : (act : ℕ) (x o near : Value N) → Holds P (react K act x o near)

@@ -1,7 +1,7 @@
 -- One record for what holds of all that a vat does: of each change, of a call with its lines, of what is live with what is done meanwhile, and of a name that settles or is viewed with its line.
 use Rattle.std.proofs.Common.{ℕ, true, List, None, Some}
 use Rattle.def_machine.specs.Values.{Words, Value, Broken, Naming, Coming, Mailing}
-use Rattle.def_machine.specs.State.{Thing, Audition, Binding, View, Message, Note, Ask, Shorten, ListCame, Sends, Reacts, Happened, Took, Called, Back, Thrown, Left, AuditionMade, Settles, Views, Change, See, Settle, Act, ◌>>=◌, ◌>>◌, ending, tell, spend, new_activation, new_thing, new_slot, write_slot, new_list, enqueue, send_out, new_gift, open_gift, mark, alter, come, mail, new_promise, new_message, new_lone_message, draw}
+use Rattle.def_machine.specs.State.{Thing, Made, Resolver, Audition, Binding, View, Message, Note, Ask, Shorten, ListCame, Sends, Reacts, Happened, Took, Called, Back, Thrown, Left, AuditionMade, Settles, Views, Change, See, Settle, Act, ◌>>=◌, ◌>>◌, ending, tell, spend, new_activation, new_thing, new_slot, write_slot, new_list, enqueue, send_out, new_gift, open_gift, mark, alter, come, mail, new_promise, new_message, new_lone_message, draw}
 use Rattle.def_machine.specs.Refs.{Place, settle, resolve, send_first, react_at}
 use Rattle.def_machine.specs.Arrive.{Incoming, arrive, notice}
 use Rattle.def_machine.specs.Receive.{Sight, receive}
@@ -108,7 +108,7 @@ module _ {N W : Type 0} (P : Property N) (K : Naming N W) (law : Whole P K) wher
     tells = λ e h. law.tells e (of_eval e h);
     spends = law.spends;
     activates = law.activates;
-    makes = law.makes;
+    objects = λ node caught stamps. law.makes (Made node caught stamps) tt;
     slots = law.slots;
     writes = law.writes;
     lists = law.lists;
@@ -131,6 +131,7 @@ module _ {N W : Type 0} (P : Property N) (K : Naming N W) (law : Whole P K) wher
   pub in_eval_under : (tree : List Node) → InEvalUnder P K tree
   in_eval_under tree = record {
     promises = law.promises;
+    resolvers = λ p. law.makes (Resolver p) tt;
     audits = λ act view {m} {f} h k. law.audits tree act view {m = m} {f = f} h k;
     escapes = λ act {f} {g} {h} {m} x y z w. law.escapes tree act {f = f} {g = g} {h = h} {m = m} x y z w;
     breaks = λ p t. whole_settle p (Broken t);

@@ -12,7 +12,7 @@ use Rattle.def_kernel.specs.declared.node.Node.{Node}
 use Rattle.law_machine.specs.Steps.{After}
 use Rattle.law_machine.specs.Laws.{SameLists, SettledStays}
 use Rattle.law_machine.proofs.Keeps.{Keeps, KeepsBy, IsKept, IsKeptUnder, keeps_closed, keeps_ends}
-use Rattle.law_machine.proofs.EvalKeeps.{keeps_in_eval, keeps_in_eval_under, good_evaluator}
+use Rattle.law_machine.proofs.EvalKeeps.{keeps_in_eval, keeps_in_nodes, good_evaluator}
 use Rattle.law_machine.proofs.EvalWalk as walk
 use Rattle.law_machine.proofs.StepLaws.{lists_law, lists_names, settled_law, settled_names, settled_entry, standing_found}
 use Rattle.law_name.specs.Names.{AllOf}
@@ -27,7 +27,7 @@ use Rattle.law_never_astray.specs.Levels.{EndsIn, ListsEnd}
 
 module _ {N W : Type 0} (K : Naming N W) (R : Vat N → Vat N → Type 0) (base : IsKept R) (law : IsKeptUnder K R) (tree : List Node) where
   call_keeps : (d act : ℕ) (x : Value N) (verb : Words) (args : List (Value N)) → Keeps R (calls.call K tree (evaluator K tree d) act x verb args)
-  call_keeps d act x verb args = walk.walk_call (KeepsBy R) K tree (keeps_closed R base) (keeps_ends R base) (keeps_in_eval R base) (keeps_in_eval_under K R base law tree) (evaluator K tree d) (good_evaluator K R base law tree d) act x verb args
+  call_keeps d act x verb args = walk.walk_call (KeepsBy R) K tree (keeps_closed R base) (keeps_ends R base) (keeps_in_eval R base) (keeps_in_nodes K R base law tree) (evaluator K tree d) (good_evaluator K R base law tree d) act x verb args
 
 stopped : {N A : Type 0} (R : Vat N → Vat N → Type 0) (s t : Vat N) (c : Stop) (d : Done N A) → After R s d → d ≡ Stops c t → R s t
 stopped R s t c (Stops r u) h e = let same : u ≡ t = cc in subst (R s) same h

@@ -7,7 +7,7 @@ use Rattle.def_machine.specs.Scopes.{Evaluator}
 use Rattle.def_machine.specs.Calls as calls
 use Rattle.def_machine.specs.Eval as eval
 use Rattle.def_kernel.specs.declared.node.Node.{Node}
-use Rattle.law_machine.proofs.Walks.{InEvalUnder}
+use Rattle.law_machine.proofs.Walks.{InEvalUnder, InNodes}
 use Rattle.law_machine.proofs.Blocks.{turn_eval_under}
 use Rattle.law_machine.proofs.EvalWalk as walk
 use Rattle.law_fate.proofs.Leads.{Ends, Leads, LeadsBy, IsLed, leads_throw, leads_closed, leads_ends, leads_singles, leads_in_eval, makes_promise}
@@ -48,11 +48,14 @@ module _ {N W : Type 0} (K : Naming N W) (Q R : Vat N → Vat N → Type 0) (bas
   opens_in_eval = turn_eval_under (LeadsBy Q R) (leads_closed Q R base) (leads_ends Q R base) (leads_singles Q R base) K tree
       (record { promises = makes_promise Q R base K law.promised; breaks = law.breaks; sends = law.sends; sends_only = law.sends_only; reacts = law.reacts }) resolved
 
+  nodes : InNodes (LeadsBy Q R) K tree
+  nodes = walk.in_nodes (LeadsBy Q R) K tree (leads_closed Q R base) (leads_ends Q R base) (leads_in_eval Q R base) opens_in_eval
+
   pub good_evaluator : (d : ℕ) → walk.GoodEvaluator (LeadsBy Q R) (eval.evaluator K tree d)
-  good_evaluator = walk.good_evaluator (LeadsBy Q R) K tree (leads_closed Q R base) (leads_ends Q R base) (leads_in_eval Q R base) opens_in_eval
+  good_evaluator = walk.good_evaluator (LeadsBy Q R) K tree (leads_closed Q R base) (leads_ends Q R base) (leads_in_eval Q R base) nodes
 
   pub leads_turn_value : (x1 : Evaluator N) → walk.GoodEvaluator (LeadsBy Q R) x1 → (x2 : ℕ) → (x3 : Value N) → (x4 : Words) → (x5 : List (Value N)) → Leads Q R (calls.turn_value K tree x1 x2 x3 x4 x5)
-  leads_turn_value = walk.walk_turn_value (LeadsBy Q R) K tree (leads_closed Q R base) (leads_ends Q R base) (leads_in_eval Q R base) opens_in_eval
+  leads_turn_value = walk.walk_turn_value (LeadsBy Q R) K tree (leads_closed Q R base) (leads_ends Q R base) (leads_in_eval Q R base) nodes
 
   pub leads_closes : (x1 : ℕ) → (x2 : Option N) → WhereSome (λ p. (y : Value N) → Leads Q R (resolve K p y)) x2 → (x3 : Act N (Value N)) → Leads Q R x3 → Leads Q R (eval.closes K tree x1 x2 x3)
   leads_closes = walk.walk_closes (LeadsBy Q R) K tree (leads_closed Q R base) (leads_ends Q R base) (leads_in_eval Q R base) opens_in_eval

@@ -8,7 +8,7 @@ use Rattle.def_machine.specs.Eval as eval
 use Rattle.law_machine.specs.Steps.{Step, does, After}
 use Rattle.law_machine.proofs.Walks.{walk_bind}
 use Rattle.law_machine.proofs.Whole.{in_eval, in_eval_under, whole_resolve}
-use Rattle.law_machine.proofs.EvalWalk.{good_evaluator, walk_closes}
+use Rattle.law_machine.proofs.EvalWalk.{in_nodes, good_evaluator, walk_closes}
 use Rattle.def_run.specs.World as world
 use Rattle.def_run.specs.World.{Script, Program, Event, Opens, Here, LostCut, Link, World, Run, Goes, Stopped, names, begins}
 use Rattle.def_run.specs.Text.{history_of}
@@ -217,7 +217,7 @@ module _ (script : Script) (v : ℕ) where
 
   -- what an opening turn does once its own activation has its number
   opening_counts : (low act : ℕ) (tree : List Node) (depth : ℕ) (root : Name) (given : List (Binding Name)) → Counts low (eval.closes K tree act (Some root) ((eval.evaluator K tree depth).expression 0 (record { act = act; nouns = given }) >>= λ x. give x.value))
-  opening_counts low act tree depth root given = let law = counts_whole K low in let good = good_evaluator (CountsBy low) K tree law.closed law.ends (in_eval (CountsBy low) K law) (in_eval_under (CountsBy low) K law tree) depth in
+  opening_counts low act tree depth root given = let law = counts_whole K low in let good = good_evaluator (CountsBy low) K tree law.closed law.ends (in_eval (CountsBy low) K law) (in_nodes (CountsBy low) K tree law.closed law.ends (in_eval (CountsBy low) K law) (in_eval_under (CountsBy low) K law tree)) depth in
       walk_closes (CountsBy low) K tree law.closed law.ends (in_eval (CountsBy low) K law) (in_eval_under (CountsBy low) K law tree) act (Some root) (whole_resolve (CountsBy low) K law root) _
       (walk_bind (CountsBy low) law.closed (good.expression 0 (record { act = act; nouns = given })) (λ x. law.closed.gives x.value))
 

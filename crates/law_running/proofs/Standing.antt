@@ -3,7 +3,7 @@ use Rattle.std.proofs.Common.{◌≡◌, ℕ, suc, ◌-◌, ◌≤◌, arith, Bo
 use Rattle.std.specs.Prelude.{nat_le}
 use Rattle.def_kernel.specs.declared.node.Node.{Node}
 use Rattle.def_machine.specs.Values.{Words, Value, Null, Ref, Broken, Naming, Coming, Mailing, IsAnswer, IsSent}
-use Rattle.def_machine.specs.State.{Thing, Audition, Ejector, Message, Standing, Unsettled, WaitsOn, Viewed, Settled, Known, Change, See, Settle, Note, Ask, Shorten, Happened, Took, Called, Back, Thrown, Left, EjectorMade, AuditionMade, ListCame, Sends, Reacts, Settles, Views, Vat, Done, Gives, Throws, Ejects, Stops, Act, ◌>>=◌, ◌>>◌, and_then, end_by, ending, give, throw, stop, eject, look, enqueue, tell, spend, spent, new_activation, new_thing, change, dead, kill, new_slot, holding, write_slot, new_list, send_out, new_gift, with_opened, open_gift, mark, draws, unless_settled, changed_to, changed, begun, with_change, alter, come, mail, new_promise, new_message, new_lone_message, draw}
+use Rattle.def_machine.specs.State.{Thing, Made, Resolver, Audition, Ejector, Message, Standing, Unsettled, WaitsOn, Viewed, Settled, Known, Change, See, Settle, Note, Ask, Shorten, Happened, Took, Called, Back, Thrown, Left, EjectorMade, AuditionMade, ListCame, Sends, Reacts, Settles, Views, Vat, Done, Gives, Throws, Ejects, Stops, Act, ◌>>=◌, ◌>>◌, and_then, end_by, ending, give, throw, stop, eject, look, enqueue, tell, spend, spent, new_activation, new_thing, change, dead, kill, new_slot, holding, write_slot, new_list, send_out, new_gift, with_opened, open_gift, mark, draws, unless_settled, changed_to, changed, begun, with_change, alter, come, mail, new_promise, new_message, new_lone_message, draw}
 use Rattle.def_machine.specs.Refs as refs
 use Rattle.def_machine.specs.Refs.{standing_in, entry_of, standing_of, settle, target_of}
 use Rattle.def_machine.specs.Scopes.{ended}
@@ -497,7 +497,7 @@ module _ {N W : Type 0} (K : Naming N W) (T : Message N → Type 0) (C : Type 0)
     tells = λ e h. telling e (eval_plain e h);
     spends = spends;
     activates = activates;
-    makes = λ x h. makes x;
+    objects = λ node caught stamps. makes (Made node caught stamps);
     slots = slots;
     writes = writes;
     lists = lists;
@@ -508,6 +508,7 @@ module _ {N W : Type 0} (K : Naming N W) (T : Message N → Type 0) (C : Type 0)
   in_eval_under : (tree : List Node) → InEvalUnder TellsBy K tree
   in_eval_under tree = record {
     promises = promises;
+    resolvers = λ p. makes (Resolver p);
     audits = λ act view {m} {f} h k. audits_by_kills TellsBy closed ends K tree kills act view m f (makes (Audition true view)) (λ n. telling (AuditionMade act (K.object n)) tt) h k;
     escapes = λ act {f} {g} {h} {m} x y z w. escapes_by_kills TellsBy closed ends K tree kills act f g h m (makes (Ejector true)) (λ n. telling (EjectorMade act (K.object n)) tt) x y z w;
     breaks = λ p t. settling p (Broken t);
