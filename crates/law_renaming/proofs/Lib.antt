@@ -6,6 +6,7 @@ pub mod Stands
 pub mod NativeMaps
 pub mod EvalPure
 pub mod SimPerform
+pub mod Kept
 pub mod SimEval
 pub mod Steps
 pub mod Example
