@@ -308,8 +308,8 @@ module _ (M : Marked) (vats : List (Vat Name)) (v : ℕ) (q : Vat Name) (there :
       spots = record { alike = λ a b e. let spots = under.spots in spots.alike a b e; placed = λ s m n g. let spots = under.spots in spots.placed s m.0 n g };
       object = λ s i l. under.object s i l;
       promises = whole_promises;
-      smashes = λ C p g t s h c e. (whole_breaks C p g t).after s h c;
-      resolves = λ C p g y k s h c e. (whole_resolves C p g y k).after s h c;
+      smashes = λ C p g t s h c r e. (whole_breaks C p g t).after s h c;
+      resolves = λ C p g y k s h c r e. (whole_resolves C p g y k).after s h c;
       sends = whole_sends;
       sends_only = whole_sends_only;
       reacts = whole_reacts;

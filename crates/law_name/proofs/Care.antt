@@ -257,7 +257,7 @@ module _ {N : Type 0} (S : Care N) where
   unfolding ◌>>◌
   fine_then {C = C} {m = m} {n = n} {H = H} P h k = record { after = λ s g c. less_ends C P H s (m s) (λ _. n) c (h.after s g c) (λ _. k) }
 
-  end_ends : {A B : Type 0} (C : Fact N) (P : A → Fact N) (H : B → Fact N) (s : Vat N) (d : Done N A) (f : A → Act N B) (k : Words → Act N B) (l : ℕ → Value N → Act N B) → Holds (S.ok s) C → Ends P s d
+  pub end_ends : {A B : Type 0} (C : Fact N) (P : A → Fact N) (H : B → Fact N) (s : Vat N) (d : Done N A) (f : A → Act N B) (k : Words → Act N B) (l : ℕ → Value N → Act N B) → Holds (S.ok s) C → Ends P s d
       → ((a : A) → Fine (Also C (P a)) (f a) H) → ((p : Words) → Fine C (k p) H) → ((n : ℕ) (v : Value N) → Fine (Also C (IsValue v)) (l n v) H) → Ends H s (end_by f k l d)
   unfolding end_by
   end_ends C P H s (Gives a t) f k l c h x y z = widen H s t (f a t) h.0 ((x a).after t h.1 (rise s t h.0 C c, h.2))

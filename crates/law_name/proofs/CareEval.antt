@@ -2,7 +2,7 @@
 use Rattle.std.proofs.Common.{◌≡◌, ℕ, zero, suc, Bool, true, false, List, [], ◌∷◌, ◌++◌, Option, Some, None, refl, length, map}
 use Rattle.std.specs.Prelude.{slice_get}
 use Rattle.def_machine.specs.Values.{Words, Value, Null, Flag, Text, Prim, Broken, Items, Ref, Naming, Spot, Own}
-use Rattle.def_machine.specs.State.{Bound, Fixed, Slot, Scope, Binding, Cell, View, Thing, Made, Ejector, Audition, Resolver, Message, Took, Standing, Unsettled, Vat, Act, ◌>>=◌, ◌>>◌, and_then, new_thing, give, look, throw, eject, for_some, WhereSome}
+use Rattle.def_machine.specs.State.{Bound, Fixed, Slot, Scope, Binding, Cell, View, Thing, Made, Ejector, Audition, Resolver, Message, Took, Called, Back, Thrown, Left, Standing, Unsettled, Vat, Act, ◌>>=◌, ◌>>◌, and_then, new_thing, give, look, throw, eject, ending, tell, for_some, WhereSome}
 use Rattle.def_machine.specs.Refs as refs
 use Rattle.def_machine.specs.Refs.{Place, Near}
 use Rattle.def_machine.specs.Form.{Item, Begin, End, Word, Fact as Fixing, literal_value}
@@ -15,12 +15,13 @@ use Rattle.def_machine.specs.Eval as eval
 use Rattle.def_machine.specs.Scopes.{Answer, Evaluator, Caller, Body, Case, AuditionAsk, GetsForm, GetsGuard, Asks, NoAuditionAsk, ResolverAsk, Resolves, Smashes, NoResolverAsk}
 use Rattle.def_kernel.specs.declared.node.Node.{Node}
 use Rattle.def_kernel.specs.declared.node.Node.TheVariants.{Lit, Any}
-use Rattle.law_name.specs.Names.{AllOf, ValuesOk, NounOk}
-use Rattle.law_name.proofs.Facts.{Holds, Fact, Also, IsName, IsValue, AreValues, AreLists, IsBound, AreNouns, IsMessage, IsThing, IsView, IsPlace, MayValue, MayBound, MayCell, MayThing, IsReply, IsAsked, IsAuditionAsk, IsResolverAsk, scope, answer, answers, nothing, MayName}
-use Rattle.law_name.proofs.Care.{Care, Under, Makes, Sound, Gets, Ends, Fine, got, got_left, got_null, got_text, got_ejector, got_audition, got_resolver, widen, rise, thing_comes, told_ejector_made, told_object_made, less_ends, fine_bind, fine_ending, fine_left, fine_give, fine_throw, fine_eject, fine_stop, fine_spend, fine_activation, fine_tell, bind_number, bind_name, bind_values, then_unit}
-use Rattle.law_name.proofs.Looks.{looks, look_place, look_place_of}
-use Rattle.law_name.proofs.Serves.{Serves, Closing, served, served_by, closing_by, closing_some, below_end, serve_promise, serve_break, serve_close, serve_thing, bind_object}
-use Rattle.law_name.proofs.EvalFacts.{knows, got_noun, got_named, got_captures, got_view, got_item, got_lists, got_literal}
+use Rattle.law_machine.proofs.Walks.{IsNoResolver}
+use Rattle.law_name.specs.Names.{AllOf, ValuesOk, NounOk, ThingOk}
+use Rattle.law_name.proofs.Facts.{MayBe, Holds, Fact, Also, IsName, IsValue, AreValues, AreLists, IsBound, AreNouns, IsMessage, IsThing, IsView, IsPlace, MayValue, MayBound, MayCell, MayThing, IsReply, IsAsked, IsAuditionAsk, IsResolverAsk, scope, answer, answers, nothing, MayName}
+use Rattle.law_name.proofs.Care.{Care, Under, Makes, Sound, Gets, Ends, Fine, got, got_left, got_null, got_text, got_ejector, got_audition, got_resolver, widen, rise, thing_comes, told_called, told_back, told_thrown, told_left, told_ejector_made, told_object_made, less_ends, end_ends, fine_bind, fine_ending, fine_left, fine_give, fine_throw, fine_eject, fine_stop, fine_spend, fine_activation, fine_tell, bind_number, bind_name, bind_values, then_unit}
+use Rattle.law_name.proofs.Looks.{get_all, looks, look_place, look_place_of}
+use Rattle.law_name.proofs.Serves.{HasResolver, Serves, Closing, served, served_by, closing_by, closing_some, below_end, serve_promise, serve_break, serve_close, serve_thing, bind_object}
+use Rattle.law_name.proofs.EvalFacts.{knows, got_resolver_ask, got_noun, got_named, got_captures, got_view, got_item, got_lists, got_literal}
 
 -- a call, whatever is called
 abbrev pub GoodCaller : {N : Type 0} → Care N → Caller N → Type 0
@@ -243,30 +244,58 @@ module _ {N W : Type 0} (K : Naming N W) (S : Care N) (serves : Serves K S) (tre
   fine_ejector_answer {C = C} i true (Some v) g1 = let d_g1 : Gets S C (IsValue v) = record { at = λ s h. (g1.at s h) } in search (served, looks, place_here, place_of_here, knows) depth 30
   fine_ejector_answer {C = C} i false (Some v) g1 = let d_g1 : Gets S C (IsValue v) = record { at = λ s h. (g1.at s h) } in search (served, looks, place_here, place_of_here, knows) depth 30
 
-  -- how an act ends from each state in which a name did neither settle nor wait
-  abbrev OpenEnds : Fact N → N → Act N (Unit {0}) → Type 0
-  OpenEnds C p m = (s : Vat N) → Sound S s → Holds (S.ok s) C → refs.standing_of K s.known p ≡ Unsettled → Ends S nothing s (m s)
+  -- how an act ends from each state that has a resolver of that promise
+  record From {A : Type 0} (C : Fact N) (p : N) (m : Act N A) (G : A → Fact N) : Type 0 where
+    pub after : (s : Vat N) → Sound S s → Holds (S.ok s) C → HasResolver s p → Ends S G s (m s)
 
-  open_ends : (C : Fact N) (p : N) (m : Act N (Unit {0})) → OpenEnds C p m → (s : Vat N) → Sound S s → Holds (S.ok s) C → (w : Standing N) → refs.standing_of K s.known p ≡ w → Ends S IsValue s (calls.where_unresolved K tree w m s)
+  any_from : {A : Type 0} {C : Fact N} (p : N) {m : Act N A} {G : A → Fact N} → Fine S C m G → From C p m G
+  any_from p h = record { after = λ s i c r. h.after s i c }
+
+  -- and in which it did neither settle nor wait
+  abbrev OpenEnds : Fact N → N → Act N (Unit {0}) → Type 0
+  OpenEnds C p m = (s : Vat N) → Sound S s → Holds (S.ok s) C → HasResolver s p → refs.standing_of K s.known p ≡ Unsettled → Ends S nothing s (m s)
+
+  open_ends : (C : Fact N) (p : N) (m : Act N (Unit {0})) → OpenEnds C p m → (s : Vat N) → Sound S s → Holds (S.ok s) C → HasResolver s p → (w : Standing N) → refs.standing_of K s.known p ≡ w → Ends S IsValue s (calls.where_unresolved K tree w m s)
   unfolding calls.where_unresolved ◌>>◌ throw
-  open_ends C p m ends s h c Unsettled e = less_ends S C nothing IsValue s (m s) (λ _. give Null) c (ends s h c e) (λ _. fine_give S Null (got_null S C))
-  open_ends C p m ends s h c other e = (S.same s, h)
+  open_ends C p m ends s h c r Unsettled e = less_ends S C nothing IsValue s (m s) (λ _. give Null) c (ends s h c r e) (λ _. fine_give S Null (got_null S C))
+  open_ends C p m ends s h c r other e = (S.same s, h)
 
   -- a resolver resolves and breaks none but a name that did neither settle nor wait
-  fine_open : {C : Fact N} (p : N) (m : Act N (Unit {0})) → OpenEnds C p m → Fine S C (look (λ s. refs.standing_of K s.known p) >>= (λ w. calls.where_unresolved K tree w m)) IsValue
+  from_open : {C : Fact N} (p : N) (m : Act N (Unit {0})) → OpenEnds C p m → From C p (look (λ s. refs.standing_of K s.known p) >>= (λ w. calls.where_unresolved K tree w m)) IsValue
   unfolding ◌>>=◌ look and_then
-  fine_open {C = C} p m ends = record { after = λ s h c. open_ends C p m ends s h c (refs.standing_of K s.known p) refl }
+  from_open {C = C} p m ends = record { after = λ s h c r. open_ends C p m ends s h c r (refs.standing_of K s.known p) refl }
 
-  pub fine_smash : {C : Fact N} → (x1 : N) → Gets S C (IsName x1) → (x2 : Value N) → Gets S C (IsValue x2) → Fine S C (calls.smash K tree x1 x2) IsValue
+  from_smash : {C : Fact N} (p : N) → Gets S C (IsName p) → (y : Value N) → From C p (calls.smash K tree p y) IsValue
   unfolding calls.smash
-  fine_smash {C = C} p n0 (Text t) g1 = fine_open p (refs.settle K p (Broken t)) (serves.smashes C p n0 t)
-  fine_smash {C = C} p n0 _ g1 = search (served, looks, place_here, place_of_here, knows) depth 30
+  from_smash {C = C} p n0 (Text t) = from_open p (refs.settle K p (Broken t)) (serves.smashes C p n0 t)
+  from_smash {C = C} p n0 other = any_from p (fine_throw S _)
 
-  pub fine_resolver_answer : {C : Fact N} → (x1 : N) → Gets S C (IsName x1) → (x2 : ResolverAsk N) → Gets S C (IsResolverAsk x2) → Fine S C (calls.resolver_answer K tree x1 x2) IsValue
-  unfolding calls.resolver_answer
-  fine_resolver_answer {C = C} p n0 (Resolves x) g1 = fine_open p (refs.resolve K p x) (serves.resolves C p n0 x (record { at = λ s h. g1.at s h }))
-  fine_resolver_answer {C = C} p n0 (Smashes x) g1 = let d_g1 : Gets S C (IsValue x) = record { at = λ s h. (g1.at s h) } in search (served, looks, place_here, place_of_here, knows, fine_smash) depth 30
-  fine_resolver_answer {C = C} p n0 NoResolverAsk g1 = search (served, looks, place_here, place_of_here, knows) depth 30
+  from_resolver_answer : {C : Fact N} (p : N) → Gets S C (IsName p) → (ask : ResolverAsk N) → Gets S C (IsResolverAsk ask) → From C p (calls.resolver_answer K tree p ask) IsValue
+  unfolding calls.resolver_answer ◌>>=◌ look and_then
+  from_resolver_answer {C = C} p n0 (Resolves x) g = from_open p (refs.resolve K p x) (serves.resolves C p n0 x (record { at = λ s h. g.at s h }))
+  from_resolver_answer {C = C} p n0 (Smashes x) g = record { after = λ s h c r. (from_smash p n0 (refs.follow K s x)).after s h c r }
+  from_resolver_answer {C = C} p n0 NoResolverAsk g = any_from p (fine_throw S _)
+
+  from_thing_answer : {C : Fact N} (again : Caller N) (act i : ℕ) (p : N) → Gets S C (IsName p) → (verb : Words) (args : List (Value N)) → Gets S C (AreValues args) → From C p (calls.thing_answer K tree again act i (Resolver p) verb args) IsValue
+  unfolding calls.thing_answer
+  from_thing_answer {C = C} again act i p n0 verb args g = from_resolver_answer p n0 (scopes.resolver_ask verb args) (got_resolver_ask S C verb args g)
+
+  back : {C : Fact N} (act : ℕ) (y : Value N) → Fine S (Also C (IsValue y)) (tell (Back act y) >> give y) IsValue
+  back {C = C} act y = then_unit S (told_back S act y) (fine_give S y (got S C (IsValue y)))
+
+  thrown : {C : Fact N} (act : ℕ) (q : Words) → Fine S C (tell (Thrown act q) >> throw q) IsValue
+  thrown act q = then_unit S (told_thrown S act q) (fine_throw S q)
+
+  left : {C : Fact N} (act k : ℕ) (y : Value N) → Fine S (Also C (IsValue y)) (tell (Left act) >> eject k y) IsValue
+  left {C = C} act k y = then_unit S (told_left S act) (fine_eject S k y (got S C (IsValue y)))
+
+  -- with the lines of a call
+  from_lines : {C : Fact N} (p : N) (act : ℕ) (x : Value N) (verb : Words) (args : List (Value N)) (m : Act N (Value N)) → From C p m IsValue → From C p (scopes.with_lines act x verb args m) IsValue
+  unfolding scopes.with_lines scopes.ended ending ◌>>◌ tell and_then
+  from_lines {C = C} p act x verb args m f = record {
+    after = λ s h c r. let e = (told_called S {C = C} act x verb args None).after s h c in let t : Vat N = record s { happened = s.happened ++ Called act x verb args None ∷ [] } in let d = rise S s t e.0 C c in
+        widen S IsValue s t _ e.0 (end_ends S C IsValue IsValue t (m t) _ _ _ d (f.after t e.1 d r) (back act) (thrown act) (left act));
+  }
 
   pub fine_bind_all : {C : Fact N} → (x1 : Evaluator N) → GoodEvaluator S x1 → (x2 : List ℕ) → (x3 : List (Value N)) → Gets S C (AreValues x3) → (x4 : Value N) → Gets S C (IsValue x4) → (x5 : Scope N) → Gets S C (AreNouns x5.nouns) → Fine S C (calls.bind_all K tree x1 x2 x3 x4 x5) scope
   unfolding calls.bind_all
@@ -308,22 +337,41 @@ module _ {N W : Type 0} (K : Naming N W) (S : Care N) (serves : Serves K S) (tre
   unfolding calls.run_object
   fine_run_object {C = C} rec good members verb args g1 here g2 = search (served, looks, place_here, place_of_here, knows, fine_run_body) depth 30
 
-  pub fine_thing_answer : {C : Fact N} → (x1 : Caller N) → GoodCaller S x1 → (x2 : ℕ) → (x3 : ℕ) → (x4 : Thing N) → Gets S C (IsThing x4) → (x5 : Words) → (x6 : List (Value N)) → Gets S C (AreValues x6) → Fine S C (calls.thing_answer K tree x1 x2 x3 x4 x5 x6) IsValue
+  pub fine_thing_answer : {C : Fact N} → (x1 : Caller N) → GoodCaller S x1 → (x2 : ℕ) → (x3 : ℕ) → (x4 : Thing N) → IsNoResolver (Some x4) → Gets S C (IsThing x4) → (x5 : Words) → (x6 : List (Value N)) → Gets S C (AreValues x6) → Fine S C (calls.thing_answer K tree x1 x2 x3 x4 x5 x6) IsValue
   unfolding calls.thing_answer
-  fine_thing_answer {C = C} again h1 act i (Ejector live) g1 verb args g2 = search (served, looks, place_here, place_of_here, knows, fine_ejector_answer) depth 30
-  fine_thing_answer {C = C} again h1 act i (Audition live view) g1 verb args g2 = let d_g1 : Gets S C (IsView view) = record { at = λ s h. (g1.at s h) } in search (served, looks, place_here, place_of_here, knows, fine_audition_answer) depth 30
-  fine_thing_answer {C = C} again h1 act i (Resolver p) g1 verb args g2 = search (served, looks, place_here, place_of_here, knows, fine_resolver_answer) depth 30
-  fine_thing_answer {C = C} again h1 act i (Made node caught stamps) g1 verb args g2 = search (served, looks, place_here, place_of_here, knows) depth 30
+  fine_thing_answer {C = C} again h1 act i (Ejector live) plain g1 verb args g2 = search (served, looks, place_here, place_of_here, knows, fine_ejector_answer) depth 30
+  fine_thing_answer {C = C} again h1 act i (Audition live view) plain g1 verb args g2 = let d_g1 : Gets S C (IsView view) = record { at = λ s h. (g1.at s h) } in search (served, looks, place_here, place_of_here, knows, fine_audition_answer) depth 30
+  fine_thing_answer {C = C} again h1 act i (Resolver p) plain g1 verb args g2 = absurd plain
+  fine_thing_answer {C = C} again h1 act i (Made node caught stamps) plain g1 verb args g2 = search (served, looks, place_here, place_of_here, knows) depth 30
 
-  pub fine_call_thing : {C : Fact N} → (x1 : Evaluator N) → GoodEvaluator S x1 → (x2 : Caller N) → GoodCaller S x2 → (x3 : ℕ) → (x4 : Value N) → Gets S C (IsValue x4) → (x5 : ℕ) → (x6 : Option (Thing N)) → Gets S C (MayThing x6) → (x7 : Words) → (x8 : List (Value N)) → Gets S C (AreValues x8) → Fine S C (calls.call_thing K tree x1 x2 x3 x4 x5 x6 x7 x8) IsValue
+  pub fine_call_thing : {C : Fact N} → (x1 : Evaluator N) → GoodEvaluator S x1 → (x2 : Caller N) → GoodCaller S x2 → (x3 : ℕ) → (x4 : Value N) → Gets S C (IsValue x4) → (x5 : ℕ) → (x6 : Option (Thing N)) → IsNoResolver x6 → Gets S C (MayThing x6) → (x7 : Words) → (x8 : List (Value N)) → Gets S C (AreValues x8) → Fine S C (calls.call_thing K tree x1 x2 x3 x4 x5 x6 x7 x8) IsValue
   unfolding calls.call_thing
-  fine_call_thing {C = C} rec good again h2 act x g1 i None g2 verb args g3 = search (served, looks, place_here, place_of_here, knows) depth 30
-  fine_call_thing {C = C} rec good again h2 act x g1 i (Some (Made node caught stamps)) g2 verb args g3 = let dc_g2 : Gets S C (AreNouns caught) = record { at = λ s h. (g2.at s h).0 } in search (served, looks, place_here, place_of_here, knows, fine_ended, fine_run_object) depth 30
-  fine_call_thing {C = C} rec good again h2 act x g1 i (Some t) g2 verb args g3 = let dt_g2 : Gets S C (IsThing t) = record { at = λ s h. (g2.at s h) } in search (served, looks, place_here, place_of_here, knows, fine_with_lines, fine_thing_answer) depth 30
+  fine_call_thing {C = C} rec good again h2 act x g1 i None plain g2 verb args g3 = search (served, looks, place_here, place_of_here, knows) depth 30
+  fine_call_thing {C = C} rec good again h2 act x g1 i (Some (Made node caught stamps)) plain g2 verb args g3 = let dc_g2 : Gets S C (AreNouns caught) = record { at = λ s h. (g2.at s h).0 } in search (served, looks, place_here, place_of_here, knows, fine_ended, fine_run_object) depth 30
+  fine_call_thing {C = C} rec good again h2 act x g1 i (Some t) plain g2 verb args g3 = let dt_g2 : Gets S C (IsThing t) = record { at = λ s h. (g2.at s h) } in fine_with_lines act x g1 verb args g3 _ (fine_thing_answer again h2 act i t plain dt_g2 verb args g3)
+
+  call_by_resolver : {C : Fact N} (rec : Evaluator N) (again : Caller N) (act : ℕ) (x : Value N) (i : ℕ) (p : N) → Gets S C (IsName p) → (verb : Words) (args : List (Value N)) → Gets S C (AreValues args) → From C p (calls.call_thing K tree rec again act x i (Some (Resolver p)) verb args) IsValue
+  unfolding calls.call_thing
+  call_by_resolver rec again act x i p n0 verb args g = from_lines p act x verb args (calls.thing_answer K tree again act i (Resolver p) verb args) (from_thing_answer again act i p n0 verb args g)
+
+  -- what is done with a thing that is looked up: with a resolver, from a state that has it
+  with_thing : {C : Fact N} (i : ℕ) (f : Option (Thing N) → Act N (Value N)) → ((p : N) → From (Also C (IsName p)) p (f (Some (Resolver p))) IsValue) → ((z : Option (Thing N)) → IsNoResolver z → Fine S (Also C (MayThing z)) (f z) IsValue)
+      → Fine S C (look (λ s. slice_get s.things i) >>= f) IsValue
+  unfolding ◌>>=◌ look and_then
+  with_thing {C = C} i f h k = record { after = λ s g c. go s g c (slice_get s.things i) refl (get_all (ThingOk (S.ok s)) s.things i g.parts.things) }
+    where
+      go : (s : Vat N) → Sound S s → Holds (S.ok s) C → (z : Option (Thing N)) → slice_get s.things i ≡ z → MayBe (ThingOk (S.ok s)) z → Ends S IsValue s (f z s)
+      go s g c None e o = (k None tt).after s g (c, o)
+      go s g c (Some (Resolver p)) e o = (h p).after s g (c, o) (i, e)
+      go s g c (Some (Made a b d)) e o = (k (Some (Made a b d)) tt).after s g (c, o)
+      go s g c (Some (Ejector b)) e o = (k (Some (Ejector b)) tt).after s g (c, o)
+      go s g c (Some (Audition b x)) e o = (k (Some (Audition b x)) tt).after s g (c, o)
 
   pub fine_call_spot : {C : Fact N} → (x1 : Evaluator N) → GoodEvaluator S x1 → (x2 : Caller N) → GoodCaller S x2 → (x3 : ℕ) → (x4 : Value N) → Gets S C (IsValue x4) → (x5 : Spot) → (x6 : Words) → (x7 : List (Value N)) → Gets S C (AreValues x7) → Fine S C (calls.call_spot K tree x1 x2 x3 x4 x5 x6 x7) IsValue
   unfolding calls.call_spot
-  fine_call_spot {C = C} rec good again h2 act x g1 (Own i) verb args g2 = search (served, looks, place_here, place_of_here, knows, fine_call_thing) depth 30
+  fine_call_spot {C = C} rec good again h2 act x g1 (Own i) verb args g2 = with_thing i (λ z. calls.call_thing K tree rec again act x i z verb args)
+      (λ p. call_by_resolver rec again act x i p (got S C (IsName p)) verb args (got_left S C (IsName p) (AreValues args) g2))
+      (λ z plain. fine_call_thing rec good again h2 act x (got_left S C (MayThing z) (IsValue x) g1) i z plain (got S C (MayThing z)) verb args (got_left S C (MayThing z) (AreValues args) g2))
   fine_call_spot {C = C} rec good again h2 act x g1 _ verb args g2 = search (served, looks, place_here, place_of_here, knows) depth 30
 
   pub fine_call_value : {C : Fact N} → (x1 : Evaluator N) → GoodEvaluator S x1 → (x2 : Caller N) → GoodCaller S x2 → (x3 : ℕ) → (x4 : Value N) → Gets S C (IsValue x4) → (x5 : Value N) → Gets S C (IsValue x5) → (x6 : Words) → (x7 : List (Value N)) → Gets S C (AreValues x7) → Fine S C (calls.call_value K tree x1 x2 x3 x4 x5 x6 x7) IsValue
@@ -344,15 +392,21 @@ module _ {N W : Type 0} (K : Naming N W) (S : Care N) (serves : Serves K S) (tre
   unfolding calls.call
   fine_call {C = C} rec good act x g1 verb args g2 = search (served, looks, place_here, place_of_here, knows, fine_call_at) depth 30
 
-  pub fine_turn_thing : {C : Fact N} → (x1 : Evaluator N) → GoodEvaluator S x1 → (x2 : ℕ) → (x3 : ℕ) → (x4 : Option (Thing N)) → Gets S C (MayThing x4) → (x5 : Words) → (x6 : List (Value N)) → Gets S C (AreValues x6) → Fine S C (calls.turn_thing K tree x1 x2 x3 x4 x5 x6) IsValue
+  pub fine_turn_thing : {C : Fact N} → (x1 : Evaluator N) → GoodEvaluator S x1 → (x2 : ℕ) → (x3 : ℕ) → (x4 : Option (Thing N)) → IsNoResolver x4 → Gets S C (MayThing x4) → (x5 : Words) → (x6 : List (Value N)) → Gets S C (AreValues x6) → Fine S C (calls.turn_thing K tree x1 x2 x3 x4 x5 x6) IsValue
   unfolding calls.turn_thing
-  fine_turn_thing {C = C} rec good act i None g1 verb args g2 = search (served, looks, place_here, place_of_here, knows) depth 30
-  fine_turn_thing {C = C} rec good act i (Some (Made node caught stamps)) g1 verb args g2 = let dc_g1 : Gets S C (AreNouns caught) = record { at = λ s h. (g1.at s h).0 } in search (served, looks, place_here, place_of_here, knows, fine_run_object) depth 30
-  fine_turn_thing {C = C} rec good act i (Some t) g1 verb args g2 = let dt_g1 : Gets S C (IsThing t) = record { at = λ s h. (g1.at s h) } in search (served, looks, place_here, place_of_here, knows, fine_thing_answer, fine_call) depth 30
+  fine_turn_thing {C = C} rec good act i None plain g1 verb args g2 = search (served, looks, place_here, place_of_here, knows) depth 30
+  fine_turn_thing {C = C} rec good act i (Some (Made node caught stamps)) plain g1 verb args g2 = let dc_g1 : Gets S C (AreNouns caught) = record { at = λ s h. (g1.at s h).0 } in search (served, looks, place_here, place_of_here, knows, fine_run_object) depth 30
+  fine_turn_thing {C = C} rec good act i (Some t) plain g1 verb args g2 = let dt_g1 : Gets S C (IsThing t) = record { at = λ s h. (g1.at s h) } in fine_thing_answer (calls.call K tree rec) (λ D a y g v xs k. fine_call rec good a y g v xs k) act i t plain dt_g1 verb args g2
+
+  turn_by_resolver : {C : Fact N} (rec : Evaluator N) (act i : ℕ) (p : N) → Gets S C (IsName p) → (verb : Words) (args : List (Value N)) → Gets S C (AreValues args) → From C p (calls.turn_thing K tree rec act i (Some (Resolver p)) verb args) IsValue
+  unfolding calls.turn_thing
+  turn_by_resolver rec act i p n0 verb args g = from_thing_answer (calls.call K tree rec) act i p n0 verb args g
 
   pub fine_turn_spot : {C : Fact N} → (x1 : Evaluator N) → GoodEvaluator S x1 → (x2 : ℕ) → (x3 : Spot) → (x4 : Words) → (x5 : List (Value N)) → Gets S C (AreValues x5) → Fine S C (calls.turn_spot K tree x1 x2 x3 x4 x5) IsValue
   unfolding calls.turn_spot
-  fine_turn_spot {C = C} rec good act (Own i) verb args g1 = search (served, looks, place_here, place_of_here, knows, fine_turn_thing) depth 30
+  fine_turn_spot {C = C} rec good act (Own i) verb args g1 = with_thing i (λ z. calls.turn_thing K tree rec act i z verb args)
+      (λ p. turn_by_resolver rec act i p (got S C (IsName p)) verb args (got_left S C (IsName p) (AreValues args) g1))
+      (λ z plain. fine_turn_thing rec good act i z plain (got S C (MayThing z)) verb args (got_left S C (MayThing z) (AreValues args) g1))
   fine_turn_spot {C = C} rec good act _ verb args g1 = search (served, looks, place_here, place_of_here, knows) depth 30
 
   pub fine_turn_value : {C : Fact N} → (x1 : Evaluator N) → GoodEvaluator S x1 → (x2 : ℕ) → (x3 : Value N) → Gets S C (IsValue x3) → (x4 : Words) → (x5 : List (Value N)) → Gets S C (AreValues x5) → Fine S C (calls.turn_value K tree x1 x2 x3 x4 x5) IsValue

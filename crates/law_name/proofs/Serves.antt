@@ -1,20 +1,25 @@
 -- What evaluation does with references and promises, each as one thing: so that evaluation is gone over once for all that is cared for.
 use Rattle.std.proofs.Common.{◌≡◌, ℕ, ◌<◌, List, [], ◌∷◌, ◌++◌, Option, Some, None, length, arith}
 use Rattle.def_machine.specs.Values.{Words, Value, Broken, Naming}
-use Rattle.def_machine.specs.State.{Thing, Unsettled, Vat, Act, ◌>>=◌, new_thing, new_promise, WhereSome}
+use Rattle.std.specs.Prelude.{slice_get}
+use Rattle.def_machine.specs.State.{Thing, Resolver, Unsettled, Vat, Act, ◌>>=◌, new_thing, new_promise, WhereSome}
 use Rattle.def_machine.specs.Refs.{standing_of, settle, resolve, send, send_only, react}
 use Rattle.law_name.specs.Names.{Named}
 use Rattle.law_name.proofs.Facts.{Holds, Fact, Also, IsName, IsThing, IsValue, AreValues, nothing}
 use Rattle.law_name.proofs.Care.{Care, Spots, Under, Makes, Sound, Gets, Ends, Fine, quiet_told, got_entry, fine_bind, fine_thing, fine_promise}
 use Rattle.law_name.proofs.CareRefs.{fine_settle, fine_resolve, fine_send, fine_send_only, fine_react}
 
+-- a resolver of that promise is among its things
+abbrev pub HasResolver : {N : Type 0} → Vat N → N → Type 0
+HasResolver s p = (i : ℕ) × (slice_get s.things i ≡ Some (Resolver p))
+
 pub record Serves {N W : Type 0} (K : Naming N W) (S : Care N) : Type 0 where
   pub spots : Spots K S
   pub object : (s : Vat N) (i : ℕ) → i < length s.things → S.ok s (Named (K.object i))
   pub promises : (C : Fact N) → Fine S C (new_promise K) IsName
-  -- a resolver breaks and resolves none but a name in hand that did neither settle nor wait
-  pub smashes : (C : Fact N) (p : N) → Gets S C (IsName p) → (t : Words) (s : Vat N) → Sound S s → Holds (S.ok s) C → standing_of K s.known p ≡ Unsettled → Ends S nothing s (settle K p (Broken t) s)
-  pub resolves : (C : Fact N) (p : N) → Gets S C (IsName p) → (y : Value N) → Gets S C (IsValue y) → (s : Vat N) → Sound S s → Holds (S.ok s) C → standing_of K s.known p ≡ Unsettled → Ends S nothing s (resolve K p y s)
+  -- none breaks and is resolved but by a resolver, a name in hand that did neither settle nor wait
+  pub smashes : (C : Fact N) (p : N) → Gets S C (IsName p) → (t : Words) (s : Vat N) → Sound S s → Holds (S.ok s) C → HasResolver s p → standing_of K s.known p ≡ Unsettled → Ends S nothing s (settle K p (Broken t) s)
+  pub resolves : (C : Fact N) (p : N) → Gets S C (IsName p) → (y : Value N) → Gets S C (IsValue y) → (s : Vat N) → Sound S s → Holds (S.ok s) C → HasResolver s p → standing_of K s.known p ≡ Unsettled → Ends S nothing s (resolve K p y s)
   pub sends : (C : Fact N) (act : ℕ) (x : Value N) → Gets S C (IsValue x) → (verb : Words) (args : List (Value N)) → Gets S C (AreValues args) → Fine S C (send K act x verb args) IsValue
   pub sends_only : (C : Fact N) (act : ℕ) (x : Value N) → Gets S C (IsValue x) → (verb : Words) (args : List (Value N)) → Gets S C (AreValues args) → Fine S C (send_only K act x verb args) IsValue
   pub reacts : (C : Fact N) (act : ℕ) (x : Value N) → Gets S C (IsValue x) → (o : Value N) → Gets S C (IsValue o) → (near : Value N) → Gets S C (IsValue near) → Fine S C (react K act x o near) IsValue
@@ -75,8 +80,8 @@ served_by K S law makes = record {
   spots = law.spots;
   object = λ s i l. law.object s i l;
   promises = λ C. fine_promise K S law makes;
-  smashes = λ C p g t s i c e. let closing = closing_by K S law p in (closing.breaks C g t).after s i c;
-  resolves = λ C p g y h s i c e. let closing = closing_by K S law p in (closing.closes C g y h).after s i c;
+  smashes = λ C p g t s i c r e. let closing = closing_by K S law p in (closing.breaks C g t).after s i c;
+  resolves = λ C p g y h s i c r e. let closing = closing_by K S law p in (closing.closes C g y h).after s i c;
   sends = λ C act x g verb args h. fine_send K S law makes act x g verb args h;
   sends_only = λ C act x g verb args h. fine_send_only K S law makes act x g verb args h;
   reacts = λ C act x g o h near k. fine_react K S law makes act x g o h near k;

@@ -131,8 +131,8 @@ module _ (script : Script) (v : ℕ) (x : Name) (unowed : owed_at v x ≡ false)
       spots = record { alike = λ a b e. let spots = under.spots in spots.alike a b e; placed = λ t m n i. let spots = under.spots in spots.placed t m.0 n i };
       object = λ t i l. under.object t i l;
       promises = λ C. lift T Keeps keeps_quiet (fine_promise N T under makes) (free (new_promise N) (costs.costs_free word v x (owed_at v x) 0 (costs.spare_promise word v x (owed_at v x))));
-      smashes = λ C p g q t sound c u. (settles C p g (Broken q) (record { at = λ r d. tt })).after t sound c;
-      resolves = resolves_known;
+      smashes = λ C p g q t sound c r u. (settles C p g (Broken q) (record { at = λ r d. tt })).after t sound c;
+      resolves = λ C p g y i t sound c r u. resolves_known C p g y i t sound c u;
       sends = λ C act y g verb args i. lift T Keeps keeps_quiet (fine_send N T under makes act y (names g) verb args (names i)) (free (send N act y verb args) (sends.free_send word v x (owed_at v x) (fit_at v x) act y verb args));
       sends_only = λ C act y g verb args i. lift T Keeps keeps_quiet (fine_send_only N T under makes act y (names g) verb args (names i)) (free (send_only N act y verb args) (sends.free_send_only word v x (owed_at v x) (fit_at v x) act y verb args));
       reacts = λ C act y g o i near j. lift T Keeps keeps_quiet (fine_react N T under makes act y (names g) o (names i) near (names j)) (free (react N act y o near) (sends.free_react word v x (owed_at v x) (fit_at v x) act y o near));

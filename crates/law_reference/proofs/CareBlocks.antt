@@ -357,8 +357,8 @@ module _ {N W : Type 0} (K : Naming N W) (S : Care N) (Here : ℕ → Type 0) (c
       spots = changes.spots;
       object = λ s i l. changes.object s i l;
       promises = λ C. changes.promises C;
-      smashes = λ C p g t s i c e. let closing = closes_by p in (closing.breaks C g t).after s i c;
-      resolves = λ C p g y h s i c e. let closing = closes_by p in (closing.closes C g y h).after s i c;
+      smashes = λ C p g t s i c r e. let closing = closes_by p in (closing.breaks C g t).after s i c;
+      resolves = λ C p g y h s i c r e. let closing = closes_by p in (closing.closes C g y h).after s i c;
       sends = λ C act x g verb args h. put_send act x g verb args h;
       sends_only = λ C act x g verb args h. put_send_only act x g verb args h;
       reacts = λ C act x g o h near k. put_react act x g o h near k;

@@ -457,8 +457,8 @@ module _ (v : ℕ) (m : Msg) (mine : m.sender ≡ v) where
       spots = record { alike = λ a b e. let spots = under.spots in spots.alike a b e; placed = λ s k n i. let spots = under.spots in spots.placed s k.0 n i };
       object = λ s i l. under.object s i l;
       promises = λ C. lift_of T Kept quiet (fine_promise Names T under makes) (λ s h c k. promised s k);
-      smashes = λ C p g t s h c e. let closing = closes p in (closing.breaks C g t).after s h c;
-      resolves = λ C p g y i s h c e. let closing = closes p in (closing.closes C g y i).after s h c;
+      smashes = λ C p g t s h c r e. let closing = closes p in (closing.breaks C g t).after s h c;
+      resolves = λ C p g y i s h c r e. let closing = closes p in (closing.closes C g y i).after s h c;
       sends = λ C act x g verb args i. lift_of T Kept quiet (fine_send Names T under makes act x (gets_names g) verb args (gets_names i)) (λ s h c k. sent_kept act x verb args s h (g.at s c) (i.at s c) k);
       sends_only = λ C act x g verb args i. lift_of T Kept quiet (fine_send_only Names T under makes act x (gets_names g) verb args (gets_names i)) (λ s h c k. lone_kept act x verb args s h (g.at s c) (i.at s c) k);
       reacts = λ C act x g o i near j. lift_of T Kept quiet (fine_react Names T under makes act x (gets_names g) o (gets_names i) near (gets_names j)) (λ s h c k. reacted_either act x o near s k (eq_dec m.number s.messages));
