@@ -1,8 +1,9 @@
--- As a note that asks for a gift is carried in a run, order is kept, whatever its receiver noticed.
+-- A gift that is asked for and does not stand at its host is not known there.
 use Rattle.std.proofs.Common.{◌≡◌, ℕ, zero, Bool, true, false, List, [], ◌∷◌, Option, Some, None, refl, sym, ap, subst, ◌∙◌, ◌⊎◌, inl, inr, ◌==◌}
 use Rattle.std.proofs.lemmas.Bool.{eqb-true, eq-eqb}
 use Rattle.def_machine.specs.Values.{Name, Gift, naming, word_of}
 use Rattle.def_machine.specs.State.{Ask, GiftEntry, is_gift}
+use Rattle.def_machine.specs.Refs.{entry_of}
 use Rattle.def_machine.specs.Arrive.{gift_at}
 use Rattle.def_run.specs.Draws.{draw_word}
 use Rattle.def_run.specs.World.{Script, Entry, World, Goes, begins, open_from, steps_from, names}
@@ -18,10 +19,8 @@ use Rattle.law_reference.proofs.GiftLinks.{found_tells}
 use Rattle.law_reference.proofs.First.{among_dec}
 use Rattle.law_reference.proofs.Told.{unknown}
 use Rattle.law_order_runs.proofs.Beginnings.{reached_is}
-use Rattle.law_order_asks.specs.Asks.{NoOldBreaks, stands_fast, comes_new, Bears}
-use Rattle.law_order_asks.proofs.AskRuns.{ask_carries_keep_in_runs}
-use Rattle.law_order_asked.specs.Asked.{AsksKeepInRuns}
-use Rattle.law_order_asked.proofs.Asked.{asked_for_are_opened}
+use Rattle.law_order_asks.specs.Asks.{Bears}
+use Rattle.law_order_asked.specs.Asked.{AskedForAreNew}
 
 -- ---- the gift that is found
 
@@ -69,24 +68,10 @@ module _ (script : Script) (knows : KnowsOnce script) (w x : World) (es : List E
       head : Each (Provides providers.0 x.drawn a b) h.link.notes → Provides providers.0 x.drawn a b (Ask p i n)
       head q = let one : Each (Provides providers.0 x.drawn a b) (Ask p i n ∷ h.rest) = subst (λ ms. Each (Provides providers.0 x.drawn a b) ms) h.first q in one.0
 
-  asked : IsAmong (Ask p i n) h.link.notes
-  asked = subst (λ ms. IsAmong (Ask p i n) ms) (sym h.first) (inl refl)
-
-  no_old : NoOldBreaks script b h.vat p i
+  none_known : gift_at p i h.vat.gifts ≡ None → IsAmong (Gift b i) (names_in h.vat.known) ⊎ (IsAmong (Gift b i) (names_in h.vat.known) → ⊥) → entry_of (names script b) h.vat.known (Gift b i) ≡ None
   unfolding names naming
-  no_old = go (gift_at p i h.vat.gifts) refl
-    where
-      stood : (g : GiftEntry Name) → gift_at p i h.vat.gifts ≡ Some g → g.opened ≡ true
-      stood g f = let r = found_among p i h.vat.gifts g f in (asked_for_are_opened script knows).1 w x es k o e a b h.link p i n h.found asked b h.vat g h.there r.0 r.1
+  none_known f (inl c) = absurd (entered_found providers.0 x.drawn p i h.vat.gifts (providers.2 b h.vat h.there) provider ((own_stand script knows).1 w x es k cuts o e b i h.vat h.there c) f)
+  none_known f (inr c) = unknown (draw_word script.key) b h.vat.known (Gift b i) c
 
-      known_or : gift_at p i h.vat.gifts ≡ None → IsAmong (Gift b i) (names_in h.vat.known) ⊎ (IsAmong (Gift b i) (names_in h.vat.known) → ⊥) → NoOldBreaks script b h.vat p i
-      known_or f (inl c) = absurd (entered_found providers.0 x.drawn p i h.vat.gifts (providers.2 b h.vat h.there) provider ((own_stand script knows).1 w x es k cuts o e b i h.vat h.there c) f)
-      known_or f (inr c) = comes_new f (unknown (draw_word script.key) b h.vat.known (Gift b i) c)
-
-      go : (q : Option (GiftEntry Name)) → gift_at p i h.vat.gifts ≡ q → NoOldBreaks script b h.vat p i
-      go (Some g) f = stands_fast g f (inl (stood g f))
-      go None f = known_or f (among_dec (Gift b i) (names_in h.vat.known))
-
-pub asks_keep_in_runs : AsksKeepInRuns
-asks_keep_in_runs script knows w x y es k a b p i n cuts o e f h honest =
-    ask_carries_keep_in_runs script knows w x y es k a b p i n o e f (record { borne = h; spares = inr (no_old script knows w x es k cuts o e a b p i n h) }) honest
+pub asked_for_are_new : AskedForAreNew
+asked_for_are_new script knows w x es k a b p i n cuts o e h f = none_known script knows w x es k cuts o e a b p i n h f (among_dec (Gift b i) (names_in h.vat.known))

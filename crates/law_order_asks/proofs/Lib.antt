@@ -1,9 +1,6 @@
 pub mod Gifts
 pub mod Asking
-pub mod Orphans
 pub mod Steps
-pub mod Asked
-pub mod AskRuns
 pub mod Turning
 pub mod Lost
 pub mod Leaving
@@ -11,4 +8,3 @@ pub mod Shortens
 pub mod Wanting
 pub mod Wishes
 pub mod ShortenRuns
-pub mod StepsKeep

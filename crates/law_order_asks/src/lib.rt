@@ -1,25 +1,7 @@
 //! Laws of the order of messages as vats are asked for gifts.
 #![tactic(auto)]
 
-ghost use Rattle.law_order_asks.specs.Asks.{AskCarriesKeep, AskCarriesKeepInRuns};
 ghost use Rattle.law_order_asks.specs.Shortens.{ShortenCarriesKeep, ShortenCarriesKeepInRuns, ShortensAreTrue};
-ghost use Rattle.law_order_asks.specs.StepsKeep.{StepsKeepOrder};
-
-/// As a note that asks for a gift is carried, what is ahead of a reference or of a message stays ahead of it, and what is
-/// doomed stays doomed; and each message stands where it stood. It asks that the receiver is ready.
-///
-/// Where the receiver noticed the provider as cut off, a gift that comes to be by this breaks at once. Left out is one that
-/// stood there, not opened and not settled.
-pub fn ask_carries_keep()
-    ensures { AskCarriesKeep }
-{}
-
-/// So it is in every run, as an entry carries such a note.
-///
-/// No vat of the script may be told twice that it knows a vat, or that it knows itself.
-pub fn ask_carries_keep_in_runs()
-    ensures { AskCarriesKeepInRuns }
-{}
 
 /// As a note is carried by which the provider of a gift is asked to open it, what is ahead of a reference or of a message
 /// stays ahead of it, and what is doomed stays doomed; and each message stands where it stood.
@@ -43,13 +25,4 @@ pub fn shortens_are_true()
 /// No vat of the script may be told twice that it knows a vat, or that it knows itself.
 pub fn shorten_carries_keep_in_runs()
     ensures { ShortenCarriesKeepInRuns }
-{}
-
-/// The kinds of steps that keep order in every run: a message is carried, a note that asks for a gift, or one by which the
-/// provider of a gift is asked to open it; and links are cut.
-///
-/// Each asks what its own law asks. Turns, notices, and the carries of notes that open gifts or tell where a name settled
-/// are none of them yet.
-pub fn steps_keep_order()
-    ensures { StepsKeepOrder }
 {}

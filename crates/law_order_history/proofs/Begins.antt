@@ -102,7 +102,7 @@ begins_tell script honest = record {
   first = λ a. record {
     references = λ r h. absurd h;
     messages = λ b h l c n s. absurd (cc);
-    passings = λ u v front d n ys b c r h more m i. absurd h.reach;
+    passings = λ u v front d n ys b c r h done told m i. absurd h.reach;
     carriers = λ v p d q b s c r h k i. absurd h.reach;
   };
   comings = λ u v front d n ys b. absurd (none_brought script u v front d n ys b);

@@ -1,6 +1,5 @@
 -- A small step keeps what the history tells of places.
-use Rattle.std.proofs.Common.{◌≡◌, ℕ, zero, suc, ◌+◌, ◌≤◌, ◌<◌, Bool, true, false, not, List, [], ◌++◌, Option, Some, None, length, refl, sym, ap, ◌∙◌, subst, ◌⊎◌, inl, inr, ◌||◌, arith, append_assoc, nat_le}
-use Rattle.std.proofs.lemmas.List.{append-nil}
+use Rattle.std.proofs.Common.{◌≡◌, ℕ, zero, suc, ◌+◌, ◌≤◌, ◌<◌, Bool, true, false, not, List, [], ◌++◌, Option, Some, None, length, refl, sym, ap, ◌∙◌, subst, ◌⊎◌, inl, inr, ◌||◌, arith, nat_le}
 use Rattle.std.proofs.lemmas.Bool.{leb-true}
 use Rattle.def_machine.specs.Values.{Value, Name, Ref, same_name}
 use Rattle.def_machine.specs.State.{Message, Passeds, Delivery, Note, Took}
@@ -16,7 +15,8 @@ use Rattle.law_order.proofs.Queues.{queues_are_free}
 use Rattle.law_order_history.specs.Laws.{SmallStepsKeep}
 use Rattle.law_order_history.specs.Lines.{with_first, was_taken, was_sent}
 use Rattle.law_order_history.specs.Befores as befores
-use Rattle.law_order_history.specs.Befores.{Brings, passing_place, IsBroughtFrom, in_lane, apart, CameBehind, TellsOrder}
+use Rattle.law_order_history.specs.Befores.{Brings, passing_place, up_to, IsBroughtFrom, in_lane, apart, CameBehind, TellsOrder}
+use Rattle.law_order_history.specs.Told.{IsTold}
 use Rattle.law_order_history.specs.Tells as tells
 use Rattle.law_order_history.specs.Tells.{IsSource, held_there, learnt_now, IsStillBrought, IsPutNow, IsSentOnNow, IsStillHeld, IsHeldNow, IsSentNow, Arrives, IsToldBy, SmallStep}
 use Rattle.law_order_history.proofs.Lines.{among_either, added, sent_by, and_first, and_second, some_is, reached_more, comes_stays, comes_now, line_by, line_below, before_more, before_was_sent}
@@ -40,7 +40,7 @@ brought_from l b Nowhere = (Nowhere, apart (λ m e. cc))
 brought_from l b Free = (Free, apart (λ m e. cc))
 brought_from l b (Mid h c n) = (Mid h c n, apart (λ m e. cc))
 
-module _ (script : Script) (honest : ℕ → Bool) (x y : World) (T : TellsOrder script honest x) (S : SmallStep script honest x y) where
+module _ (script : Script) (honest : ℕ → Bool) (x y : World) (so_far : IsTold script x.history) (T : TellsOrder script honest x) (S : SmallStep script honest x y) where
   abbrev Before : Name → Place → Type 0
   Before a c = befores.IsBehind script honest x a c
 
@@ -102,7 +102,7 @@ module _ (script : Script) (honest : ℕ → Bool) (x y : World) (T : TellsOrder
   arriving a r s = subst (λ o. IsToldBy script honest x y o) s.line S.told
 
   brought : (a : Name) (r : Reach) (s : LearntReach x.history (reached a x.history) S.line r) → Before a (passing_place s.from s.to [] s.carried s.aim s.name)
-  brought a r s = (T.first a).passings s.from s.to [] s.carried s.aim s.args (arriving a r s).brings s.coming s.old (record { came = s.came; reach = s.among; there = s.there; since = s.since }) [] s.name (subst (λ h. IsAmong s.name (all_pass_as s.from h s.old.name s.args s.coming.args)) (sym (append-nil x.history)) s.passes)
+  brought a r s = (T.first a).passings s.from s.to [] s.carried s.aim s.args (arriving a r s).brings s.coming s.old (record { came = s.came; reach = s.among; there = s.there; since = s.since }) x.history so_far s.name s.passes
 
   -- Where a message came in this step, what it carries had a place before, and what reached that is ahead of it.
   record Source (a : Name) (v : ℕ) (n : Name) : Type 0 where
@@ -183,33 +183,29 @@ module _ (script : Script) (honest : ℕ → Bool) (x y : World) (T : TellsOrder
       go (inl i) = old i
       go (inr k) = new k
 
-  -- what may come in more lines
-  later_lines : (u : ℕ) (more : List Event) (e m : Name) (ys zs : Passeds Name) → IsAmong m (all_pass_as u (y.history ++ more) e ys zs) → IsAmong m (all_pass_as u (x.history ++ (with_first S.line S.quiet ++ more)) e ys zs)
-  later_lines u more e m ys zs h = subst (λ es. IsAmong m (all_pass_as u es e ys zs)) (ap (λ es. es ++ more) S.lines ∙ append_assoc x.history (with_first S.line S.quiet) more) h
-
   passings : (a : Name) (u v : ℕ) (front : List (Note Name)) (d : Delivery Name) (n : Name) (ys : Passeds Name) → Brings y u v front d n ys
       → (c : Coming) (r : Reach) → CameBehind y.history a u d.message c r
-      → (more : List Event) (m : Name) → IsAmong m (all_pass_as u (y.history ++ more) r.name ys c.args) → Behind a (passing_place u v front d n m)
-  passings a u v front d n ys b c r h more m i = go (S.passings u v front d n ys b)
+      → (done : List Event) → IsTold script done → (m : Name) → IsAmong m (all_pass_as u done r.name ys c.args) → Behind a (passing_place u v front d n m)
+  passings a u v front d n ys b c r h done told m i = go (S.passings u v front d n ys b)
     where
       still : IsStillBrought script honest x y u v front d n ys → Behind a (passing_place u v front d n m)
       still k =
           let t = T.comings u v k.before d n ys k.brings in
           let o = old_behind a u d.message t.0 c r t.1 h in
-          let j : IsAmong m (all_pass_as u (x.history ++ (with_first S.line S.quiet ++ more)) r.name ys t.0.args) = subst (λ (z : Coming). IsAmong m (all_pass_as u (x.history ++ (with_first S.line S.quiet ++ more)) r.name ys z.args)) (sym o.0) (later_lines u more r.name m ys c.args i) in
-          carry_on a (passing_place u v k.before d n m) (passing_place u v front d n m) ((T.first a).passings u v k.before d n ys k.brings t.0 r o.1 (with_first S.line S.quiet ++ more) m j) (k.keeps a m)
+          let j : IsAmong m (all_pass_as u done r.name ys t.0.args) = subst (λ (z : Coming). IsAmong m (all_pass_as u done r.name ys z.args)) (sym o.0) i in
+          carry_on a (passing_place u v k.before d n m) (passing_place u v front d n m) ((T.first a).passings u v k.before d n ys k.brings t.0 r o.1 done told m j) (k.keeps a m)
 
       now : IsPutNow script honest x y S.line u v front d n ys → Behind a (passing_place u v front d n m)
       now k =
           let f = source_of a u d.message c r k.new h in
           let e : c ≡ k.coming = some_is c k.coming (sym h.came ∙ k.came) in
-          carry_on a f.place (passing_place u v front d n m) f.behind (k.keeps more a r.name m f.place f.source (subst (λ (z : Coming). IsAmong m (all_pass_as u (y.history ++ more) r.name ys z.args)) e i))
+          carry_on a f.place (passing_place u v front d n m) f.behind (k.keeps done told a r.name m f.place f.source (subst (λ (z : Coming). IsAmong m (all_pass_as u done r.name ys z.args)) e i))
 
       late : IsSentOnNow script honest x y u v front d n ys → Behind a (passing_place u v front d n m)
       late k =
           let o = old_behind a u d.message k.coming c r k.came h in
-          let f = brought_from (Held u k.held_for) k.before (leads script honest x.vats x.links u (Ref r.name)) in
-          carry_on a f.0 (passing_place u v front d n m) ((T.first a).carriers u k.held_for d.message k.aim k.before k.stood k.coming r o.1 f.0 f.1) (k.keeps more a r.name m f.0 f.1 (subst (λ (z : Coming). IsAmong m (all_pass_as u (y.history ++ more) r.name ys z.args)) (sym o.0) i))
+          let f = brought_from (Held u k.held_for) (up_to k.before d.message k.aim) (leads script honest x.vats x.links u (Ref r.name)) in
+          carry_on a f.0 (passing_place u v front d n m) ((T.first a).carriers u k.held_for d.message k.aim k.before k.stood k.coming r o.1 f.0 f.1) (k.keeps done told a r.name m f.0 f.1 (subst (λ (z : Coming). IsAmong m (all_pass_as u done r.name ys z.args)) (sym o.0) i))
 
       go : IsStillBrought script honest x y u v front d n ys ⊎ (IsPutNow script honest x y S.line u v front d n ys ⊎ IsSentOnNow script honest x y u v front d n ys) → Behind a (passing_place u v front d n m)
       go (inl k) = still k
@@ -218,20 +214,20 @@ module _ (script : Script) (honest : ℕ → Bool) (x y : World) (T : TellsOrder
 
   carriers : (a : Name) (v : ℕ) (p d q : Name) (b : List Item) → Stands d (Held v p) b q
       → (c : Coming) (r : Reach) → CameBehind y.history a v d c r
-      → (k : Place) → IsBroughtFrom (Held v p) b (leads script honest y.vats y.links v (Ref r.name)) k → Behind a k
+      → (k : Place) → IsBroughtFrom (Held v p) (up_to b d q) (leads script honest y.vats y.links v (Ref r.name)) k → Behind a k
   carriers a v p d q b s c r h k i = go (S.carriers v p d q b s)
     where
-      still : IsStillHeld script honest x y v p d b → Behind a k
+      still : IsStillHeld script honest x y v p d (up_to b d q) → Behind a k
       still j =
           let t = T.held v p d j.aim j.before j.stood in
           let o = old_behind a v d t.0 c r t.1 h in
-          let f = brought_from (Held v p) j.before (leads script honest x.vats x.links v (Ref r.name)) in
+          let f = brought_from (Held v p) (up_to j.before d j.aim) (leads script honest x.vats x.links v (Ref r.name)) in
           carry_on a f.0 k ((T.first a).carriers v p d j.aim j.before j.stood t.0 r o.1 f.0 f.1) (j.keeps a r.name f.0 k f.1 i)
 
-      now : IsHeldNow script honest x y S.line v p d b → Behind a k
+      now : IsHeldNow script honest x y S.line v p d (up_to b d q) → Behind a k
       now j = let f = source_of a v d c r j.new h in carry_on a f.place k f.behind (j.keeps a r.name f.place k f.source i)
 
-      go : IsStillHeld script honest x y v p d b ⊎ IsHeldNow script honest x y S.line v p d b → Behind a k
+      go : IsStillHeld script honest x y v p d (up_to b d q) ⊎ IsHeldNow script honest x y S.line v p d (up_to b d q) → Behind a k
       go (inl j) = still j
       go (inr j) = now j
 
@@ -246,7 +242,7 @@ module _ (script : Script) (honest : ℕ → Bool) (x y : World) (T : TellsOrder
   held : (v : ℕ) (p d q : Name) (b : List Item) → Stands d (Held v p) b q → (c : Coming) × (comes v d zero y.history ≡ Some c)
   held v p d q b s = go (S.carriers v p d q b s)
     where
-      go : IsStillHeld script honest x y v p d b ⊎ IsHeldNow script honest x y S.line v p d b → (c : Coming) × (comes v d zero y.history ≡ Some c)
+      go : IsStillHeld script honest x y v p d (up_to b d q) ⊎ IsHeldNow script honest x y S.line v p d (up_to b d q) → (c : Coming) × (comes v d zero y.history ≡ Some c)
       go (inl j) = let t = T.held v p d j.aim j.before j.stood in (t.0, came_stays v d t.0 t.1)
       go (inr j) = (j.coming, j.came)
 
@@ -333,4 +329,4 @@ module _ (script : Script) (honest : ℕ → Bool) (x y : World) (T : TellsOrder
   }
 
 pub small_steps_keep : SmallStepsKeep
-small_steps_keep = λ script honest x y T S. small_step script honest x y T S
+small_steps_keep = λ script honest x y so_far T S. small_step script honest x y so_far T S

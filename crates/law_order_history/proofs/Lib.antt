@@ -2,7 +2,9 @@ pub mod Begins
 pub mod Kept
 pub mod Lines
 pub mod Links
+pub mod Lost
 pub mod News
+pub mod PassWalk
 pub mod Passed
 pub mod ReactStep
 pub mod Reaches
@@ -14,3 +16,4 @@ pub mod SentStep
 pub mod TakeStep
 pub mod Takes
 pub mod Tales
+pub mod Told

@@ -34,6 +34,7 @@ pub record IsPut (ls : List Link) (v h : ℕ) (note : Note Name) (u g : ℕ) (fr
   pub is : Deliver d n verb ys ≡ note
   pub link : Link
   pub found : world.link_at u g ls ≡ Some link
+  pub uncut : link.cut ≡ false
   pub front_is : front ≡ link.notes
 
 module _ (v h : ℕ) (note : Note Name) (a b : ℕ) where
@@ -65,7 +66,7 @@ module _ (v h : ℕ) (note : Note Name) (a b : ℕ) where
     grew verb rest k true e x y f q = inl (record { link = k; found = f; verb = verb; rest = rest; notes = sym (ap (λ (l : Link). l.notes) (pushed_shut note k e)) ∙ q })
     grew verb rest k false e x y f q = elim (last_or k.notes front note (Deliver d n verb ys) rest (sym (ap (λ (l : Link). l.notes) (pushed_open note k e)) ∙ q)) [
       | inl r ↦ inl (record { link = k; found = f; verb = verb; rest = r.0; notes = r.1 })
-      | inr r ↦ inr (record { from = x; to = y; verb = verb; is = r.same; link = k; found = f; front_is = r.front })
+      | inr r ↦ inr (record { from = x; to = y; verb = verb; is = r.same; link = k; found = f; uncut = e; front_is = r.front })
     ]
 
     pub on_back : On (world.with_link (world.pushed note) v h ls) a b front d n ys → On ls a b front d n ys ⊎ IsPut ls v h note a b front d n ys

@@ -1,58 +1,50 @@
 -- What is ahead of a reference is ahead of what passes for it, as the arguments of a message pass.
-use Rattle.std.proofs.Common.{◌≡◌, ℕ, zero, suc, ◌-◌, ◌≤◌, Bool, true, false, List, [], ◌∷◌, ◌++◌, Option, Some, None, length, refl, sym, ap, subst, ◌∙◌, inl, inr, ◌==◌, codes, eqb-true, if◌then◌else◌, arith, nat_le}
+use Rattle.std.proofs.Common.{◌≡◌, ℕ, zero, suc, Bool, true, false, List, [], ◌∷◌, ◌++◌, Option, Some, None, length, refl, sym, ap, subst, ◌∙◌, ◌⊎◌, inl, inr, ◌==◌, eqb-true, if◌then◌else◌}
 use Rattle.std.proofs.lemmas.Bool.{eq-eqb}
 use Rattle.std.proofs.lemmas.List.{append-nil, append_assoc}
 use Rattle.std.specs.Prelude.{slice_get}
-use Rattle.def_machine.specs.Values.{Words, Value, Null, Flag, Number, Letter, Text, Prim, Broken, Items, Ref, Name, Object, Gift, Naming, host_of, key}
+use Rattle.def_machine.specs.Values.{Value, Null, Flag, Number, Letter, Text, Prim, Broken, Items, Ref, Name, Object, Gift, Naming, host_of, key}
 use Rattle.def_machine.specs.State.{Known, Standing, Settled, Put, Passed, Passeds, Plain, AGift, Many, NoMore, More, Open, ToTell, Vat, Done, Gives, Act, ◌>>=◌, ◌>>◌, and_then, give, look, spend, spent, draw, draws, drawn_at, send_out, alter}
 use Rattle.def_machine.specs.State as state
-use Rattle.def_machine.specs.Native.{list_at}
 use Rattle.def_machine.specs.Refs as refs
 use Rattle.def_machine.specs.Refs.{Place, Near, Mine, Away}
 use Rattle.def_run.specs.World.{Script, Event, World, names}
 use Rattle.law_name.specs.Names.{IsAmong, AllOf}
-use Rattle.law_order.specs.Ways.{Way, Item, End, Mid, Ways, Ahead}
+use Rattle.law_order.specs.Ways.{Way, Item, End, Mid, Ways, Ahead, nowhere, doomed_there, past_mid}
 use Rattle.law_order.specs.Ways as lanes
-use Rattle.law_order.specs.Places.{held_in, held_on, delivered, aimed, ways, amid}
+use Rattle.law_order.specs.Places.{held_in, held_on, delivered, aimed, leads_at, leads, ways, amid}
 use Rattle.law_order.specs.Worlds.{AddsOnly, IfGives, IsObject, StandsAlike}
 use Rattle.law_order.specs.Steps.{StaysReady, LeadsAmid, Grown, IsHeld, next_key}
-use Rattle.law_order.specs.Order.{members, names as is_named, passes, passes_as, all_pass_as}
+use Rattle.law_order.specs.Order.{passes, all_pass_as}
 use Rattle.law_order.proofs.Adding.{follow_alike}
 use Rattle.law_order.proofs.Adds.{stays_quiet, adds_nothing, change_adds}
 use Rattle.law_order.proofs.Entries.{Differs, as_it_was, changes, differs}
 use Rattle.law_order.proofs.Standing.{IsQuiet}
 use Rattle.law_order.proofs.News.{stays_self, stays_then, opened}
 use Rattle.law_order.proofs.Changes.{growing_keeps}
-use Rattle.law_order.proofs.Brought.{passed_home_is_behind, passed_name_is_behind, open_names_lead_home}
+use Rattle.law_order.proofs.Brought.{over_link, passed_home_is_behind, passed_name_is_behind, open_names_lead_home}
 use Rattle.law_order.proofs.Given.{passed_gift_is_behind}
-use Rattle.law_order_history.specs.Passings.{OnGives, CanPass, BringsBehind, IsNamedAs, CameAs, AllCame, ArgumentsPassBehind}
-use Rattle.law_order_history.proofs.Lines.{among_either}
+use Rattle.law_order_history.specs.Passings.{OnGives, IsThere, IsNoVat, CanPass, IsOpenOrLost, BringsBehind, CameAs, AllCame, ArgumentsPassBehind}
+use Rattle.law_order_history.proofs.PassWalk as walk
+use Rattle.law_order_history.proofs.PassWalk.{bind_gives, map_gives, IsFlat, LeafOf, IsPassing}
+use Rattle.law_order_history.proofs.Lost.{broken_leads, cut_leads, nobody_leads}
 use Rattle.law_order_history.proofs.Refs.{other_put, PlaceOf, own_object, own_name, of_other, place_is, leads_again}
-
-bind_gives : {A B : Type 0} (P : A → Vat Name → Type 0) (Q : B → Vat Name → Type 0) (d : Done Name A) (f : A → Act Name B) → OnGives P d → ((a : A) (t : Vat Name) → P a t → OnGives Q (f a t)) → OnGives Q (and_then d f)
-unfolding and_then
-bind_gives P Q (Gives a t) f h g = g a t h
-bind_gives P Q other f h g = tt
-
-map_gives : {A : Type 0} (P Q : A → Vat Name → Type 0) (d : Done Name A) → OnGives P d → ((a : A) (t : Vat Name) → P a t → Q a t) → OnGives Q d
-map_gives P Q (Gives a t) h g = g a t h
-map_gives P Q other h g = tt
 
 module _ (script : Script) (honest : ℕ → Bool) (w : World) (v h : ℕ) (r rh : Vat Name) (everyone : (u : ℕ) → honest u ≡ true) (at : slice_get w.vats v ≡ Some r) (there : slice_get w.vats h ≡ Some rh) (number : rh.number ≡ h) (other : h ≡ v → ⊥)
     (plain : (n : Name) → IsObject n → refs.entry_of (names script h) rh.known n ≡ None) where
-  abbrev K : Naming Name Name
+  abbrev pub K : Naming Name Name
   K = names script v
 
-  abbrev W : Vat Name → Ways
+  abbrev pub W : Vat Name → Ways
   W s = ways script honest (amid v s w)
 
-  abbrev Led : Vat Name → Value Name → lanes.Place
+  abbrev pub Led : Vat Name → Value Name → lanes.Place
   Led s x = LeadsAmid script honest w v s v x
 
-  abbrev Can : Vat Name → Type 0
+  abbrev pub Can : Vat Name → Type 0
   Can s = CanPass script honest w v h rh s
 
-  abbrev Brings : Vat Name → Vat Name → lanes.Place → Name → Type 0
+  abbrev pub Brings : Vat Name → Vat Name → lanes.Place → Name → Type 0
   Brings s t c m = BringsBehind script honest w v h s t c m
 
   -- ---- what passing does to the vat
@@ -61,8 +53,9 @@ module _ (script : Script) (honest : ℕ → Bool) (w : World) (v h : ℕ) (r rh
     pub stays : StaysReady script honest w v q t
     pub follow : (x : Value Name) → refs.follow K t x ≡ refs.follow K q x
     pub lists : t.lists ≡ q.lists
-    pub drawn : length q.drawn ≤ length t.drawn
+    pub undrawn : (x : ℕ) → drawn_at zero x t.drawn ≡ None → drawn_at zero x q.drawn ≡ None
     pub holds : (n : Name) → IsHeld script honest w v q (Ref n) → IsHeld script honest w v t (Ref n)
+    pub held_before : (x : Value Name) → IsHeld script honest w v t x → IsHeld script honest w v q x
     -- no message moves, and no note is put that delivers one
     pub happened : t.happened ≡ q.happened
     pub queue : t.queue ≡ q.queue
@@ -72,7 +65,7 @@ module _ (script : Script) (honest : ℕ → Bool) (w : World) (v h : ℕ) (r rh
     pub silent : AllOf (λ p. IsQuiet p.note) puts
 
   step_self : (q : Vat Name) → Step q q
-  step_self q = record { stays = stays_self script honest w v q; follow = λ x. refl; lists = refl; drawn = omega arith; holds = λ n i. i; happened = refl; queue = refl; held = λ n. refl; puts = []; outbox = sym (append-nil q.outbox); silent = tt }
+  step_self q = record { stays = stays_self script honest w v q; follow = λ x. refl; lists = refl; undrawn = λ x e. e; holds = λ n i. i; held_before = λ x i. i; happened = refl; queue = refl; held = λ n. refl; puts = []; outbox = sym (append-nil q.outbox); silent = tt }
 
   both_silent : (ps rs : List (Put Name)) → AllOf (λ p. IsQuiet p.note) ps → AllOf (λ p. IsQuiet p.note) rs → AllOf (λ p. IsQuiet p.note) (ps ++ rs)
   both_silent [] rs h k = k
@@ -83,8 +76,9 @@ module _ (script : Script) (honest : ℕ → Bool) (w : World) (v h : ℕ) (r rh
     stays = stays_then script honest w v a.stays b.stays;
     follow = λ x. b.follow x ∙ a.follow x;
     lists = b.lists ∙ a.lists;
-    drawn = more;
+    undrawn = λ x e. a.undrawn x (b.undrawn x e);
     holds = λ n i. b.holds n (a.holds n i);
+    held_before = λ x i. a.held_before x (b.held_before x i);
     happened = b.happened ∙ a.happened;
     queue = b.queue ∙ a.queue;
     held = λ n. b.held n ∙ a.held n;
@@ -92,9 +86,6 @@ module _ (script : Script) (honest : ℕ → Bool) (w : World) (v h : ℕ) (r rh
     outbox = b.outbox ∙ ap (λ ps. ps ++ b.puts) a.outbox ∙ append_assoc q.outbox a.puts b.puts;
     silent = both_silent a.puts b.puts a.silent b.silent;
   }
-    where
-      more : length q.drawn ≤ length u.drawn
-      more = let x : length q.drawn ≤ length t.drawn = a.drawn in let y : length t.drawn ≤ length u.drawn = b.drawn in omega arith
 
   grown : (q t : Vat Name) → Step q t → Can q → Grown script honest w v q t
   grown q t a c = (a.stays c.ready).1
@@ -102,13 +93,10 @@ module _ (script : Script) (honest : ℕ → Bool) (w : World) (v h : ℕ) (r rh
   can_step : (q t : Vat Name) → Step q t → Can q → Can t
   can_step q t a c = record {
     ready = (a.stays c.ready).0;
-    opens = λ x n e. c.opens x n (sym ((grown q t a c).leading v x) ∙ e);
-    vats = λ x g n e. c.vats x g n (sym ((grown q t a c).leading v x) ∙ e);
-    gifts = λ i e u g z f. c.gifts i (more i e) u g z f;
+    opens = λ x n i e. c.opens x n (a.held_before x i) (sym ((grown q t a c).leading v x) ∙ e);
+    vats = λ x g n i e. c.vats x g n (a.held_before x i) (sym ((grown q t a c).leading v x) ∙ e);
+    gifts = λ x e u g z f. c.gifts x (a.undrawn x e) u g z f;
   }
-    where
-      more : (i : ℕ) → length t.drawn ≤ i → length q.drawn ≤ i
-      more i e = let y : length q.drawn ≤ length t.drawn = a.drawn in omega arith
 
   brings_on : (q t u : Vat Name) (c : lanes.Place) (m : Name) → Step t u → Can t → Brings q t c m → Brings q u c m
   brings_on q t u c m a can b x i bs f = (growing_keeps (W t) (W u) (grown t u a can).grows (Mid (Way v h) bs m)).1 x (b x i bs (λ j k. f j ((grown t u a can).grows.stands (Way v h) j k)))
@@ -122,13 +110,18 @@ module _ (script : Script) (honest : ℕ → Bool) (w : World) (v h : ℕ) (r rh
   kept_entry n k (Some j) e = (j, refl)
   kept_entry n k None e = absurd e
 
+  known_before : (n : Name) (k : Known Name) (o : Option (Known Name)) → StandsAlike n o (Some k) → (j : Known Name) × (o ≡ Some j)
+  known_before n k (Some j) e = (j, refl)
+  known_before n k None e = absurd e
+
   step_adds : (q t : Vat Name) → AddsOnly K q t → t.messages ≡ q.messages → t.promises ≡ q.promises → t.drawn ≡ q.drawn → t.lists ≡ q.lists → t.happened ≡ q.happened → t.queue ≡ q.queue → t.outbox ≡ q.outbox → ((n : Name) → held_in n (refs.entry_of K t.known n) ≡ held_in n (refs.entry_of K q.known n)) → Step q t
   step_adds q t a m p d l x y o f = record {
     stays = stays_quiet script honest w v q t (a, m, p, d);
     follow = λ x. follow_alike K q t a.alike x;
     lists = l;
-    drawn = subst (λ ds. length q.drawn ≤ length ds) (sym d) (omega arith);
+    undrawn = λ x e. subst (λ ds. drawn_at zero x ds ≡ None) d e;
     holds = holds;
+    held_before = before;
     happened = x;
     queue = y;
     held = f;
@@ -140,6 +133,21 @@ module _ (script : Script) (honest : ℕ → Bool) (w : World) (v h : ℕ) (r rh
       holds : (n : Name) → IsHeld script honest w v q (Ref n) → IsHeld script honest w v t (Ref n)
       holds n (inl i) = inl i
       holds n (inr k) = inr (kept_entry n k.0 (refs.entry_of K t.known n) (subst (λ o. StandsAlike n o (refs.entry_of K t.known n)) k.1 (a.alike.entries n)))
+
+      before_name : (n : Name) → IsObject n ⊎ ((k : Known Name) × (refs.entry_of K t.known n ≡ Some k)) → IsObject n ⊎ ((k : Known Name) × (refs.entry_of K q.known n ≡ Some k))
+      before_name n (inl i) = inl i
+      before_name n (inr k) = inr (known_before n k.0 (refs.entry_of K q.known n) (subst (λ o. StandsAlike n (refs.entry_of K q.known n) o) k.1 (a.alike.entries n)))
+
+      before : (x : Value Name) → IsHeld script honest w v t x → IsHeld script honest w v q x
+      before (Ref n) i = before_name n i
+      before Null i = tt
+      before (Flag b) i = tt
+      before (Number b) i = tt
+      before (Letter b) i = tt
+      before (Text b) i = tt
+      before (Prim b) i = tt
+      before (Broken b) i = tt
+      before (Items b) i = tt
 
   told_still : (k : Known Name) → (state.changed (ToTell h) k).held ≡ k.held
   unfolding state.changed state.unless_settled state.changed_to
@@ -163,9 +171,15 @@ module _ (script : Script) (honest : ℕ → Bool) (w : World) (v h : ℕ) (r rh
   step_fuel : (f : ℕ) (q : Vat Name) → Step q (record q { fuel = f })
   step_fuel f q = step_adds q (record q { fuel = f }) (adds_nothing K q (record q { fuel = f }) refl refl refl refl refl refl) refl refl refl refl refl refl refl (λ n. refl)
 
-  length_more : (ds : List ℕ) (d : ℕ) → length ds ≤ length (ds ++ d ∷ [])
-  length_more [] d = omega arith
-  length_more (x ∷ ds) d = let e : length ds ≤ length (ds ++ d ∷ []) = length_more ds d in omega arith
+  -- what was not drawn by the next word was not drawn before it
+  undrawn_before : (ds : List ℕ) (d k x : ℕ) → drawn_at k x (ds ++ d ∷ []) ≡ None → drawn_at k x ds ≡ None
+  unfolding drawn_at
+  undrawn_before [] d k x e = refl
+  undrawn_before (c ∷ ds) d k x e = go (x == c) (undrawn_before ds d (suc k) x) e
+    where
+      go : (b : Bool) → (drawn_at (suc k) x (ds ++ d ∷ []) ≡ None → drawn_at (suc k) x ds ≡ None) → ◌≡◌ {A = Option ℕ} (elim b [ true ↦ Some k | false ↦ drawn_at (suc k) x (ds ++ d ∷ []) ]) None → ◌≡◌ {A = Option ℕ} (elim b [ true ↦ Some k | false ↦ drawn_at (suc k) x ds ]) None
+      go true f i = cc
+      go false f i = f i
 
   abbrev Word : Vat Name → ℕ
   Word q = K.word (length q.drawn)
@@ -173,19 +187,42 @@ module _ (script : Script) (honest : ℕ → Bool) (w : World) (v h : ℕ) (r rh
   abbrev LetGo : ℕ → Name → Vat Name → Vat Name
   LetGo g n q = record q { drawn = q.drawn ++ Word q ∷ []; outbox = q.outbox ++ record { to = g; note = Open (key q.number (Word q)) n } ∷ [] }
 
+  held_still : (g : ℕ) (n : Name) (q : Vat Name) (x : Value Name) → IsHeld script honest w v (LetGo g n q) x → IsHeld script honest w v q x
+  held_still g n q (Ref m) i = i
+  held_still g n q Null i = tt
+  held_still g n q (Flag b) i = tt
+  held_still g n q (Number b) i = tt
+  held_still g n q (Letter b) i = tt
+  held_still g n q (Text b) i = tt
+  held_still g n q (Prim b) i = tt
+  held_still g n q (Broken b) i = tt
+  held_still g n q (Items b) i = tt
+
   step_open : (g : ℕ) (n : Name) (q : Vat Name) → drawn_at zero (Word q) q.drawn ≡ None → Step q (LetGo g n q)
   unfolding refs.follow refs.severed refs.severed_at refs.severed_by refs.host_at delivered
-  step_open g n q e = record { stays = opened script honest w v g (Word q) n q e; follow = λ x. refl; lists = refl; drawn = length_more q.drawn (Word q); holds = λ m i. i; happened = refl; queue = refl; held = λ m. refl; puts = record { to = g; note = Open (key q.number (Word q)) n } ∷ []; outbox = refl; silent = (refl, tt) }
+  step_open g n q e = record { stays = opened script honest w v g (Word q) n q e; follow = λ x. refl; lists = refl; undrawn = λ x i. undrawn_before q.drawn (Word q) zero x i; holds = λ m i. i; held_before = held_still g n q; happened = refl; queue = refl; held = λ m. refl; puts = record { to = g; note = Open (key q.number (Word q)) n } ∷ []; outbox = refl; silent = (refl, tt) }
+
+  -- to a gift at a vat that is not there nothing comes
+  nobody_behind : (t : Vat Name) (g i : ℕ) (bs : List Item) (a : Name) → (h ≡ g → ⊥) → IsNoVat w g → refs.entry_of (names script h) rh.known (Gift g i) ≡ None → Ahead (W t) a (Mid (Way v h) bs (Gift g i))
+  unfolding amid leads
+  nobody_behind t g i bs a third none new = past_mid (over_link script honest (amid v t w) v h (Gift g i) a (everyone v) (everyone h)
+      (subst (λ (z : Option (Vat Name)). Ahead (W t) a (leads_at script honest h z (Ref (Gift g i)))) (sym (other_put v h t w.vats other ∙ there)) (nobody_leads script honest w v h t rh g i a third none new)))
+
+  -- what leads here to a name of the vat's own is ahead of that name as it passes
+  open_behind : (q : Vat Name) (a : Name) (bs : List Item) (n : Name) → host_of n ≡ v → IsOpenOrLost script w v h rh n → Ahead (W q) a (Led q (Ref n)) → Ahead (W q) a (Mid (Way v h) bs n)
+  unfolding amid leads
+  open_behind q a bs n host (inl o) k = passed_name_is_behind script honest (amid v q w) v h bs n a (everyone v) (everyone h) (open_names_lead_home script honest (amid v q w) v h rh n (other_put v h q w.vats other ∙ there) number other host o) k
+  open_behind q a bs n host (inr (inl o)) k = passed_name_is_behind script honest (amid v q w) v h bs n a (everyone v) (everyone h)
+      (inr (ap (λ (z : Option (Vat Name)). leads_at script honest h z (Ref n)) (other_put v h q w.vats other ∙ there) ∙ broken_leads script honest h rh n o)) k
+  open_behind q a bs n host (inr (inr o)) k = past_mid (subst (λ c. Ahead (W q) a c) (sym (cut_leads script honest everyone w v h q n o)) (doomed_there nowhere))
 
   -- ---- a name that passes
 
-  -- it is no list
-  abbrev IsFlat : Passed Name → Type 0
-  IsFlat (Plain y) = Unit {0}
-  IsFlat (AGift g i) = Unit {0}
-  IsFlat (Many ys) = ⊥
+  -- What passes for a reference stands behind all that was ahead of it.
+  abbrev pub BringsName : Vat Name → Vat Name → Name → Name → Type 0
+  BringsName q t e m = Brings q t (Led q (Ref e)) m
 
-  -- What passes for a value that is followed to y stands behind all that was ahead of it.
+  -- So it is of what passes for a value.
   record Leaf (q : Vat Name) (x : Value Name) (z : Passed Name) (t : Vat Name) : Type 0 where
     pub step : Step q t
     pub flat : IsFlat z
@@ -210,10 +247,7 @@ module _ (script : Script) (honest : ℕ → Bool) (w : World) (v h : ℕ) (r rh
     mine_behind : refs.place K q (Ref n) ≡ Mine n → IsHeld script honest w v q x → Brings q q (Led q x) n
     unfolding aimed amid
     mine_behind p i a k bs f =
-        let o = can.opens x n ((again i).1 ∙ ap (aimed v (Ref n)) p) in
-        passed_name_is_behind script honest (amid v q w) v h bs n a (everyone v) (everyone h)
-        (open_names_lead_home script honest (amid v q w) v h rh n (other_put v h q w.vats other ∙ there) number other o.0 o.1)
-        (subst (λ c. Ahead (W q) a c) (sym (again i).0) k)
+        let o = can.opens x n i ((again i).1 ∙ ap (aimed v (Ref n)) p) in open_behind q a bs n o.0 o.1 (subst (λ c. Ahead (W q) a c) (sym (again i).0) k)
 
     home_behind : (o : Bool) → refs.place K q (Ref n) ≡ Away h n o → IsHeld script honest w v q x → Brings q q (Led q x) n
     unfolding aimed
@@ -237,12 +271,11 @@ module _ (script : Script) (honest : ℕ → Bool) (w : World) (v h : ℕ) (r rh
       unfolding aimed
       away_leads i = (again i).1 ∙ ap (aimed v (Ref n)) p
 
-      gift_law : IsHeld script honest w v q x → (a : Name) → Ahead (W q) a (Led q x) → (bs : List Item) → IfGives (λ t. Ahead (W t) a (Mid (Way v h) bs (Gift g (next_key script v q)))) (refs.address_plain K h (Ref n) (Away g n o) q)
-      gift_law i a k bs =
-          let y = can.vats x g n (away_leads i) in
+      gift_law : drawn_at zero (Word q) q.drawn ≡ None → IsHeld script honest w v q x → (a : Name) → Ahead (W q) a (Led q x) → (bs : List Item) → IsThere w v g → IfGives (λ t. Ahead (W t) a (Mid (Way v h) bs (Gift g (next_key script v q)))) (refs.address_plain K h (Ref n) (Away g n o) q)
+      gift_law fresh i a k bs y =
           let l = y.link q.outbox in
-          let at_h = can.gifts (length q.drawn) (omega arith) h g rh there in
-          let at_g = can.gifts (length q.drawn) (omega arith) g g y.vat y.found in
+          let at_h = can.gifts (Word q) fresh h g rh there in
+          let at_g = can.gifts (Word q) fresh g g y.vat y.found in
           let keyed : key v (Word q) ≡ next_key script v q = ap (λ u. key u (Word q)) (sym can.ready.number) in
           passed_gift_is_behind script honest w v h g (Ref n) n a o bs q rh y.vat l.0 (everyone v) (everyone h) (everyone g) (λ e. other (sym e)) far third there number
           (subst (λ d. refs.entry_of (names script h) rh.known (Gift g d) ≡ None) keyed at_h.0) y.found (subst (λ d. refs.entry_of (names script g) y.vat.known (Gift g d) ≡ None) keyed at_g.0)
@@ -252,15 +285,18 @@ module _ (script : Script) (honest : ℕ → Bool) (w : World) (v h : ℕ) (r rh
       unfolding draw ◌>>=◌ ◌>>◌ and_then send_out give draws refs.address_plain passes
       given f = go (drawn_at zero (Word q) q.drawn) refl
         where
-          law : IsHeld script honest w v q x → (a : Name) → Ahead (W q) a (Led q x) → (bs : List Item) → IfGives (λ t. Ahead (W t) a (Mid (Way v h) bs (Gift g (next_key script v q)))) (Given g q)
-          law i a k bs = subst (λ b. IfGives (λ t. Ahead (W t) a (Mid (Way v h) bs (Gift g (next_key script v q)))) ((if b then give (Plain (Ref n)) else Given g) q)) f (gift_law i a k bs)
+          law : drawn_at zero (Word q) q.drawn ≡ None → IsHeld script honest w v q x → (a : Name) → Ahead (W q) a (Led q x) → (bs : List Item) → IsThere w v g → IfGives (λ t. Ahead (W t) a (Mid (Way v h) bs (Gift g (next_key script v q)))) (Given g q)
+          law fresh i a k bs y = subst (λ b. IfGives (λ t. Ahead (W t) a (Mid (Way v h) bs (Gift g (next_key script v q)))) ((if b then give (Plain (Ref n)) else Given g) q)) f (gift_law fresh i a k bs y)
 
           go : (d : Option ℕ) → drawn_at zero (Word q) q.drawn ≡ d → OnGives (λ z t. Leaf q x z t) (and_then (draws (Word q) d q) (λ i. send_out g (Open i n) >> give (AGift g i)))
           go (Some j) e = tt
           go None e = record {
             step = step_open g n q e;
             flat = tt;
-            behind = λ i m k a l bs b. subst (λ z. Ahead (W (LetGo g n q)) a (Mid (Way v h) bs z)) (sym (passed m k)) (subst (λ d. IfGives {A = Passed Name} (λ t. Ahead (W t) a (Mid (Way v h) bs (Gift g (next_key script v q)))) (and_then (draws (Word q) d q) (λ i. send_out g (Open i n) >> give (AGift g i)))) e (law i a l bs));
+            behind = λ i m k a l bs b. subst (λ z. Ahead (W (LetGo g n q)) a (Mid (Way v h) bs z)) (sym (passed m k)) (elim (can.vats x g n i (away_leads i)) [
+              | inl y ↦ subst (λ d. IfGives {A = Passed Name} (λ t. Ahead (W t) a (Mid (Way v h) bs (Gift g (next_key script v q)))) (and_then (draws (Word q) d q) (λ i. send_out g (Open i n) >> give (AGift g i)))) e (law e i a l bs y)
+              | inr y ↦ nobody_behind (LetGo g n q) g (next_key script v q) bs a third y (subst (λ d. refs.entry_of (names script h) rh.known (Gift g d) ≡ None) (ap (λ u. key u (Word q)) (sym can.ready.number)) (can.gifts (Word q) e h g rh there).0)
+            ]);
           }
             where
               passed : (m : Name) → IsAmong m (Gift g (next_key script v q) ∷ []) → m ≡ Gift g (next_key script v q)
@@ -309,148 +345,35 @@ module _ (script : Script) (honest : ℕ → Bool) (w : World) (v h : ℕ) (r rh
   leaf q can x (Broken p) e = leaf_data q x (Broken p) tt
   leaf q can x (Items k) e = leaf_data q x (Items k) tt
 
-  -- ---- an argument, with its members
+  -- ---- all that passes
+
+  leaf_of : (q : Vat Name) (x : Value Name) (z : Passed Name) (t : Vat Name) → Leaf q x z t → LeafOf script honest w v Step BringsName q x z t
+  leaf_of q x z t l = record { step = l.step; flat = l.flat; behind = λ e i k m j. subst (λ u. Brings q t (Led q u) m) i (l.behind (subst (IsHeld script honest w v q) (sym i) k) m j) }
+
+  -- one that is followed to y
+  pub leaf_passes : (q : Vat Name) → Can q → (x y : Value Name) → refs.follow K q x ≡ y → OnGives (λ z t. LeafOf script honest w v Step BringsName q x z t) (refs.address_plain K h y (refs.place K q y) q)
+  leaf_passes q can x y e = map_gives (λ z t. Leaf q x z t) (λ z t. LeafOf script honest w v Step BringsName q x z t) (refs.address_plain K h y (refs.place K q y) q) (leaf q can x y e) (λ z t l. leaf_of q x z t l)
+
+  pub passing : IsPassing script honest w v Step BringsName h Can
+  passing = record {
+    self = step_self;
+    joins = step_then;
+    follow = λ a x. a.follow x;
+    lists = λ a. a.lists;
+    holds = λ a n i. a.holds n i;
+    can = can_step;
+    fuel = step_fuel;
+    on = λ q t u e m a can b. brings_on q t u (Led q (Ref e)) m a can b;
+    from = λ q t u e m a can b. subst (λ c. Brings q u c m) ((grown q t a can).leading v (Ref e)) (brings_from q t u (Led t (Ref e)) m a can b);
+    leaf = leaf_passes;
+  }
 
   module _ (done : List Event) where
-    abbrev Came : ℕ → Vat Name → Passed Name → Value Name → Type 0
-    Came d s z x = CameAs script honest w v h d s done z x
+    abbrev pub AllPass : Vat Name → Passeds Name → Passeds Name → Vat Name → Type 0
+    AllPass q zs ys t = walk.AllPass script honest w v h Can Step BringsName passing done q zs ys t
 
-    abbrev AllIn : ℕ → Vat Name → Passeds Name → List (Value Name) → Type 0
-    AllIn d s zs xs = AllCame (λ z x. Came d s z x) zs xs
-
-    -- what passed for z stands behind all that was ahead of its names
-    record Passes (q : Vat Name) (z y : Passed Name) (t : Vat Name) : Type 0 where
-      pub step : Step q t
-      pub behind : (e m : Name) → IsAmong m (passes_as v done e y z) → Brings q t (Led q (Ref e)) m
-
-    pub record AllPass (q : Vat Name) (zs ys : Passeds Name) (t : Vat Name) : Type 0 where
-      pub step : Step q t
-      pub behind : (e m : Name) → IsAmong m (all_pass_as v done e ys zs) → Brings q t (Led q (Ref e)) m
-
-    named_at : (d : ℕ) (s : Vat Name) (z : Passed Name) (x : Value Name) → Came d s z x → IsNamedAs script honest w v h s z x
-    named_at zero s z x c = c
-    named_at (suc d) s z x c = c.0
-
-    -- a name alone
-    flat_passes : (e : Name) (y z : Passed Name) → IsFlat y → (m : Name) → IsAmong m (passes_as v done e y z) → (is_named e z ≡ true) × IsAmong m (passes y)
-    unfolding passes_as passes
-    flat_passes e (Plain y) z f m i = go (is_named e z) refl i
-      where
-        go : (b : Bool) → is_named e z ≡ b → IsAmong m (elim b [ true ↦ passes (Plain y) | false ↦ [] ]) → (is_named e z ≡ true) × IsAmong m (passes (Plain y))
-        go true k j = (k, j)
-        go false k j = absurd j
-    flat_passes e (AGift g n) z f m i = go (is_named e z) refl i
-      where
-        go : (b : Bool) → is_named e z ≡ b → IsAmong m (elim b [ true ↦ Gift g n ∷ [] | false ↦ [] ]) → (is_named e z ≡ true) × IsAmong m (passes (AGift g n))
-        go true k j = (k, j)
-        go false k j = absurd j
-    flat_passes e (Many ys) z f m i = absurd f
-
-    leaf_passes : (q : Vat Name) (z : Passed Name) (x : Value Name) → IsNamedAs script honest w v h q z x → (y : Passed Name) (t : Vat Name) → Leaf q x y t → Passes q z y t
-    leaf_passes q z x c y t l = record { step = l.step; behind = behind }
-      where
-        behind : (e m : Name) → IsAmong m (passes_as v done e y z) → Brings q t (Led q (Ref e)) m
-        behind e m i =
-            let f = flat_passes e y z l.flat m i in
-            let k = c e f.0 in
-            subst (λ u. Brings q t (Led q u) m) k.0 (l.behind (subst (IsHeld script honest w v q) (sym k.0) k.1) m f.1)
-
-    -- ---- from one state to a later one
-
-    all_map : (P Q : Passed Name → Value Name → Type 0) → ((z : Passed Name) (x : Value Name) → P z x → Q z x) → (zs : Passeds Name) (xs : List (Value Name)) → AllCame P zs xs → AllCame Q zs xs
-    all_map P Q f NoMore [] c = tt
-    all_map P Q f NoMore (x ∷ xs) c = absurd c
-    all_map P Q f (More z zs) [] c = absurd c
-    all_map P Q f (More z zs) (x ∷ xs) c = (f z x c.0, all_map P Q f zs xs c.1)
-
-    came_on : (d : ℕ) (q t : Vat Name) → Step q t → (z : Passed Name) (x : Value Name) → Came d q z x → Came d t z x
-    came_on zero q t a z x c = λ e i. let k = c e i in (k.0, a.holds e k.1)
-    came_on (suc d) q t a z x c = (λ e i. let k = c.0 e i in (k.0, a.holds e k.1), λ k f. subst (λ ls. AllIn d t (members v done z) (list_at ls k)) (sym a.lists) (all_map (λ u y. Came d q u y) (λ u y. Came d t u y) (λ u y i. came_on d q t a u y i) (members v done z) (list_at q.lists k) (c.1 k (sym (a.follow x) ∙ f))))
-
-    -- ---- shapes
-
-    -- of the members of a list, at so many depths
-    abbrev Deep : Vat Name → ℕ → List (Value Name) → Passed Name
-    Deep s zero = λ vs. Plain (Broken (codes "too heavy"))
-    Deep s (suc d) = λ vs. Many (refs.shapes K (λ x. refs.shape K d s x) vs)
-
-    shape_is : (s : Vat Name) (d : ℕ) (x : Value Name) → refs.shape K d s x ≡ refs.shape_by K (Deep s d) s.lists (refs.follow K s x)
-    unfolding refs.shape
-    shape_is s zero x = refl
-    shape_is s (suc d) x = refl
-
-    plain_passes : (s q : Vat Name) → Step s q → Can q → (z : Passed Name) (x y : Value Name) → IsNamedAs script honest w v h q z x → refs.follow K s x ≡ y → OnGives (Passes q z) (refs.address K h (Plain y) q)
-    unfolding refs.address look ◌>>=◌ and_then
-    plain_passes s q a can z x y c e = map_gives (λ u t. Leaf q x u t) (Passes q z) (refs.address_plain K h y (refs.place K q y) q) (leaf q can x y (a.follow x ∙ e)) (λ u t l. leaf_passes q z x c u t l)
-
-    both_pass : (q t u : Vat Name) (z : Passed Name) (zs : Passeds Name) (y : Passed Name) (ys : Passeds Name) → Can q → Passes q z y t → AllPass t zs ys u → AllPass q (More z zs) (More y ys) u
-    unfolding all_pass_as
-    both_pass q t u z zs y ys can p r = record { step = step_then q t u p.step r.step; behind = behind }
-      where
-        behind : (e m : Name) → IsAmong m (all_pass_as v done e (More y ys) (More z zs)) → Brings q u (Led q (Ref e)) m
-        behind e m i = elim (among_either m (passes_as v done e y z) (all_pass_as v done e ys zs) i) [
-          | inl j ↦ brings_on q t u (Led q (Ref e)) m r.step (can_step q t p.step can) (p.behind e m j)
-          | inr j ↦ subst (λ c. Brings q u c m) ((grown q t p.step can).leading v (Ref e)) (brings_from q t u (Led t (Ref e)) m p.step can (r.behind e m j))
-        ]
-
-    heavy_passes : (q : Vat Name) (z : Passed Name) (p : Words) → OnGives (Passes q z) (refs.address K h (Plain (Broken p)) q)
-    unfolding refs.address refs.address_plain refs.place give look ◌>>=◌ and_then passes
-    heavy_passes q z p = record { step = step_self q; behind = λ e m i. absurd ((flat_passes e (Plain (Broken p)) z tt m i).1) }
-
-    shaped_list : (d : ℕ) (s : Vat Name) → ((q : Vat Name) → Step s q → Can q → (z : Passed Name) (x : Value Name) → Came d q z x → OnGives (Passes q z) (refs.address K h (refs.shape K d s x) q))
-        → (zs : Passeds Name) (xs : List (Value Name)) (q : Vat Name) → Step s q → Can q → AllIn d q zs xs → OnGives (AllPass q zs) (refs.address_all K h (refs.shapes K (λ x. refs.shape K d s x) xs) q)
-    unfolding refs.address_all refs.shapes give ◌>>=◌ and_then all_pass_as
-    shaped_list d s one NoMore [] q a can c = record { step = step_self q; behind = λ e m i. absurd i }
-    shaped_list d s one NoMore (x ∷ xs) q a can c = absurd c
-    shaped_list d s one (More z zs) [] q a can c = absurd c
-    shaped_list d s one (More z zs) (x ∷ xs) q a can c = bind_gives (Passes q z) (AllPass q (More z zs)) (refs.address K h (refs.shape K d s x) q) (λ y. refs.address_all K h (refs.shapes K (λ x. refs.shape K d s x) xs) >>= (λ ys. give (More y ys))) (one q a can z x c.0)
-        (λ y t p. bind_gives (AllPass t zs) (AllPass q (More z zs)) (refs.address_all K h (refs.shapes K (λ x. refs.shape K d s x) xs) t) (λ ys. give (More y ys))
-        (shaped_list d s one zs xs t (step_then s q t a p.step) (can_step q t p.step can) (all_map (λ u y. Came d q u y) (λ u y. Came d t u y) (λ u y i. came_on d q t p.step u y i) zs xs c.1))
-        (λ ys u r. both_pass q t u z zs y ys can p r))
-
-    shaped : (d : ℕ) (s q : Vat Name) → Step s q → Can q → (z : Passed Name) (x y : Value Name) → Came d q z x → refs.follow K s x ≡ y → OnGives (Passes q z) (refs.address K h (refs.shape_by K (Deep s d) s.lists y) q)
-    unfolding refs.shape_by refs.address give ◌>>=◌ and_then passes_as
-    shaped zero s q a can z x (Items k) c e = heavy_passes q z (codes "too heavy")
-    shaped (suc d) s q a can z x (Items k) c e = bind_gives (AllPass q (members v done z)) (Passes q z) (refs.address_all K h (refs.shapes K (λ u. refs.shape K d s u) (list_at s.lists k)) q) (λ ys. give (Many ys))
-        (shaped_list d s (λ t b can_t u y i. subst (λ o. OnGives (Passes t u) (refs.address K h o t)) (sym (shape_is s d y)) (shaped d s t b can_t u y (refs.follow K s y) i refl)) (members v done z) (list_at s.lists k) q a can
-        (subst (λ ls. AllIn d q (members v done z) (list_at ls k)) a.lists (c.1 k (a.follow x ∙ e))))
-        (λ ys t r. record { step = r.step; behind = r.behind })
-    shaped d s q a can z x y c e = plain_passes s q a can z x y (named_at d q z x c) e
-
-    -- ---- the acts
-
-    spent_step : (q : Vat Name) (n : ℕ) (b : Bool) → OnGives (λ (u : Unit {0}) t. Step q t) (spent n b q)
-    unfolding spent
-    spent_step q n true = step_fuel (q.fuel - n) q
-    spent_step q n false = tt
-
-    heap_passes : (q t : Vat Name) → Step q t → Can t → (z : Passed Name) (x : Value Name) (k : ℕ) → ((d : ℕ) → Came d t z x) → refs.follow K q x ≡ Items k → (o : Option ℕ) → OnGives (Passes t z) (refs.address K h (refs.parcel_of_list K q (Items k) o).value t)
-    unfolding refs.parcel_of_list refs.too_heavy refs.follow refs.follow_at refs.severed
-    heap_passes q t a can z x k c e None = heavy_passes t z (codes "too heavy")
-    heap_passes q t a can z x k c e (Some left) = subst (λ o. OnGives (Passes t z) (refs.address K h o t)) (sym (shape_is q refs.highest (Items k))) (shaped refs.highest q t a can z x (Items k) (c refs.highest) e)
-
-    passed_later : (q t : Vat Name) (u : Vat Name) (z : Passed Name) → Step q t → Can q → (y : Passed Name) → Passes t z y u → Passes q z y u
-    passed_later q t u z a can y p = record { step = step_then q t u a p.step; behind = λ e m i. subst (λ c. Brings q u c m) ((grown q t a can).leading v (Ref e)) (brings_from q t u (Led t (Ref e)) m a can (p.behind e m i)) }
-
-    parcelled : (q t : Vat Name) → Step q t → Can t → (z : Passed Name) (x y : Value Name) → ((d : ℕ) → Came d t z x) → refs.follow K q x ≡ y → OnGives (Passes t z) (refs.address K h (refs.parcel_at K q y).value t)
-    unfolding refs.parcel_at
-    parcelled q t a can z x (Items k) c e = heap_passes q t a can z x k c e (refs.room_after (refs.follow K q) q.lists refs.highest (Items k) refs.most)
-    parcelled q t a can z x y c e = plain_passes q t a can z x y (c zero) e
-
-    passed_one : (q : Vat Name) → Can q → (z : Passed Name) (x : Value Name) → ((d : ℕ) → Came d q z x) → OnGives (Passes q z) (refs.pass K h x q)
-    unfolding refs.pass refs.parcel look spend ◌>>=◌ ◌>>◌ and_then
-    passed_one q can z x c = bind_gives (λ (u : Unit {0}) t. Step q t) (Passes q z) (spent (refs.parcel K q x).weight (nat_le (refs.parcel K q x).weight q.fuel) q) (λ u. refs.address K h (refs.parcel K q x).value) (spent_step q (refs.parcel K q x).weight (nat_le (refs.parcel K q x).weight q.fuel))
-        (λ u t a. map_gives (Passes t z) (Passes q z) (refs.address K h (refs.parcel K q x).value t) (parcelled q t a (can_step q t a can) z x (refs.follow K q x) (λ d. came_on d q t a z x (c d)) refl) (λ y p l. passed_later q t p z a can y l))
-
-    pub passed_all : (zs : Passeds Name) (xs : List (Value Name)) (q : Vat Name) → Can q → ((d : ℕ) → AllIn d q zs xs) → OnGives (AllPass q zs) (refs.pass_all K h xs q)
-    unfolding refs.pass_all give ◌>>=◌ and_then all_pass_as
-    passed_all NoMore [] q can c = record { step = step_self q; behind = λ e m i. absurd i }
-    passed_all NoMore (x ∷ xs) q can c = absurd (c zero)
-    passed_all (More z zs) [] q can c = absurd (c zero)
-    passed_all (More z zs) (x ∷ xs) q can c = bind_gives (Passes q z) (AllPass q (More z zs)) (refs.pass K h x q) (λ y. refs.pass_all K h xs >>= (λ ys. give (More y ys))) (passed_one q can z x (λ d. (c d).0))
-        (λ y t p. bind_gives (AllPass t zs) (AllPass q (More z zs)) (refs.pass_all K h xs t) (λ ys. give (More y ys))
-        (passed_all zs xs t (can_step q t p.step can) (λ d. all_map (λ u y. Came d q u y) (λ u y. Came d t u y) (λ u y i. came_on d q t p.step u y i) zs xs (c d).1))
-        (λ ys u r. both_pass q t u z zs y ys can p r))
+    pub passed_all : (zs : Passeds Name) (xs : List (Value Name)) (q : Vat Name) → Can q → ((d : ℕ) → AllCame (λ z x. CameAs script honest w v h d q done z x) zs xs) → OnGives (AllPass q zs) (refs.pass_all K h xs q)
+    passed_all zs xs q can c = walk.passed_all script honest w v h Can Step BringsName passing done zs xs q can c
 
 pub arguments_pass_behind : ArgumentsPassBehind
 arguments_pass_behind = λ script honest w v h q r s done zs xs everyone at there number other plain can came.

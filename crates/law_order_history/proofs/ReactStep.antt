@@ -23,7 +23,7 @@ use Rattle.law_order.proofs.Entries.{Differs, as_it_was, changes, differs}
 use Rattle.law_order.proofs.Sendings.{stays_react}
 use Rattle.law_order.proofs.Standing.{Row, queued_append, queued_end}
 use Rattle.law_order_history.specs.Lines.{AllQuiet, was_sent}
-use Rattle.law_order_history.specs.Befores.{Brings, passing_place, IsBroughtFrom}
+use Rattle.law_order_history.specs.Befores.{Brings, passing_place, up_to, IsBroughtFrom}
 use Rattle.law_order_history.specs.Tells.{SmallStep}
 use Rattle.law_order_history.specs.Reactions.{ReactionsAreSmallSteps}
 use Rattle.law_order_history.proofs.Lines.{last_or}
@@ -127,7 +127,7 @@ module _ (script : Script) (honest : ℕ → Bool) (w : World) (v : ℕ) (head :
         before = b;
         aim = q;
         stood = record { behind = h.behind; found = sym (held_still u p) ∙ h.found };
-        keeps = λ x n c k f e j. inr (subst (λ z. Ahead (W t) x z) (brought_once (Held u p) b (LeadsAmid script honest w v s u (Ref n)) c k f (subst (λ z. IsBroughtFrom (Held u p) b z k) (g.leading u (Ref n)) e)) (grows_at x c j));
+        keeps = λ x n c k f e j. inr (subst (λ z. Ahead (W t) x z) (brought_once (Held u p) (up_to b d q) (LeadsAmid script honest w v s u (Ref n)) c k f (subst (λ z. IsBroughtFrom (Held u p) (up_to b d q) z k) (g.leading u (Ref n)) e)) (grows_at x c j));
       });
     }
 

@@ -26,11 +26,13 @@ use Rattle.law_order.proofs.Pushing.{push_append}
 use Rattle.law_order.proofs.Sends.{get_put, held_by}
 use Rattle.law_order.proofs.Standing.{Row, queued_append, queued_end, held_end, queue_is}
 use Rattle.law_order_history.specs.Lines.{AllQuiet}
+use Rattle.law_order_history.specs.Told.{IsTold}
 use Rattle.law_order_history.specs.Befores.{Brings, passing_place}
 use Rattle.law_order_history.specs.Passings.{OnGives, CanPass, CameAs, AllCame, BringsBehind}
 use Rattle.law_order_history.proofs.Links.{On, on_of, of_on, IsPut, on_back, on_back_all, on_link, RowGrew, row_same, row_more, rows_still, row_grew}
 use Rattle.law_order_history.proofs.Passed.{Step, AllPass, passed_all}
-use Rattle.law_order_history.proofs.SentStep.{Comes, none_came, came_last, BringsIt, events_append}
+use Rattle.law_order_history.proofs.Told.{nothing_told}
+use Rattle.law_order_history.proofs.SentStep.{Comes, none_came, came_last, BringsIt}
 
 all_gives : {I A : Type 0} (P : I → A → Vat Name → Type 0) (d : Done Name A) → ((i : I) → OnGives (P i) d) → OnGives (λ a t. (i : I) → P i a t) d
 all_gives P (Gives a t) f = f
@@ -188,40 +190,38 @@ module _ (script : Script) (honest : ℕ → Bool) (everyone : (u : ℕ) → hon
     -- it goes out in a note
     module _ (h : ℕ) (n : Name) (rh : Vat Name) (there : slice_get w.vats h ≡ Some rh) (number : rh.number ≡ h) (other : h ≡ v → ⊥) (plain : (o : Name) → IsObject o → refs.entry_of (names script h) rh.known o ≡ None)
         (can : CanPass script honest w v h rh q) (grown : Grown script honest w v s q) (args : f.args ≡ m.args)
-        (came : (more : List Event) (d : ℕ) → AllCame (λ z x. CameAs script honest w v h d q (From.history ++ more) z x) (plains f.args) f.args) (e : Led m.target ≡ End (Way v h) n) where
+        (came : (done : List Event) → IsTold script done → (d : ℕ) → AllCame (λ z x. CameAs script honest w v h d q done z x) (plains f.args) f.args) (e : Led m.target ≡ End (Way v h) n) where
       abbrev Mail : Passeds Name → Note Name
       Mail ys = Deliver (refs.delivery_of K f) n f.verb ys
 
       abbrev Out : Passeds Name → Vat Name → Vat Name
       Out ys t = record t { happened = t.happened ++ Posted h f.id ∷ []; outbox = t.outbox ++ record { to = h; note = Mail ys } ∷ [] }
 
-      -- the vat passes the arguments, whatever the history will tell
-      record Passing (more : List Event) (ys : Passeds Name) (t : Vat Name) : Type 0 where
-        pub passed : AllPass script honest w v h r rh everyone at there number other plain (From.history ++ more) q (plains f.args) ys t
+      -- the vat passes the arguments, whatever the history of the run will tell by then
+      record Passing (done : List Event) (ys : Passeds Name) (t : Vat Name) : Type 0 where
+        pub passed : AllPass script honest w v h r rh everyone at there number other plain done q (plains f.args) ys t
 
-      passing : OnGives (λ ys t. (more : List Event) → Passing more ys t) (refs.pass_all K h f.args q)
-      passing = all_gives Passing (refs.pass_all K h f.args q) (λ more. go more (refs.pass_all K h f.args q) (passed_all script honest w v h r rh everyone at there number other plain (From.history ++ more) (plains f.args) f.args q can (came more)))
+      passing : OnGives (λ ys t. (done : List Event) → IsTold script done → Passing done ys t) (refs.pass_all K h f.args q)
+      passing = all_gives {I = List Event} (λ done ys t. IsTold script done → Passing done ys t) (refs.pass_all K h f.args q) (λ done. told_gives (IsTold script done) (Passing done) (refs.pass_all K h f.args q)
+          (λ so. go done (refs.pass_all K h f.args q) (passed_all script honest w v h r rh everyone at there number other plain done (plains f.args) f.args q can (came done so))))
         where
-          go : (more : List Event) (d : Done Name (Passeds Name)) → OnGives (AllPass script honest w v h r rh everyone at there number other plain (From.history ++ more) q (plains f.args)) d → OnGives (Passing more) d
-          go more (Gives ys t) p = record { passed = p }
-          go more other p = tt
+          go : (done : List Event) (d : Done Name (Passeds Name)) → OnGives (AllPass script honest w v h r rh everyone at there number other plain done q (plains f.args)) d → OnGives (Passing done) d
+          go done (Gives ys t) p = record { passed = p }
+          go done other p = tt
 
-      module _ (ys : Passeds Name) (t : Vat Name) (passed : (more : List Event) → Passing more ys t) where
+          told_gives : (I : Type 0) (P : Passeds Name → Vat Name → Type 0) (d : Done Name (Passeds Name)) → (I → OnGives P d) → OnGives (λ ys t. I → P ys t) d
+          told_gives I P (Gives ys t) f = f
+          told_gives I P other f = tt
+
+      module _ (ys : Passeds Name) (t : Vat Name) (passed : (done : List Event) → IsTold script done → Passing done ys t) where
         step : Step script honest w v h r rh everyone at there number other plain q t
-        step = (passed []).passed.step
+        step = (passed [] (nothing_told script)).passed.step
 
         abbrev T : Vat Name
         T = Out ys t
 
         told : T.happened ≡ s.happened ++ (Sends act m ∷ Posted h f.id ∷ [])
         told = ap (λ es. es ++ Posted h f.id ∷ []) (step.happened ∙ line) ∙ append_assoc s.happened (Sends act m ∷ []) (Posted h f.id ∷ [])
-
-        abbrev Told : List Event
-        Told = world.events_of w.links v (Sends act m ∷ Posted h f.id ∷ [])
-
-        history : (went v w head T).history ≡ From.history ++ Told
-        unfolding went
-        history = ap (λ es. (w.history ++ head) ++ es) (ap (world.events_of w.links v) told ∙ events_append w.links v s.happened (Sends act m ∷ Posted h f.id ∷ [])) ∙ sym (append_assoc (w.history ++ head) (world.events_of w.links v s.happened) Told)
 
         quiet_after : AllQuiet (world.events_of w.links v (Posted h f.id ∷ []))
         unfolding world.events_of world.event_of Rattle.law_order_history.specs.Lines.counts
@@ -296,11 +296,10 @@ module _ (script : Script) (honest : ℕ → Bool) (everyone : (u : ℕ) → hon
             args_are : zs ≡ ys
             args_are = cc
 
-            behind : (more : List Event) (c x : Name) → IsAmong x (all_pass_as v ((went v w head T).history ++ more) c zs (plains m.args)) → (a : Name) → Ahead (W s) a (Led (Ref c)) → Ahead (W T) a (passing_place u g front d o x)
-            behind more c x i a k =
-                let done : (went v w head T).history ++ more ≡ From.history ++ (Told ++ more) = ap (λ es. es ++ more) history ∙ append_assoc From.history Told more in
-                let j : IsAmong x (all_pass_as v (From.history ++ (Told ++ more)) c ys (plains f.args)) = subst (λ es. IsAmong x (all_pass_as v es c ys (plains f.args))) done (subst (λ zs. IsAmong x (all_pass_as v ((went v w head T).history ++ more) c zs (plains f.args))) args_are (subst (λ xs. IsAmong x (all_pass_as v ((went v w head T).history ++ more) c zs (plains xs))) (sym args) i)) in
-                let b : BringsBehind script honest w v h q t (LeadsAmid script honest w v q v (Ref c)) x = (passed (Told ++ more)).passed.behind c x j in
+            behind : (done : List Event) → IsTold script done → (c x : Name) → IsAmong x (all_pass_as v done c zs (plains m.args)) → (a : Name) → Ahead (W s) a (Led (Ref c)) → Ahead (W T) a (passing_place u g front d o x)
+            behind done so c x i a k =
+                let j : IsAmong x (all_pass_as v done c ys (plains f.args)) = subst (λ zs. IsAmong x (all_pass_as v done c zs (plains f.args))) args_are (subst (λ xs. IsAmong x (all_pass_as v done c zs (plains xs))) (sym args) i) in
+                let b : BringsBehind script honest w v h q t (LeadsAmid script honest w v q v (Ref c)) x = (passed done so).passed.behind c x j in
                 let k' : Ahead (W q) a (LeadsAmid script honest w v q v (Ref c)) = subst (λ z. Ahead (W q) a z) (sym (grown.leading v (Ref c))) ((growing_keeps (W s) (W q) grown.grows (Led (Ref c))).1 a k) in
                 let found : world.link_at v h Before ≡ Some p.link = subst (λ z. world.link_at z h Before ≡ Some p.link) p.from (subst (λ z. world.link_at u z Before ≡ Some p.link) p.to p.found) in
                 let l : Ahead (W t) a (Mid (Way v h) (delivered front ++ item d.message o ∷ []) x) = b a k' (delivered front ++ item d.message o ∷ []) (in_front front (item d.message o) p.link found p.front_is) in
@@ -324,4 +323,4 @@ module _ (script : Script) (honest : ℕ → Bool) (everyone : (u : ℕ) → hon
 
       pub away : IfGives Rest (refs.deliver K f h n q)
       unfolding refs.deliver tell send_out ◌>>=◌ ◌>>◌ and_then
-      away = bind_if (λ ys t. (more : List Event) → Passing more ys t) Rest (refs.pass_all K h f.args q) (λ ys. tell (Posted h f.id) >> send_out h (Mail ys)) passing (λ ys t p. out ys t p)
+      away = bind_if (λ ys t. (done : List Event) → IsTold script done → Passing done ys t) Rest (refs.pass_all K h f.args q) (λ ys. tell (Posted h f.id) >> send_out h (Mail ys)) passing (λ ys t p. out ys t p)

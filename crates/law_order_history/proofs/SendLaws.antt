@@ -1,5 +1,5 @@
 -- A whole send on what is not broken is a small step.
-use Rattle.std.proofs.Common.{◌≡◌, ℕ, suc, Bool, true, false, List, [], ◌∷◌, ◌++◌, Some, None, length, refl, sym, ap, subst, ◌∙◌}
+use Rattle.std.proofs.Common.{◌≡◌, ℕ, suc, Bool, true, false, List, [], ◌∷◌, ◌++◌, Some, None, refl, sym, ap, subst, ◌∙◌}
 use Rattle.def_machine.specs.Values.{Words, Value, Null, Ref, Name, Answer, Naming, naming, name_of, mail_of, answer_of}
 use Rattle.def_machine.specs.State.{Message, Known, Sends, Vat, Done, Gives, ◌>>=◌, ◌>>◌, and_then, give, look, tell, new_message, new_lone_message, begun}
 use Rattle.def_machine.specs.Refs as refs
@@ -16,7 +16,6 @@ use Rattle.law_order.proofs.Coming.{old_entry}
 use Rattle.law_order.proofs.News.{stays_then, messaged, lone_messaged}
 use Rattle.law_order.proofs.Sendings.{stays_send, stays_send_only}
 use Rattle.law_order.proofs.Sent.{leads_there, mine_waits, sends_are_ahead}
-use Rattle.law_order_history.specs.Passings.{CanPass}
 use Rattle.law_order_history.specs.Sends.{lone_message, lone_numbered, asking_message, asking_numbered, CanSend, SendsAreSmallSteps}
 use Rattle.law_order_history.specs.Tells.{SmallStep}
 use Rattle.law_order_history.proofs.Refs.{PlaceOf, own_object, own_name, of_other, place_is}
@@ -58,16 +57,8 @@ module _ (script : Script) (honest : ℕ → Bool) (w : World) (v act : ℕ) (he
   leads : Led m.target ≡ aimed v Y (refs.place K s Y)
   leads = leads_there script honest w v can.vat s can.found m.target can.hand
 
-  passes_then : StaysReady script honest w v s q → q.drawn ≡ s.drawn → (h : ℕ) (t : Vat Name) → CanPass script honest w v h t s → CanPass script honest w v h t q
-  passes_then stays drawn h t c = let g = stays can.ready in record {
-    ready = g.0;
-    opens = λ x n e. c.opens x n (sym (g.1.leading v x) ∙ e);
-    vats = λ x u n e. c.vats x u n (sym (g.1.leading v x) ∙ e);
-    gifts = λ i e u o z k. c.gifts i (subst (λ ds. Rattle.std.proofs.Common.◌≤◌ (length ds) i) drawn e) u o z k;
-  }
-
   -- the machine's first step of the message, which is numbered and told of
-  module _ (stays : StaysReady script honest w v s q) (queue : q.queue ≡ s.queue) (held : (n : Name) → held_in n (refs.entry_of K q.known n) ≡ held_in n (refs.entry_of K s.known n)) (outbox : q.outbox ≡ s.outbox) (drawn : q.drawn ≡ s.drawn)
+  module _ (stays : StaysReady script honest w v s q) (queue : q.queue ≡ s.queue) (held : (n : Name) → held_in n (refs.entry_of K q.known n) ≡ held_in n (refs.entry_of K s.known n)) (outbox : q.outbox ≡ s.outbox)
       (line : q.happened ≡ s.happened ++ Sends act m ∷ []) (id : f.id ≡ m.id) (args : f.args ≡ m.args) (knows : (n : Name) (k : Known Name) → refs.entry_of K s.known n ≡ Some k → refs.entry_of K q.known n ≡ Some k) where
     first : (p : Place Name) → refs.place K s Y ≡ p → IfGives Rests (refs.send_first K f Y p q)
     unfolding refs.send_first refs.send_to aimed
@@ -80,7 +71,7 @@ module _ (script : Script) (honest : ℕ → Bool) (w : World) (v act : ℕ) (he
         let t = can.there h n l in
         let other : (h ≡ v → ⊥) = away_other script v s can.ready.number Y h n o e in
         let z = can.vats h t.0 t.1 in
-        away script honest can.everyone w v act head can.vat can.found s m q f Y queue held outbox line id h n t.0 t.1 z.0 other z.1 (passes_then stays drawn h t.0 (can.passes h t.0 other t.1)) (stays can.ready).1 args (λ more d. subst (λ xs. Rattle.law_order_history.specs.Passings.AllCame (λ y x. Rattle.law_order_history.specs.Passings.CameAs script honest w v h d q ((went v w head s).history ++ more) y x) (Rattle.law_order.specs.Order.plains xs) xs) (sym args) (can.came h d more)) l
+        away script honest can.everyone w v act head can.vat can.found s m q f Y queue held outbox line id h n t.0 t.1 z.0 other z.1 (can.passes h t.0 other t.1) (stays can.ready).1 args (λ done so d. subst (λ xs. Rattle.law_order_history.specs.Passings.AllCame (λ y x. Rattle.law_order_history.specs.Passings.CameAs script honest w v h d q done y x) (Rattle.law_order.specs.Order.plains xs) xs) (sym args) (can.came h d done so)) l
     first (Gone p) e = absurd (can.unbroken p e)
 
   -- with what the laws of order say it is a small step
@@ -125,7 +116,7 @@ module _ (script : Script) (honest : ℕ → Bool) (w : World) (v act : ℕ) (he
   lone_rests : (can : CanSend script honest w v head s (lone_numbered act s Lone) Lone) → IfGives (Rests script honest w v act head s (lone_numbered act s Lone) Lone LoneFirst can) (refs.send_only L act x verb args s)
   unfolding refs.send_only ◌>>=◌ ◌>>◌ and_then look tell new_lone_message give names naming name_of mail_of answer_of
   lone_rests can = then_gives (Rests script honest w v act head s (lone_numbered act s Lone) Lone LoneFirst can) (refs.send_first L LoneFirst To (refs.place L s To) (lone_numbered act s Lone)) Null
-      (first script honest w v act head s (lone_numbered act s Lone) Lone LoneFirst can lone_stays refl (λ n. refl) refl refl refl refl refl (λ n k e. e) (refs.place L s To) refl)
+      (first script honest w v act head s (lone_numbered act s Lone) Lone LoneFirst can lone_stays refl (λ n. refl) refl refl refl refl (λ n k e. e) (refs.place L s To) refl)
 
   lone_small : CanSend script honest w v head s (lone_numbered act s Lone) Lone → IfGives (λ t. SmallStep script honest (went v w head s) (went v w head t)) (refs.send_only L act x verb args s)
   lone_small can = all_small script honest w v act head s (lone_numbered act s Lone) Lone LoneFirst can (refs.send_only L act x verb args s) (stays_send_only script honest w v act x verb args s can.unbroken)
@@ -167,7 +158,7 @@ module _ (script : Script) (honest : ℕ → Bool) (w : World) (v act : ℕ) (he
   asking_rests : (can : CanSend script honest w v head s Numbered Asking) → IfGives (Rests script honest w v act head s Numbered Asking AskingFirst can) (refs.send L act x verb args s)
   unfolding refs.send ◌>>=◌ ◌>>◌ and_then look tell new_message give names naming name_of mail_of answer_of
   asking_rests can = then_gives (Rests script honest w v act head s Numbered Asking AskingFirst can) (refs.send_first L AskingFirst To (refs.place L s To) Numbered) (Ref (Answer Host (record { sender = v; number = s.messages })))
-      (first script honest w v act head s Numbered Asking AskingFirst can asking_stays refl (λ n. begun_held (Answer Host (record { sender = v; number = s.messages })) Host s.known n) refl refl refl refl refl
+      (first script honest w v act head s Numbered Asking AskingFirst can asking_stays refl (λ n. begun_held (Answer Host (record { sender = v; number = s.messages })) Host s.known n) refl refl refl refl
       (λ n k e. old_entry L s.known (begun (Answer Host (record { sender = v; number = s.messages })) Host) k n e) (refs.place L s To) refl)
 
   asking_small : CanSend script honest w v head s Numbered Asking → IfGives (λ t. SmallStep script honest (went v w head s) (went v w head t)) (refs.send L act x verb args s)

@@ -15,10 +15,11 @@ use Rattle.law_order.proofs.Named.{same_self}
 use Rattle.law_order.proofs.Changes.{growing_keeps}
 use Rattle.law_order.proofs.Messages.{comers_are_behind}
 use Rattle.law_order_history.specs.Lines.{AllQuiet, with_first, was_taken, was_sent}
-use Rattle.law_order_history.specs.Befores.{Brings, passing_place, IsBroughtFrom, in_lane, apart}
+use Rattle.law_order_history.specs.Befores.{Brings, passing_place, up_to, IsBroughtFrom, in_lane, apart}
+use Rattle.law_order_history.specs.Told.{IsTold}
 use Rattle.law_order_history.specs.Tells.{Keeps, IsSource, held_there, learnt_now, IsStillBrought, IsPutNow, IsSentOnNow, IsStanding, IsStillHeld, IsHeldNow, IsSentNow, SmallStep}
 use Rattle.law_order_history.proofs.Lines.{last_or, comes_now}
-use Rattle.law_order_history.proofs.Same.{brought_once}
+use Rattle.law_order_history.proofs.Same.{brought_once, more_in_front}
 
 -- ---- lines
 
@@ -49,7 +50,7 @@ module _ (script : Script) (honest : ℕ → Bool) (w : World) (v act : ℕ) (he
   pub record BringsIt (u g : ℕ) (front : List (Note Name)) (d : Delivery Name) (n : Name) (ys : Passeds Name) : Type 0 where
     pub message : d.message ≡ m.id
     pub sender : u ≡ v
-    pub behind : (more : List Event) (e o : Name) → IsAmong o (all_pass_as v (To.history ++ more) e ys (plains m.args)) → (a : Name) → Ahead (W s) a (Led v (Ref e)) → Ahead (W t) a (passing_place u g front d n o)
+    pub behind : (done : List Event) → IsTold script done → (e o : Name) → IsAmong o (all_pass_as v done e ys (plains m.args)) → (a : Name) → Ahead (W s) a (Led v (Ref e)) → Ahead (W t) a (passing_place u g front d n o)
 
   -- the send from s to t
   pub record IsSend : Type 0 where
@@ -135,31 +136,31 @@ module _ (script : Script) (honest : ℕ → Bool) (w : World) (v act : ℕ) (he
         new = subst (λ x. comes u x zero From.history ≡ None) (sym k.message) (i.uncome u);
         coming = Arrival;
         came = subst (λ x. comes u x zero To.history ≡ Some Arrival) (sym k.message) (subst (λ x. comes x m.id zero To.history ≡ Some Arrival) (sym k.sender) came);
-        keeps = λ more a e o c f j h. put u g front d n ys k more a e o c f j h;
+        keeps = λ done so a e o c f j h. put u g front d n ys k done so a e o c f j h;
       }))
     ]
       where
-        put : (u g : ℕ) (front : List (Note Name)) (d : Delivery Name) (n : Name) (ys : Passeds Name) → BringsIt u g front d n ys → (more : List Event) (a e o : Name) (c : Place) → IsSource script honest From To (Some (Here v (Sends act m))) u e c
-            → IsAmong o (all_pass_as u (To.history ++ more) e ys (plains m.args)) → Keeps script honest From To a c (passing_place u g front d n o)
-        put u g front d n ys k more a e o c held_there j h = inr (k.behind more e o (subst (λ x. IsAmong o (all_pass_as x (To.history ++ more) e ys (plains m.args))) k.sender j) a (subst (λ x. Ahead (W s) a (Led x (Ref e))) k.sender h))
-        put u g front d n ys k more a e o c (learnt_now f) j h = absurd (cc)
+        put : (u g : ℕ) (front : List (Note Name)) (d : Delivery Name) (n : Name) (ys : Passeds Name) → BringsIt u g front d n ys → (done : List Event) → IsTold script done → (a e o : Name) (c : Place) → IsSource script honest From To (Some (Here v (Sends act m))) u e c
+            → IsAmong o (all_pass_as u done e ys (plains m.args)) → Keeps script honest From To a c (passing_place u g front d n o)
+        put u g front d n ys k done so a e o c held_there j h = inr (k.behind done so e o (subst (λ x. IsAmong o (all_pass_as x done e ys (plains m.args))) k.sender j) a (subst (λ x. Ahead (W s) a (Led x (Ref e))) k.sender h))
+        put u g front d n ys k done so a e o c (learnt_now f) j h = absurd (cc)
 
-    carriers : (u : ℕ) (p d q : Name) (b : List Item) → StandsAt (ways script honest To) d (Held u p) b q → IsStillHeld script honest From To u p d b ⊎ IsHeldNow script honest From To (Some line) u p d b
+    carriers : (u : ℕ) (p d q : Name) (b : List Item) → StandsAt (ways script honest To) d (Held u p) b q → IsStillHeld script honest From To u p d (up_to b d q) ⊎ IsHeldNow script honest From To (Some line) u p d (up_to b d q)
     unfolding went ways amid
     carriers u p d q b h = go (old_or_new d (Held u p) b q h)
       where
-        same_place : (n : Name) (c k : Place) → IsBroughtFrom (Held u p) b (Led u (Ref n)) c → IsBroughtFrom (Held u p) b (LeadsAmid script honest w v t u (Ref n)) k → c ≡ k
-        same_place n c k f g = brought_once (Held u p) b (Led u (Ref n)) c k f (subst (λ z. IsBroughtFrom (Held u p) b z k) (i.grown.leading u (Ref n)) g)
+        same_place : (n : Name) (c k : Place) → IsBroughtFrom (Held u p) (up_to b d q) (Led u (Ref n)) c → IsBroughtFrom (Held u p) (up_to b d q) (LeadsAmid script honest w v t u (Ref n)) k → c ≡ k
+        same_place n c k f g = brought_once (Held u p) (up_to b d q) (Led u (Ref n)) c k f (subst (λ z. IsBroughtFrom (Held u p) (up_to b d q) z k) (i.grown.leading u (Ref n)) g)
 
-        brought : New d (Held u p) b q → (a : Name) (c k : Place) → IsBroughtFrom (Held u p) b c k → Ahead (W s) a c → Ahead (W t) a k
-        brought e a c k (in_lane {n = n}) j = subst (λ z. Ahead (W t) a (Mid (Held u p) z n)) (sym e.front) ((comers_are_behind (W s) (W t) (Held u p) n i.grown.grows).1 a j)
+        brought : New d (Held u p) b q → (a : Name) (c k : Place) → IsBroughtFrom (Held u p) (up_to b d q) c k → Ahead (W s) a c → Ahead (W t) a k
+        brought e a c k (in_lane {n = n}) j = more_in_front (W t) a (Held u p) b (item d q) n (subst (λ z. Ahead (W t) a (Mid (Held u p) z n)) (sym e.front) ((comers_are_behind (W s) (W t) (Held u p) n i.grown.grows).1 a j))
         brought e a c k (apart f) j = grows_at a c j
 
-        held : New d (Held u p) b q → (a n : Name) (c k : Place) → IsSource script honest From To (Some (Here v (Sends act m))) u n c → IsBroughtFrom (Held u p) b (LeadsAmid script honest w v t u (Ref n)) k → Keeps script honest From To a c k
-        held e a n c k held_there g j = inr (brought e a (Led u (Ref n)) k (subst (λ z. IsBroughtFrom (Held u p) b z k) (i.grown.leading u (Ref n)) g) j)
+        held : New d (Held u p) b q → (a n : Name) (c k : Place) → IsSource script honest From To (Some (Here v (Sends act m))) u n c → IsBroughtFrom (Held u p) (up_to b d q) (LeadsAmid script honest w v t u (Ref n)) k → Keeps script honest From To a c k
+        held e a n c k held_there g j = inr (brought e a (Led u (Ref n)) k (subst (λ z. IsBroughtFrom (Held u p) (up_to b d q) z k) (i.grown.leading u (Ref n)) g) j)
         held e a n c k (learnt_now f) g j = absurd (cc)
 
-        go : Old d (Held u p) b q ⊎ New d (Held u p) b q → IsStillHeld script honest From To u p d b ⊎ IsHeldNow script honest From To (Some (Here v (Sends act m))) u p d b
+        go : Old d (Held u p) b q ⊎ New d (Held u p) b q → IsStillHeld script honest From To u p d (up_to b d q) ⊎ IsHeldNow script honest From To (Some (Here v (Sends act m))) u p d (up_to b d q)
         go (inl k) = inl (record { before = b; aim = q; stood = k.stood; keeps = λ a n c z f g j. inr (subst (λ y. Ahead (W t) a y) (same_place n c z f g) (grows_at a c j)) })
         go (inr k) = inr (record {
           new = subst (λ x. comes u x zero From.history ≡ None) (sym k.message) (i.uncome u);

@@ -21,7 +21,7 @@ use Rattle.law_order.proofs.Named.{same_self}
 use Rattle.law_order.proofs.Pushing.{all_same}
 use Rattle.law_order.proofs.Standing.{queue_is}
 use Rattle.law_order_history.specs.Lines.{was_taken}
-use Rattle.law_order_history.specs.Befores.{passing_place, IsBroughtFrom}
+use Rattle.law_order_history.specs.Befores.{passing_place, up_to, IsBroughtFrom}
 use Rattle.law_order_history.specs.Tells.{Keeps, SmallStep}
 use Rattle.law_order_history.specs.Takes.{taken_state, TakesAreSmallSteps}
 use Rattle.law_order_history.proofs.Same.{brought_once}
@@ -133,7 +133,7 @@ module _ (script : Script) (honest : ℕ → Bool) (w : World) (v act : ℕ) (he
       references = λ a n u. keeps a (LeadsAmid script honest w v s u (Ref n)) (LeadsAmid script honest w v T u (Ref n)) (subst (λ c. Still (LeadsAmid script honest w v s u (Ref n)) c) (sym (leading u (Ref n))) (same (LeadsAmid script honest w v s u (Ref n))));
       messages = λ b l c n h. let k = stood_in b l c n h in inl (record { lane = l; before = k.before; aim = n; stood = k.stood; keeps = λ a. keeps a (Mid l k.before n) (Mid l c n) k.still });
       passings = λ u g front d n ys b. inl (record { before = front; brings = record { link = b.link; found = b.found; verb = b.verb; rest = b.rest; notes = b.notes }; keeps = λ a o. keeps a (passing_place u g front d n o) (passing_place u g front d n o) (same (passing_place u g front d n o)) });
-      carriers = λ u p d q b h. inl (record { before = b; aim = q; stood = held_in_place u p d q b h; keeps = λ a n c k f g. keeps a c k (subst (λ z. Still c z) (brought_once (Held u p) b (LeadsAmid script honest w v s u (Ref n)) c k f (subst (λ z. IsBroughtFrom (Held u p) b z k) (leading u (Ref n)) g)) (same c)) });
+      carriers = λ u p d q b h. inl (record { before = b; aim = q; stood = held_in_place u p d q b h; keeps = λ a n c k f g. keeps a c k (subst (λ z. Still c z) (brought_once (Held u p) (up_to b d q) (LeadsAmid script honest w v s u (Ref n)) c k f (subst (λ z. IsBroughtFrom (Held u p) (up_to b d q) z k) (leading u (Ref n)) g)) (same c)) });
     }
 
   -- ---- by the target

@@ -9,17 +9,28 @@ use Rattle.law_halt.proofs.Halted.{stopped_leave}
 use Rattle.law_halt.specs.Halted.{LeavesOf, OpeningStops, EntryStops}
 use Rattle.law_order.specs.Order.{Ordered}
 use Rattle.law_order.specs.Example.{history_of}
-use Rattle.law_order_history.specs.Lines.{AllQuiet, counts}
+use Rattle.law_order_history.specs.Lines.{AllQuiet, counts, with_first}
 use Rattle.law_order_history.specs.Befores.{TellsOrder}
 use Rattle.law_order_history.specs.Tells.{Tale, over, then_on}
+use Rattle.law_order_history.specs.Told.{IsOfRun, opened, entered, IsTold}
 use Rattle.law_order_history.specs.Laws.{StepsAreTales, TalesAreOrdered}
 use Rattle.law_order_history.proofs.Kept.{small_steps_keep}
 use Rattle.law_order_history.proofs.Same.{same_step}
 use Rattle.law_order_history.proofs.Begins.{begins_tell}
+use Rattle.law_order_history.proofs.Told.{history_told, told_before}
 
-pub tale_tells : (script : Script) (honest : ℕ → Bool) (x y : World) → Tale script honest x y → TellsOrder script honest x → TellsOrder script honest y
-tale_tells script honest x y over h = h
-tale_tells script honest x y (then_on {y = z} s t) h = tale_tells script honest z y t (small_steps_keep script honest x z h s)
+-- the history goes on
+tale_lines : (script : Script) (honest : ℕ → Bool) (x y : World) → Tale script honest x y → (more : List Event) × (y.history ≡ x.history ++ more)
+tale_lines script honest x y over = ([], sym (append-nil x.history))
+tale_lines script honest x y (then_on {y = z} s t) = let r = tale_lines script honest z y t in let new = with_first s.line s.quiet in (new ++ r.0, r.1 ∙ ap (λ es. es ++ r.0) s.lines ∙ append_assoc x.history new r.0)
+
+pub tale_tells : (script : Script) (honest : ℕ → Bool) (x y : World) → Tale script honest x y → IsTold script y.history → TellsOrder script honest x → TellsOrder script honest y
+tale_tells script honest x y over told h = h
+tale_tells script honest x y (then_on {y = z} s t) told h = tale_tells script honest z y t told (small_steps_keep script honest x z so_far h s)
+  where
+    so_far : IsTold script x.history
+    so_far = let new = with_first s.line s.quiet in let r = tale_lines script honest z y t in
+        told_before script x.history (new ++ r.0) (subst (IsTold script) (r.1 ∙ ap (λ es. es ++ r.0) s.lines ∙ append_assoc x.history new r.0) told)
 
 -- ---- steps that follow each other
 
@@ -76,8 +87,10 @@ module _ (script : Script) where
     opens_tell front [] rest w x i o h e = subst Tells (goes_is w x e) h
     opens_tell front (p ∷ ps) rest w x i o h e =
         let s = then_split (world.open_vat script (length front) p w) (world.open_from script (suc (length front)) ps) x e in
-        let t = tale_tells script honest w s.middle (tales.opening front (ps ++ rest) p w s.middle i o s.first) h in
-        opens_tell (front ++ p ∷ []) ps rest s.middle x (i ∙ sym (append_assoc front (p ∷ []) (ps ++ rest))) (opens_end front p zero (length front) (world.begins script) w s.middle (omega arith) o s.first) t
+        let split = i ∙ sym (append_assoc front (p ∷ []) (ps ++ rest)) in
+        let so = opens_end front p zero (length front) (world.begins script) w s.middle (omega arith) o s.first in
+        let t = tale_tells script honest w s.middle (tales.opening front (ps ++ rest) p w s.middle i o s.first) (history_told script s.middle (opened (front ++ p ∷ []) (ps ++ rest) split so)) h in
+        opens_tell (front ++ p ∷ []) ps rest s.middle x split so t
         (subst (λ m. world.open_from script m ps s.middle ≡ Goes x) (sym (length_end front p)) s.second)
 
     opened_tells : (ps rest : List Program) (w : World) → script.vats ≡ ps ++ rest → world.open_from script zero ps (world.begins script) ≡ Goes w → Tells w
@@ -94,8 +107,9 @@ module _ (script : Script) where
     steps_tell done (c ∷ es) rest w x y i o d h e =
         let s = then_split (world.step script c (1 + length done) x) (world.steps_from script es (suc (1 + length done))) y e in
         let j = steps_end done c 1 (1 + length done) w x s.middle refl d s.first in
-        let t = tale_tells script honest x s.middle (tales.entry done (es ++ rest) c w x s.middle i o d s.first j) h in
-        steps_tell (done ++ c ∷ []) es rest w s.middle y (i ∙ sym (append_assoc done (c ∷ []) (es ++ rest))) o j t (subst (λ m. world.steps_from script es m s.middle ≡ Goes y) (next done c) s.second)
+        let split = i ∙ sym (append_assoc done (c ∷ []) (es ++ rest)) in
+        let t = tale_tells script honest x s.middle (tales.entry done (es ++ rest) c w x s.middle i o d s.first j h) (history_told script s.middle (entered (done ++ c ∷ []) (es ++ rest) w split o j)) h in
+        steps_tell (done ++ c ∷ []) es rest w s.middle y split o j t (subst (λ m. world.steps_from script es m s.middle ≡ Goes y) (next done c) s.second)
 
     entered_tells : (es rest : List Entry) (w x : World) → script.schedule ≡ es ++ rest → world.open_from script zero script.vats (world.begins script) ≡ Goes w → world.steps_from script es 1 w ≡ Goes x → Tells x
     unfolding world.steps_from
@@ -142,10 +156,10 @@ module _ (script : Script) where
     joined : (h a b c : List Event) → h ++ (a ++ (b ++ c)) ≡ ((h ++ a) ++ b) ++ c
     joined h a b c = simp append_assoc
 
-    closed : (w : World) → Tells w → Ordered (history_of (world.close script w))
+    closed : (w : World) → IsOfRun script w → Tells w → Ordered (history_of (world.close script w))
     unfolding world.close history_of
-    closed w h = let es = world.left_vats script w.vats ++ (world.left_links script w.links ++ Ends ∷ []) in
-        let t = small_steps_keep script honest w _ h (same_step script honest w w.fuel w.drawn w.connections es (close_quiet w)) in
+    closed w of_run h = let es = world.left_vats script w.vats ++ (world.left_links script w.links ++ Ends ∷ []) in
+        let t = small_steps_keep script honest w _ (history_told script w of_run) h (same_step script honest w w.fuel w.drawn w.connections es (close_quiet w)) in
         subst Ordered (joined w.history (world.left_vats script w.vats) (world.left_links script w.links) (Ends ∷ [])) t.ordered
 
     -- ---- the whole run
@@ -164,7 +178,7 @@ module _ (script : Script) where
     run_ordered (Goes z) e =
         let s = then_split (world.open_from script zero script.vats (world.begins script)) (λ w. world.then_goes (world.steps_from script script.schedule 1 w) (world.close script)) z e in
         let t = then_split (world.steps_from script script.schedule 1 s.middle) (world.close script) z s.second in
-        subst (λ r. Ordered (history_of r)) t.second (closed t.middle (entered_tells script.schedule [] s.middle t.middle (sym (append-nil script.schedule)) s.first t.first))
+        subst (λ r. Ordered (history_of r)) t.second (closed t.middle (entered script.schedule [] s.middle (sym (append-nil script.schedule)) s.first t.first) (entered_tells script.schedule [] s.middle t.middle (sym (append-nil script.schedule)) s.first t.first))
 
 pub tales_are_ordered : TalesAreOrdered
 tales_are_ordered = λ script honest tales. run_ordered script honest tales (world.run script) refl

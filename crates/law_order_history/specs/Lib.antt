@@ -7,3 +7,4 @@ pub mod Reactions
 pub mod Sends
 pub mod Takes
 pub mod Tells
+pub mod Told

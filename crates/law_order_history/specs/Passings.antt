@@ -1,7 +1,7 @@
 -- What is ahead of the references in the arguments of a message is ahead of what passes for them.
-use Rattle.std.specs.Prelude.{◌≡◌, ℕ, zero, suc, ◌≤◌, Bool, true, false, List, [], ◌∷◌, Some, None, length, slice_get}
-use Rattle.def_machine.specs.Values.{Value, Items, Ref, Name, Gift, host_of, key}
-use Rattle.def_machine.specs.State.{Passed, Passeds, NoMore, More, Put, Vat, Done, Gives, Throws, Ejects, Stops}
+use Rattle.std.specs.Prelude.{◌≡◌, ℕ, zero, suc, Bool, true, false, List, [], ◌∷◌, ◌⊎◌, Some, None, slice_get}
+use Rattle.def_machine.specs.Values.{Words, Value, Broken, Items, Ref, Name, Gift, host_of, key}
+use Rattle.def_machine.specs.State.{Known, Settled, Passed, Passeds, NoMore, More, Put, Vat, Done, Gives, Throws, Ejects, Stops, drawn_at}
 use Rattle.def_machine.specs.Native.{list_at}
 use Rattle.def_machine.specs.Refs.{entry_of, follow, pass_all}
 use Rattle.def_run.specs.World.{Script, Event, Link, World, link_at, names, push_all}
@@ -26,24 +26,42 @@ pub record IsThere (w : World) (v g : ℕ) : Type 0 where
   pub found : slice_get w.vats g ≡ Some vat
   pub link : (ps : List (Put Name)) → (l : Link) × (link_at v g (push_all v ps w.links) ≡ Some l)
 
--- It holds of each argument and the value for it.
+-- the name is broken at the vat
+pub record IsBrokenAt (script : Script) (h : ℕ) (r : Vat Name) (n : Name) : Type 0 where
+  pub known : Known Name
+  pub found : entry_of (names script h) r.known n ≡ Some known
+  pub problem : Words
+  pub broken : known.standing ≡ Settled (Broken problem)
+
+pub record IsCutFrom (w : World) (v h : ℕ) : Type 0 where
+  pub link : Link
+  pub found : link_at v h w.links ≡ Some link
+  pub cut : link.cut ≡ true
+
+abbrev pub IsOpenOrLost : Script → World → ℕ → ℕ → Vat Name → Name → Type 0
+IsOpenOrLost script w v h r n = IsOpenAt script h v r n ⊎ (IsBrokenAt script h r n ⊎ IsCutFrom w v h)
+
+-- no link leads to that vat
+pub record IsNoVat (w : World) (g : ℕ) : Type 0 where
+  pub none : (a : ℕ) → link_at a g w.links ≡ None
+
+-- It holds of each argument and the value for it, as far as both are there.
 abbrev pub AllCame : (Passed Name → Value Name → Type 0) → Passeds Name → List (Value Name) → Type 0
-AllCame P NoMore [] = Unit {0}
-AllCame P NoMore (x ∷ xs) = ⊥
-AllCame P (More z zs) [] = ⊥
+AllCame P NoMore xs = Unit {0}
+AllCame P (More z zs) [] = Unit {0}
 AllCame P (More z zs) (x ∷ xs) = P z x × AllCame P zs xs
 
 module _ (script : Script) (honest : ℕ → Bool) (w : World) (v h : ℕ) where
   -- Vat v can pass what it has to vat h, of state r, in a world with honest vats alone.
   pub record CanPass (r s : Vat Name) : Type 0 where
     pub ready : Ready script honest w v s
-    -- its own names that wait are unknown to h, or wait there for it
-    pub opens : (x : Value Name) (n : Name) → LeadsAmid script honest w v s v x ≡ End (Held v n) n → (host_of n ≡ v) × IsOpenAt script h v r n
-    -- its references lead to vats that are there
-    pub vats : (x : Value Name) (g : ℕ) (n : Name) → LeadsAmid script honest w v s v x ≡ End (Way v g) n → IsThere w v g
-    -- no vat knows a gift under the words that it draws next
-    pub gifts : (i : ℕ) → length s.drawn ≤ i → (u g : ℕ) (t : Vat Name) → slice_get w.vats u ≡ Some t
-        → (entry_of (names script u) t.known (Gift g (key v ((names script v).word i))) ≡ None) × (opened_there (Gift g (key v ((names script v).word i))) t.gifts ≡ false)
+    -- its own names that wait are unknown to h, or wait there for it, or are broken there; or nothing arrives there
+    pub opens : (x : Value Name) (n : Name) → IsHeld script honest w v s x → LeadsAmid script honest w v s v x ≡ End (Held v n) n → (host_of n ≡ v) × IsOpenOrLost script w v h r n
+    -- its references lead to vats that are there, or to none
+    pub vats : (x : Value Name) (g : ℕ) (n : Name) → IsHeld script honest w v s x → LeadsAmid script honest w v s v x ≡ End (Way v g) n → IsThere w v g ⊎ IsNoVat w g
+    -- no vat knows a gift under a word that was not drawn
+    pub gifts : (x : ℕ) → drawn_at zero x s.drawn ≡ None → (u g : ℕ) (t : Vat Name) → slice_get w.vats u ≡ Some t
+        → (entry_of (names script u) t.known (Gift g (key v x)) ≡ None) × (opened_there (Gift g (key v x)) t.gifts ≡ false)
 
   -- What was ahead of that place in s is ahead in t of the name m as a note brings it to h, behind all that stands on the link.
   abbrev pub BringsBehind : Vat Name → Vat Name → Place → Name → Type 0

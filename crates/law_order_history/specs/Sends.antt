@@ -13,6 +13,7 @@ use Rattle.law_order.specs.Order.{plains, comes}
 use Rattle.law_order_history.specs.Lines.{was_taken, was_sent}
 use Rattle.law_order_history.specs.Passings.{CanPass, CameAs, AllCame}
 use Rattle.law_order_history.specs.Tells.{SmallStep}
+use Rattle.law_order_history.specs.Told.{IsTold}
 
 -- the message that vat v sends next, without an answer, and the vat once it is numbered and told of
 abbrev pub lone_message : ℕ → Vat Name → Value Name → Words → List (Value Name) → Message Name
@@ -40,8 +41,8 @@ pub record CanSend (script : Script) (honest : ℕ → Bool) (w : World) (v : �
   pub vats : (u : ℕ) (t : Vat Name) → slice_get w.vats u ≡ Some t → (t.number ≡ u) × ((o : Name) → IsObject o → entry_of (names script u) t.known o ≡ None)
   -- the target leads to a vat that is there, and to that vat the arguments can pass, which came as the history tells
   pub there : (h : ℕ) (n : Name) → LeadsAmid script honest w v s v m.target ≡ End (Way v h) n → (t : Vat Name) × (slice_get w.vats h ≡ Some t)
-  pub passes : (h : ℕ) (t : Vat Name) → (h ≡ v → ⊥) → slice_get w.vats h ≡ Some t → CanPass script honest w v h t s
-  pub came : (h d : ℕ) (more : List Event) → AllCame (λ z x. CameAs script honest w v h d q ((went v w head s).history ++ more) z x) (plains m.args) m.args
+  pub passes : (h : ℕ) (t : Vat Name) → (h ≡ v → ⊥) → slice_get w.vats h ≡ Some t → CanPass script honest w v h t q
+  pub came : (h d : ℕ) (done : List Event) → IsTold script done → AllCame (λ z x. CameAs script honest w v h d q done z x) (plains m.args) m.args
   -- it was neither sent nor taken, came to no vat, and stands nowhere
   pub unsent : was_sent m.id (went v w head s).history ≡ false
   pub untaken : was_taken m.id (went v w head s).history ≡ false

@@ -9,7 +9,8 @@ use Rattle.law_order.specs.Messages.{StandsAt}
 use Rattle.law_order.specs.Places.{leads, ways}
 use Rattle.law_order.specs.Order.{Coming, comes, all_pass_as}
 use Rattle.law_order_history.specs.Lines.{AllQuiet, with_first, was_taken, was_sent}
-use Rattle.law_order_history.specs.Befores.{Brings, passing_place, IsBroughtFrom}
+use Rattle.law_order_history.specs.Befores.{Brings, passing_place, up_to, IsBroughtFrom}
+use Rattle.law_order_history.specs.Told.{IsTold}
 
 module _ (script : Script) (honest : ℕ → Bool) (x y : World) where
   -- What was at c is at d: the message a, if it was ahead of it, is ahead of it still, or was taken.
@@ -38,7 +39,7 @@ module _ (script : Script) (honest : ℕ → Bool) (x y : World) where
     pub new : comes u d.message zero x.history ≡ None
     pub coming : Coming
     pub came : comes u d.message zero y.history ≡ Some coming
-    pub keeps : (more : List Event) (a e m : Name) (c : Place) → IsSource o u e c → IsAmong m (all_pass_as u (y.history ++ more) e ys coming.args) → Keeps a c (passing_place u v front d n m)
+    pub keeps : (done : List Event) → IsTold script done → (a e m : Name) (c : Place) → IsSource o u e c → IsAmong m (all_pass_as u done e ys coming.args) → Keeps a c (passing_place u v front d n m)
 
   -- Its message was held till then, and is sent on.
   pub record IsSentOnNow (u v : ℕ) (front : List (Note Name)) (d : Delivery Name) (n : Name) (ys : Passeds Name) : Type 0 where
@@ -48,7 +49,7 @@ module _ (script : Script) (honest : ℕ → Bool) (x y : World) where
     pub stood : StandsAt (ways script honest x) d.message (Held u held_for) before aim
     pub coming : Coming
     pub came : comes u d.message zero x.history ≡ Some coming
-    pub keeps : (more : List Event) (a e m : Name) (c : Place) → IsBroughtFrom (Held u held_for) before (led u e) c → IsAmong m (all_pass_as u (y.history ++ more) e ys coming.args) → Keeps a c (passing_place u v front d n m)
+    pub keeps : (done : List Event) → IsTold script done → (a e m : Name) (c : Place) → IsBroughtFrom (Held u held_for) (up_to before d.message aim) (led u e) c → IsAmong m (all_pass_as u done e ys coming.args) → Keeps a c (passing_place u v front d n m)
 
   -- The message stood somewhere already, and what was ahead of it is ahead of it.
   pub record IsStanding (b : Name) (l : Lane) (c : List Item) (n : Name) : Type 0 where
@@ -58,19 +59,19 @@ module _ (script : Script) (honest : ℕ → Bool) (x y : World) where
     pub stood : StandsAt (ways script honest x) b lane before aim
     pub keeps : (a : Name) → Keeps a (Mid lane before aim) (Mid l c n)
 
-  -- It was held there already; what it would bring is behind what it was behind.
-  pub record IsStillHeld (v : ℕ) (p d : Name) (b : List Item) : Type 0 where
+  -- It was held there already, and stands there last of those; what it would bring is behind what it was behind.
+  pub record IsStillHeld (v : ℕ) (p d : Name) (upto : List Item) : Type 0 where
     pub before : List Item
     pub aim : Name
     pub stood : StandsAt (ways script honest x) d (Held v p) before aim
-    pub keeps : (a n : Name) (c k : Place) → IsBroughtFrom (Held v p) before (led v n) c → IsBroughtFrom (Held v p) b (now_leads v n) k → Keeps a c k
+    pub keeps : (a n : Name) (c k : Place) → IsBroughtFrom (Held v p) (up_to before d aim) (led v n) c → IsBroughtFrom (Held v p) upto (now_leads v n) k → Keeps a c k
 
   -- It came in this step, and what it would bring is behind what the references were behind.
-  pub record IsHeldNow (o : Option Event) (v : ℕ) (p d : Name) (b : List Item) : Type 0 where
+  pub record IsHeldNow (o : Option Event) (v : ℕ) (p d : Name) (upto : List Item) : Type 0 where
     pub new : comes v d zero x.history ≡ None
     pub coming : Coming
     pub came : comes v d zero y.history ≡ Some coming
-    pub keeps : (a n : Name) (c k : Place) → IsSource o v n c → IsBroughtFrom (Held v p) b (now_leads v n) k → Keeps a c k
+    pub keeps : (a n : Name) (c k : Place) → IsSource o v n c → IsBroughtFrom (Held v p) upto (now_leads v n) k → Keeps a c k
 
   -- The message was neither sent nor taken before. It is ahead of what is sent on its reference from now on, and behind all that was ahead of that.
   pub record IsSentNow (v : ℕ) (m : Message Name) : Type 0 where
@@ -102,7 +103,7 @@ module _ (script : Script) (honest : ℕ → Bool) (x y : World) where
     pub messages : (b : Name) (l : Lane) (c : List Item) (n : Name) → StandsAt (ways script honest y) b l c n → IsStanding b l c n ⊎ (was_sent b x.history ≡ false)
     pub passings : (u v : ℕ) (front : List (Note Name)) (d : Delivery Name) (n : Name) (ys : Passeds Name) → Brings y u v front d n ys
         → IsStillBrought u v front d n ys ⊎ (IsPutNow line u v front d n ys ⊎ IsSentOnNow u v front d n ys)
-    pub carriers : (v : ℕ) (p d q : Name) (b : List Item) → StandsAt (ways script honest y) d (Held v p) b q → IsStillHeld v p d b ⊎ IsHeldNow line v p d b
+    pub carriers : (v : ℕ) (p d q : Name) (b : List Item) → StandsAt (ways script honest y) d (Held v p) b q → IsStillHeld v p d (up_to b d q) ⊎ IsHeldNow line v p d (up_to b d q)
 
 -- From one world to another by small steps, one after another.
 pub data Tale (script : Script) (honest : ℕ → Bool) : World → World → Type 0 where

@@ -26,7 +26,7 @@ use Rattle.law_order_notice_tales.proofs.Unsent.{unsent}
 
 -- ---- lists
 
-nothing_at : (c r : List Item) (i : Item) → [] ≡ c ++ i ∷ r → ⊥
+pub nothing_at : (c r : List Item) (i : Item) → [] ≡ c ++ i ∷ r → ⊥
 nothing_at [] r i e = cc
 nothing_at (j ∷ c) r i e = cc
 
@@ -38,7 +38,7 @@ head_is : (i j : Item) (is js : List Item) → i ∷ is ≡ j ∷ js → (i ≡ 
 head_is i j is js e = let a : i ≡ j = cc in let b : is ≡ js = cc in (a, b)
 
 -- what stands in the first or the second
-split_at : (xs ys c r : List Item) (i : Item) → xs ++ ys ≡ c ++ i ∷ r → ((q : List Item) × (xs ≡ c ++ i ∷ q)) ⊎ IsIn i ys
+pub split_at : (xs ys c r : List Item) (i : Item) → xs ++ ys ≡ c ++ i ∷ r → ((q : List Item) × (xs ≡ c ++ i ∷ q)) ⊎ IsIn i ys
 split_at [] ys c r i e = inr (subst (IsIn i) (sym e) (in_middle c r i))
 split_at (x ∷ xs) ys [] r i e = let h = head_is x i (xs ++ ys) r e in inl (xs, ap (λ j. j ∷ xs) h.0)
 split_at (x ∷ xs) ys (j ∷ c) r i e = let h = head_is x j (xs ++ ys) (c ++ i ∷ r) e in go h.0 (split_at xs ys c r i h.1)
@@ -63,12 +63,12 @@ queued_head b n m ms (Ref o) (inr i) f = of_more b m ms (f i)
 queued_head b n m ms other i f = of_more b m ms (f i)
 
 -- the message of what is queued
-queued_from : (b n : Name) (ms : List (Message Name)) → IsIn (item b n) (queued ms) → IsOf b ms
+pub queued_from : (b n : Name) (ms : List (Message Name)) → IsIn (item b n) (queued ms) → IsOf b ms
 unfolding queued
 queued_from b n [] h = absurd h
 queued_from b n (m ∷ ms) h = queued_head b n m ms m.target h (λ i. queued_from b n ms i)
 
-all_news : (ps : List (Put Name)) → AllOf IsNews ps → AllOf (λ (p : Put Name). DeliversNothing p.note) ps
+pub all_news : (ps : List (Put Name)) → AllOf IsNews ps → AllOf (λ (p : Put Name). DeliversNothing p.note) ps
 all_news [] h = tt
 all_news (p ∷ ps) h = (subst DeliversNothing (sym h.0.2) tt, all_news ps h.1)
 
@@ -77,7 +77,7 @@ ending_quiet (Settles p y) h = tt
 ending_quiet (Lost m) h = tt
 ending_quiet other h = absurd h
 
-all_quiet : (es : List (Happened Name)) → AllOf IsEnding es → AllOf IsQuietLine es
+pub all_quiet : (es : List (Happened Name)) → AllOf IsEnding es → AllOf IsQuietLine es
 all_quiet [] h = tt
 all_quiet (e ∷ es) h = (ending_quiet e h.0, all_quiet es h.1)
 

@@ -128,7 +128,7 @@ module _ (script : Script) (honest : ℕ → Bool) (w : World) (v : ℕ) (r : Va
   wait_stand s p q other e h = tt
 
   -- and what waits on a name that broke
-  waiter_may : (s : Vat Name) (p q : Name) → IsDown p s → IsWaitOf p (standing_of K s.known q) → MayBreak q s
+  pub waiter_may : (s : Vat Name) (p q : Name) → IsDown p s → IsWaitOf p (standing_of K s.known q) → MayBreak q s
   waiter_may s p q e h = wait_stand s p q (standing_of K s.known q) e h
 
   -- ---- the vat is told

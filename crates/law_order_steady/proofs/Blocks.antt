@@ -160,7 +160,7 @@ module _ (script : Script) (w : World) (v : ℕ) where
     clear_by s x (Ref n) e h = spot_clear s x n e (K.spot n) refl h
     clear_by s x other e h = tt
 
-    followed_clear : (s : Vat Name) (x : Value Name) → IsEnd (refs.place K s (refs.follow K s x)) → IsClear K s.noticed (refs.follow K s x)
+    pub followed_clear : (s : Vat Name) (x : Value Name) → IsEnd (refs.place K s (refs.follow K s x)) → IsClear K s.noticed (refs.follow K s x)
     unfolding refs.follow
     followed_clear s x h = clear_by s (refs.follow_at K (suc (length s.known)) s.known x) (refs.severed K s (refs.follow_at K (suc (length s.known)) s.known x)) refl h
 

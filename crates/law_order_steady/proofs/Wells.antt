@@ -134,6 +134,8 @@ pub data MaySettle (script : Script) (honest : ℕ → Bool) (w : World) (v : �
   asleep : (q : Name) → IsWaitOf q (standing_of (names script v) s.known p) → standing_of (names script v) s.known q ≡ Settled y → MaySettle script honest w v p y s
   -- It waits on a name that is followed to that.
   led : (q : Name) (k : Known Name) → standing_of (names script v) s.known p ≡ WaitsOn q → entry_of (names script v) s.known q ≡ Some k → refs.follow (names script v) s (Ref q) ≡ y → MaySettle script honest w v p y s
+  -- It is the vat's own, whatever it waits on, and breaks.
+  sinks : host_of p ≡ v → IsWaiting (standing_of (names script v) s.known p) → IsBreak y → MaySettle script honest w v p y s
 
 module _ (script : Script) (honest : ℕ → Bool) (all : (h : ℕ) → honest h ≡ true) (w : World) (v : ℕ) (r : Vat Name) (at : slice_get w.vats v ≡ Some r) where
   abbrev K : Naming Name Name
@@ -651,6 +653,7 @@ module _ (script : Script) (honest : ℕ → Bool) (all : (h : ℕ) → honest h
       stands_led (Settled z) e m = tt
       stands_led Unsettled e (here own i (inl loose)) = known_led d ih Z (target_same s p y last) p c o s k found (subst IsLooseStanding (sym e) tt) h less_room (target_clear s p y clear) (subst IsWaiting (sym e) tt) own (ready_loose s (settled_to K s p Z) p Z loose)
       stands_led Unsettled e (here own i (inr breaks)) = known_led d ih Z (target_same s p y last) p c o s k found (subst IsLooseStanding (sym e) tt) h less_room (target_clear s p y clear) (subst IsWaiting (sym e) tt) own (ready_lost s (settled_to K s p Z) p Z (no_name_target script honest w v s p y (break_not y breaks)))
+      stands_led Unsettled e (sinks own i b) = known_led d ih Z (target_same s p y last) p c o s k found (subst IsLooseStanding (sym e) tt) h less_room (target_clear s p y clear) (subst IsWaiting (sym e) tt) own (ready_lost s (settled_to K s p Z) p Z (no_name_target script honest w v s p y (break_not y b)))
       stands_led Unsettled e (asleep q i f) = let none : IsWaitOf q Unsettled = subst (IsWaitOf q) (stood ∙ e) i in absurd none
       stands_led Unsettled e (led x j i at f) = absurd (apart (waits_other Unsettled (WaitsOn x) e i))
         where
@@ -660,6 +663,7 @@ module _ (script : Script) (honest : ℕ → Bool) (all : (h : ℕ) → honest h
         where
           apart : ◌≡◌ {A = Standing Name} Unsettled (WaitsOn q) → ⊥
           apart j = cc
+      stands_led (WaitsOn q) e (sinks own i b) = waits_so q e (ready_lost s (settled_to K s p Z) p Z (no_name_target script honest w v s p y (break_not y b)))
       stands_led (WaitsOn q) e (asleep x i f) = let same : q ≡ x = subst (IsWaitOf x) (stood ∙ e) i in waits_so q e (settled_waits_on q e (ap (λ n. standing_of K s.known n) same ∙ f))
       stands_led (WaitsOn q) e (led x j i at f) = let same : q ≡ x = one_wait q x (waits_other (WaitsOn q) (WaitsOn x) e i) in waits_so q e (place_waits q j e (ap (λ n. entry_of K s.known n) same ∙ at) (ap (λ n. refs.follow K s (Ref n)) same ∙ f) (is_ref y))
         where
@@ -669,6 +673,7 @@ module _ (script : Script) (honest : ℕ → Bool) (all : (h : ℕ) → honest h
         where
           apart : ◌≡◌ {A = Standing Name} Unsettled (Viewed g) → ⊥
           apart j = cc
+      stands_led (Viewed g) e (sinks own i b) = absurd (subst IsWaiting (stood ∙ e) i)
       stands_led (Viewed g) e (asleep x i f) = let same : g ≡ x = subst (IsWaitOf x) (stood ∙ e) i in
           view_led d ih Z (target_same s p y last) p c o s k found (subst IsLooseStanding (sym e) tt) h less_room (target_clear s p y clear) g e (ap (λ n. standing_of K s.known n) same ∙ (f ∙ ap Settled (sym (target_is script honest w v Mine_now o s p g k h found e y))))
       stands_led (Viewed g) e (led x j i at f) = absurd (apart (waits_other (Viewed g) (WaitsOn x) e i))

@@ -11,7 +11,7 @@ use Rattle.law_order_history.specs.Lines.{counts}
 use Rattle.law_order_history.specs.Tells.{Tale, over, then_on}
 use Rattle.law_order_tales.specs.Middle.{middle}
 use Rattle.law_order_tales.proofs.Begun.{begin_small, ended, end_small, tale_both}
-use Rattle.law_order_tales.proofs.Silent.{silent_small}
+use Rattle.law_order_tales.proofs.Silent.{silent_delivers, silent_small}
 
 goes_is : (x y : World) → Goes x ≡ Goes y → x ≡ y
 goes_is x y e = cc
@@ -31,7 +31,7 @@ module _ (script : Script) (honest : ℕ → Bool) (w : World) (a b : ℕ) (n : 
   abbrev pub Start : Vat Name
   Start = readied w h.vat
 
-  abbrev Bare : World
+  abbrev pub Bare : World
   Bare = record w { links = with_link (with_notes h.rest) a b w.links }
 
   abbrev pub head_of : ℕ → List Event
@@ -40,7 +40,7 @@ module _ (script : Script) (honest : ℕ → Bool) (w : World) (a b : ℕ) (n : 
   abbrev pub Arrival : Done Name (Unit {0})
   Arrival = arrive (names script b) a (read_note (names_of h.vat) n) Start
 
-  step_is : (k : ℕ) → world.step script (Carry a b) k w ≡ world.put_back b Bare (head_of k) (world.step_number script k) Arrival
+  pub step_is : (k : ℕ) → world.step script (Carry a b) k w ≡ world.put_back b Bare (head_of k) (world.step_number script k) Arrival
   unfolding world.step world.carry_link world.carry_notes world.arrives world.within readied
   step_is k =
       ap (λ o. world.carry_link script k a b w o) h.found
@@ -54,5 +54,5 @@ module _ (script : Script) (honest : ℕ → Bool) (w : World) (a b : ℕ) (n : 
       go : (t : Vat Name) × (Arrival ≡ Gives tt t) × (ended Bare b (head_of k) t ≡ y) → Tale script honest w y
       go (t, f, same) = then_on (begin_small script honest w b (head_of k) h.vat h.there (silent_quiet k a b n (world.next_frame a b w.connections) silent, tt))
           (tale_both script honest (middle w b (head_of k) Start) (middle w b (head_of k) t) y (inner t f)
-          (then_on (silent_small script honest w a b (head_of k) h.link n h.rest h.found h.first silent t)
+          (then_on (silent_small script honest w a b (head_of k) h.link n h.rest h.found h.first (silent_delivers n silent) t silent)
           (subst (λ z. Tale script honest (middle Bare b (head_of k) t) z) same (then_on (end_small script honest Bare b (head_of k) t) over))))

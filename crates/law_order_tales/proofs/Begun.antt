@@ -23,6 +23,7 @@ use Rattle.law_order_tales.specs.Middle.{middle, BeginningIsSmall, EndingIsSmall
 use Rattle.law_order_tales.specs.Resting.{Rests}
 use Rattle.law_order_tales.proofs.Middle.{at_vat}
 use Rattle.law_order_tales.proofs.Resting.{resting}
+use Rattle.law_order_tales.proofs.Still.{IsStill, rests_by}
 
 pub same_grow : (w u : Ways) → SameWays w u → Grows w u
 same_grow w u h = record { stands = λ l i j. (h.0 l).0 i j; onward = λ l o. inl (h.1 l o) }
@@ -43,7 +44,7 @@ module _ (script : Script) (honest : ℕ → Bool) (w : World) (v : ℕ) (head :
   abbrev Y : World
   Y = middle w v head Start
 
-  leads_begin : (u : ℕ) (x : Value Name) → leads script honest Y.vats Y.links u x ≡ leads script honest w.vats w.links u x
+  pub leads_begin : (u : ℕ) (x : Value Name) → leads script honest Y.vats Y.links u x ≡ leads script honest w.vats w.links u x
   unfolding readied world.push_all
   leads_begin u x = leads_same script honest w.vats w.links w.links (all_same w.links) v s Start (refers_same script honest v s Start (alike_same (names script v) s Start refl refl refl refl)) u x
       ∙ ap (λ vs. leads script honest vs w.links u x) (in_place v s w.vats there)
@@ -59,19 +60,21 @@ module _ (script : Script) (honest : ℕ → Bool) (w : World) (v : ℕ) (head :
   stand_same (Held u n) = at_vat (λ r. held_in n (entry_of (names script u) r.known n)) [] v u s Start w.vats (λ e. refl) ∙ ap (λ vs. stands_at script honest vs w.links (Held u n)) (in_place v s w.vats there)
   stand_same (Way a b) = refl
 
-  begin_rests : AllQuiet head → Rests script honest w Y
+  pub begin_still : AllQuiet head → IsStill script honest w Y
   unfolding readied world.push_all events_of
-  begin_rests quiet = record {
+  begin_still quiet = record {
     told = head;
     lines = append-nil (w.history ++ head);
     quiet = quiet;
-    leading = λ u n. inl (leads_begin u (Ref n));
-    references = λ u n a i. subst (λ c. Ahead (ways script honest Y) a c) (sym (leads_begin u (Ref n))) ((growing_keeps (ways script honest w) (ways script honest Y) begins (leads script honest w.vats w.links u (Ref n))).1 a i);
-    places = λ l b n a i. (growing_keeps (ways script honest w) (ways script honest Y) begins (Mid l b n)).1 a i;
-    stands = λ m l b n i. inl (record { behind = i.behind; found = sym (stand_same l) ∙ i.found });
-    holds = λ x p m b n i. record { behind = i.behind; found = sym (stand_same (Held x p)) ∙ i.found };
+    stands = stand_same;
     brought = λ u x front d n ys b. record { before = front; brings = record { link = b.link; found = b.found; verb = b.verb; rest = b.rest; notes = b.notes }; behind = refl };
   }
+
+  begin_rests : AllQuiet head → Rests script honest w Y
+  begin_rests quiet = rests_by script honest w Y (begin_still quiet)
+      (λ u n. inl (leads_begin u (Ref n)))
+      (λ u n a i. subst (λ c. Ahead (ways script honest Y) a c) (sym (leads_begin u (Ref n))) ((growing_keeps (ways script honest w) (ways script honest Y) begins (leads script honest w.vats w.links u (Ref n))).1 a i))
+      (λ l b n a i. (growing_keeps (ways script honest w) (ways script honest Y) begins (Mid l b n)).1 a i)
 
   pub begin_small : AllQuiet head → SmallStep script honest w Y
   begin_small quiet = resting script honest w Y (begin_rests quiet)
@@ -87,6 +90,16 @@ ended w v head t = record {
   links = world.push_all v t.outbox w.links;
   connections = connections_after v t head w.connections;
   history = w.history ++ head ++ events_of w.links v t.happened;
+}
+
+pub end_still : (script : Script) (honest : ℕ → Bool) (w : World) (v : ℕ) (head : List Event) (t : Vat Name) → IsStill script honest (middle w v head t) (ended w v head t)
+unfolding ways
+end_still script honest w v head t = record {
+  told = [];
+  lines = sym (append-nil (w.history ++ head ++ events_of w.links v t.happened));
+  quiet = tt;
+  stands = λ l. refl;
+  brought = λ u x front d n ys b. record { before = front; brings = record { link = b.link; found = b.found; verb = b.verb; rest = b.rest; notes = b.notes }; behind = refl };
 }
 
 pub end_small : (script : Script) (honest : ℕ → Bool) (w : World) (v : ℕ) (head : List Event) (t : Vat Name) → SmallStep script honest (middle w v head t) (ended w v head t)

@@ -1,3 +1,4 @@
+pub mod Still
 pub mod Resting
 pub mod Cuts
 pub mod Links
@@ -6,7 +7,5 @@ pub mod Begun
 pub mod Silent
 pub mod Stilling
 pub mod Arriving
-pub mod Asks
 pub mod Receivers
 pub mod Entries
-pub mod AskTales

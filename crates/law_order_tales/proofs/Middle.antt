@@ -17,12 +17,9 @@ use Rattle.law_order_tales.specs.Middle.{middle, IsQuietLine, MovesNone, Growing
 use Rattle.law_order_tales.specs.Resting.{WasBrought, Rests}
 use Rattle.law_order_tales.proofs.Links.{Stays, is_none, is_there, puts_stay, stays_stand, was_at}
 use Rattle.law_order_tales.proofs.Resting.{resting}
+use Rattle.law_order_tales.proofs.Still.{IsStill, quiet_join, rests_by}
 
 -- ---- lines
-
-pub quiet_join : (es fs : List Event) → AllQuiet es → AllQuiet fs → AllQuiet (es ++ fs)
-quiet_join [] fs h k = k
-quiet_join (e ∷ es) fs h k = (h.0, quiet_join es fs h.1 k)
 
 posted_quiet : (v : ℕ) (m : Name) (b : Bool) → AllQuiet (elim b [ true ↦ LostCut m ∷ [] | false ↦ [] ])
 unfolding counts
@@ -66,7 +63,7 @@ module _ {A : Type 0} (f : Vat Name → A) (none : A) where
   at_vat (suc v) zero s t (r ∷ vs) e = refl
   at_vat (suc v) (suc u) s t (r ∷ vs) e = at_vat v u s t vs (λ i. e (ap suc i))
 
-module _ (script : Script) (honest : ℕ → Bool) (w : World) (v : ℕ) (head : List Event) (s t : Vat Name) (g : Grown script honest w v s t) (h : MovesNone (names script v) s t) where
+module _ (script : Script) (honest : ℕ → Bool) (w : World) (v : ℕ) (head : List Event) (s t : Vat Name) (h : MovesNone (names script v) s t) where
   abbrev X : World
   X = middle w v head s
 
@@ -103,19 +100,15 @@ module _ (script : Script) (honest : ℕ → Bool) (w : World) (v : ℕ) (head :
   lines_are : Y.history ≡ X.history ++ events_of w.links v h.lines
   lines_are = ap (λ es. w.history ++ head ++ events_of w.links v es) h.happened ∙ ap (λ es. w.history ++ head ++ es) (events_both w.links v s.happened h.lines) ∙ sym (append_assoc (w.history ++ head) (events_of w.links v s.happened) (events_of w.links v h.lines))
 
-  rests : Rests script honest X Y
+  pub moves_still : IsStill script honest X Y
+  moves_still = record { told = events_of w.links v h.lines; lines = lines_are; quiet = events_quiet w.links v h.lines h.quiet; stands = stand_same; brought = brought }
+
+  rests : Grown script honest w v s t → Rests script honest X Y
   unfolding ways amid leads
-  rests = record {
-    told = events_of w.links v h.lines;
-    lines = lines_are;
-    quiet = events_quiet w.links v h.lines h.quiet;
-    leading = λ u n. inl (g.leading u (Ref n));
-    references = λ u n a i. subst (λ c. Ahead (ways_of script honest Y.vats Y.links) a c) (sym (g.leading u (Ref n))) ((growing_keeps (ways_of script honest X.vats X.links) (ways_of script honest Y.vats Y.links) g.grows _).1 a i);
-    places = λ l b n a i. (growing_keeps (ways_of script honest X.vats X.links) (ways_of script honest Y.vats Y.links) g.grows (Mid l b n)).1 a i;
-    stands = λ m l b n i. inl (record { behind = i.behind; found = sym (stand_same l) ∙ i.found });
-    holds = λ x p m b n i. record { behind = i.behind; found = sym (stand_same (Held x p)) ∙ i.found };
-    brought = brought;
-  }
+  rests g = rests_by script honest X Y moves_still
+      (λ u n. inl (g.leading u (Ref n)))
+      (λ u n a i. subst (λ c. Ahead (ways_of script honest Y.vats Y.links) a c) (sym (g.leading u (Ref n))) ((growing_keeps (ways_of script honest X.vats X.links) (ways_of script honest Y.vats Y.links) g.grows _).1 a i))
+      (λ l b n a i. (growing_keeps (ways_of script honest X.vats X.links) (ways_of script honest Y.vats Y.links) g.grows (Mid l b n)).1 a i)
 
 pub growing_is_small : GrowingIsSmall
-growing_is_small script honest w v head s t g h = resting script honest (middle w v head s) (middle w v head t) (rests script honest w v head s t g h)
+growing_is_small script honest w v head s t g h = resting script honest (middle w v head s) (middle w v head t) (rests script honest w v head s t h g)

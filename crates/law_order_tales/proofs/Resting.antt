@@ -7,7 +7,7 @@ use Rattle.law_order.specs.Ways.{Lane, Held, Way, Item, Place, Nowhere, End, Mid
 use Rattle.law_order.specs.Places.{item, delivered, leads, ways}
 use Rattle.law_order.specs.Messages.{StandsAt}
 use Rattle.law_order_history.specs.Lines.{was_sent}
-use Rattle.law_order_history.specs.Befores.{IsBroughtFrom, in_lane, apart}
+use Rattle.law_order_history.specs.Befores.{up_to, IsBroughtFrom, in_lane, apart}
 use Rattle.law_order_history.specs.Tells.{IsStanding, IsStillBrought, SmallStep}
 use Rattle.law_order_history.proofs.Same.{brought_once}
 use Rattle.law_order_tales.specs.Resting.{WasBrought, Rests, RestingIsSmall}
@@ -62,7 +62,7 @@ module _ (script : Script) (honest : ℕ → Bool) (x y : World) (h : Rests scri
       before = b;
       aim = aim;
       stood = h.holds v p d b aim s;
-      keeps = λ a n c k f g t. inr (keeps_brought (Held v p) b a (Led v n) (Now v n) c k (h.leading v n) (h.references v n a) f g t);
+      keeps = λ a n c k f g t. inr (keeps_brought (Held v p) (up_to b d aim) a (Led v n) (Now v n) c k (h.leading v n) (h.references v n a) f g t);
     });
   }
 

@@ -3,10 +3,10 @@ use Rattle.std.proofs.Common.{◌≡◌, ℕ, Bool, true, false, List, [], ◌�
 use Rattle.std.proofs.lemmas.List.{append-nil}
 use Rattle.std.specs.Prelude.{◌&&◌}
 use Rattle.def_machine.specs.Values.{Name, Ref}
-use Rattle.def_machine.specs.State.{Passeds, Delivery, Note, Deliver, Open, Shorten, Happened, Posted, Vat}
+use Rattle.def_machine.specs.State.{Passeds, Delivery, Note, Deliver, Happened, Posted, Vat}
 use Rattle.def_run.specs.World as world
 use Rattle.def_run.specs.World.{Script, Event, Link, World, link_at, with_link, with_notes, push_all, event_of, events_of}
-use Rattle.law_order.specs.Ways.{Lane, Held, Way, Mid}
+use Rattle.law_order.specs.Ways.{Lane, Way, Mid}
 use Rattle.law_order.specs.Changes.{Grows}
 use Rattle.law_order.specs.Arrivals.{in_front, keeping, IsSilent}
 use Rattle.law_order.specs.Places.{delivered, is_honest, leads, stands_at, ways_of, ways, amid}
@@ -14,11 +14,12 @@ use Rattle.law_order.proofs.Changes.{growing_keeps}
 use Rattle.law_order.proofs.OrderKeeping.{front_link, all_put_on, arriving_changes_nothing, silent_notes_leave}
 use Rattle.law_order_history.specs.Befores.{Brings}
 use Rattle.law_order_history.specs.Tells.{SmallStep}
-use Rattle.law_order_tales.specs.Middle.{middle, SilentLeavingIsSmall}
+use Rattle.law_order_tales.specs.Middle.{middle, DeliversNothing, SilentLeavingIsSmall}
 use Rattle.law_order_tales.specs.Resting.{WasBrought, Rests}
 use Rattle.law_order_tales.proofs.Begun.{same_grow}
 use Rattle.law_order_tales.proofs.Links.{Found, as_it_was, changed, found, OnLink}
 use Rattle.law_order_tales.proofs.Resting.{resting}
+use Rattle.law_order_tales.proofs.Still.{IsStill, rests_by}
 
 -- ---- a link without its first note
 
@@ -34,16 +35,19 @@ front_notes : (n : Note Name) (k : Link) → (in_front n k).notes ≡ n ∷ k.no
 unfolding in_front
 front_notes n k = refl
 
-silent_bare : (n : Note Name) → IsSilent n → (ns : List (Note Name)) → delivered (n ∷ ns) ≡ delivered ns
-unfolding delivered
-silent_bare (Deliver d m verb ys) h ns = absurd h
-silent_bare (Open i m) h ns = absurd h
-silent_bare (Shorten m c i) h ns = absurd h
-silent_bare other h ns = refl
+-- what is silent delivers nothing
+pub silent_delivers : (n : Note Name) → IsSilent n → DeliversNothing n
+silent_delivers (Deliver d m verb ys) h = h
+silent_delivers other h = tt
 
-same_without : (script : Script) (honest : ℕ → Bool) (n : Note Name) → IsSilent n → (k : Link) → OnLink script honest (Some k) ≡ OnLink script honest (Some (in_front n k))
+pub bare_delivers : (n : Note Name) → DeliversNothing n → (ns : List (Note Name)) → delivered (n ∷ ns) ≡ delivered ns
+unfolding delivered
+bare_delivers (Deliver d m verb ys) h ns = absurd h
+bare_delivers other h ns = refl
+
+same_without : (script : Script) (honest : ℕ → Bool) (n : Note Name) → DeliversNothing n → (k : Link) → OnLink script honest (Some k) ≡ OnLink script honest (Some (in_front n k))
 unfolding in_front is_honest
-same_without script honest n h k = ap (λ is. elim (honest k.from && honest k.to) [ true ↦ is | false ↦ [] ]) (sym (silent_bare n h k.notes))
+same_without script honest n h k = ap (λ is. elim (honest k.from && honest k.to) [ true ↦ is | false ↦ [] ]) (sym (bare_delivers n h k.notes))
 
 -- ---- lines
 
@@ -70,7 +74,7 @@ events_same ls ks v f (e ∷ es) = ap (λ gs. gs ++ events_of ks v es) (event_sa
 
 -- ---- the step
 
-module _ (script : Script) (honest : ℕ → Bool) (w : World) (a b : ℕ) (head : List Event) (l : Link) (n : Note Name) (ns : List (Note Name)) (at : link_at a b w.links ≡ Some l) (notes : l.notes ≡ n ∷ ns) (silent : IsSilent n) (t : Vat Name) where
+module _ (script : Script) (honest : ℕ → Bool) (w : World) (a b : ℕ) (head : List Event) (l : Link) (n : Note Name) (ns : List (Note Name)) (at : link_at a b w.links ≡ Some l) (notes : l.notes ≡ n ∷ ns) (bare : DeliversNothing n) (t : Vat Name) where
   abbrev Bare : World
   Bare = record w { links = with_link (with_notes ns) a b w.links }
 
@@ -91,13 +95,9 @@ module _ (script : Script) (honest : ℕ → Bool) (w : World) (a b : ℕ) (head
   front_or : (c d : ℕ) → Found (in_front n) (link_at c d Y.links) (link_at c d X.links)
   front_or c d = subst (λ ls. Found (in_front n) (link_at c d Y.links) (link_at c d ls)) (sym links_are) (found (in_front n) (λ x y k. front_link x y n k) a b c d Y.links)
 
-  leaves : Grows (ways script honest X) (ways script honest Y)
-  unfolding ways amid
-  leaves = subst (λ (z : World). Grows (ways script honest (amid b t z)) (ways script honest (amid b t Bare))) kept (same_grow (ways script honest (amid b t (keeping a b n Bare))) (ways script honest (amid b t Bare)) (silent_notes_leave script honest Bare a b n t silent))
-
   front_same : (o p : Option Link) → Found (in_front n) o p → OnLink script honest o ≡ OnLink script honest p
   front_same o p (as_it_was e) = ap (λ q. OnLink script honest q) (sym e)
-  front_same o p (changed k e f) = ap (λ q. OnLink script honest q) e ∙ same_without script honest n silent k ∙ sym (ap (λ q. OnLink script honest q) f)
+  front_same o p (changed k e f) = ap (λ q. OnLink script honest q) e ∙ same_without script honest n bare k ∙ sym (ap (λ q. OnLink script honest q) f)
 
   stand_same : (k : Lane) → (ways script honest Y).stands k ≡ (ways script honest X).stands k
   unfolding ways ways_of stands_at
@@ -115,25 +115,32 @@ module _ (script : Script) (honest : ℕ → Bool) (w : World) (a b : ℕ) (head
       go (changed k e f) = let same = some_is k (sym e ∙ r.found) in record {
         before = n ∷ front;
         brings = record { link = in_front n k; found = f; verb = r.verb; rest = r.rest; notes = front_notes n k ∙ ap (λ ms. n ∷ ms) (ap (λ (z : Link). z.notes) same ∙ r.notes) };
-        behind = silent_bare n silent front;
+        behind = bare_delivers n bare front;
       }
 
-  leaves_rests : Rests script honest X Y
-  unfolding leads
-  leaves_rests = record {
+  pub leaves_still : IsStill script honest X Y
+  leaves_still = record {
     told = [];
     lines = ap (λ es. w.history ++ head ++ es) (events_same w.links Bare.links b (λ c d. notes_cut ns a b c d w.links) t.happened) ∙ sym (append-nil (w.history ++ head ++ events_of w.links b t.happened));
     quiet = tt;
-    leading = λ u m. inl refl;
-    references = λ u m c i. (growing_keeps (ways script honest X) (ways script honest Y) leaves (leads script honest X.vats X.links u (Ref m))).1 c i;
-    places = λ k c m x i. (growing_keeps (ways script honest X) (ways script honest Y) leaves (Mid k c m)).1 x i;
-    stands = λ m k c q i. inl (record { behind = i.behind; found = sym (stand_same k) ∙ i.found });
-    holds = λ v p m c q i. record { behind = i.behind; found = sym (stand_same (Held v p)) ∙ i.found };
+    stands = stand_same;
     brought = brought;
   }
 
-  pub silent_small : SmallStep script honest X Y
-  silent_small = resting script honest X Y leaves_rests
+  module _ (silent : IsSilent n) where
+    leaves : Grows (ways script honest X) (ways script honest Y)
+    unfolding ways amid
+    leaves = subst (λ (z : World). Grows (ways script honest (amid b t z)) (ways script honest (amid b t Bare))) kept (same_grow (ways script honest (amid b t (keeping a b n Bare))) (ways script honest (amid b t Bare)) (silent_notes_leave script honest Bare a b n t silent))
+
+    leaves_rests : Rests script honest X Y
+    unfolding leads
+    leaves_rests = rests_by script honest X Y leaves_still
+        (λ u m. inl refl)
+        (λ u m c i. (growing_keeps (ways script honest X) (ways script honest Y) leaves (leads script honest X.vats X.links u (Ref m))).1 c i)
+        (λ k c m x i. (growing_keeps (ways script honest X) (ways script honest Y) leaves (Mid k c m)).1 x i)
+
+    pub silent_small : SmallStep script honest X Y
+    silent_small = resting script honest X Y leaves_rests
 
 pub silent_leaving_is_small : SilentLeavingIsSmall
-silent_leaving_is_small script honest w a b head l n ns at notes silent t = silent_small script honest w a b head l n ns at notes silent t
+silent_leaving_is_small script honest w a b head l n ns at notes silent t = silent_small script honest w a b head l n ns at notes (silent_delivers n silent) t silent

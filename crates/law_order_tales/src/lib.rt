@@ -4,7 +4,7 @@
 ghost use Rattle.law_order_tales.specs.Entries.{KindsAreEnough};
 ghost use Rattle.law_order_tales.specs.Middle.{BeginningIsSmall, EndingIsSmall, GrowingIsSmall, SilentLeavingIsSmall};
 ghost use Rattle.law_order_tales.specs.Resting.{RestingIsSmall};
-ghost use Rattle.law_order_tales.specs.Tales.{AsksAreTales, CutsAreTales};
+ghost use Rattle.law_order_tales.specs.Tales.{CutsAreTales};
 
 /// Where no message moves, no line counts that is told, what is ahead stays ahead, and each reference leads where it led or
 /// nowhere, the step is a small step.
@@ -37,14 +37,6 @@ pub fn ending_is_small()
 /// receiver.
 pub fn silent_leaving_is_small()
     ensures { SilentLeavingIsSmall }
-{}
-
-/// In every run a note that asks for a gift is carried by small steps, where the receiver did not notice the provider, or the
-/// gift stands there already.
-///
-/// No vat of the script may be told twice that it knows a vat, or that it knows itself.
-pub fn asks_are_tales()
-    ensures { AsksAreTales }
 {}
 
 /// Where opening turns, turns that take a message, carries of the first note of a link that is not cut, and notices are made

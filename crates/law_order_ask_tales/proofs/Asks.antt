@@ -1,20 +1,23 @@
--- A note that asks for a gift is carried: by small steps, where the receiver did not notice the provider, or the gift stands there and was opened.
-use Rattle.std.proofs.Common.{◌≡◌, ℕ, Bool, true, false, [], ◌∷◌, ◌++◌, Option, Some, None, if◌then◌else◌, refl, sym, ap, subst, ◌∙◌, ◌⊎◌, inl, inr, length}
-use Rattle.def_machine.specs.Values.{Name, Naming, IsGift}
+-- A note that asks for a gift is carried: by small steps, where the receiver did not notice the provider, where the gift stands there and was opened, and where it comes to be and breaks.
+use Rattle.std.proofs.Common.{◌≡◌, ℕ, Bool, true, false, [], ◌∷◌, ◌++◌, Option, Some, None, if◌then◌else◌, refl, sym, ap, subst, ◌∙◌, ◌⊎◌, inl, inr, length, codes}
+use Rattle.def_machine.specs.Values.{Name, Gift, Naming, IsGift}
 use Rattle.def_machine.specs.State.{Standing, Settled, GiftEntry, Ask, Vat, Done, Gives, Act, ◌>>=◌, ◌>>◌, and_then, give, look, come, new_gift, begun, is_in}
-use Rattle.def_machine.specs.Refs.{standing_of}
+use Rattle.def_machine.specs.Refs.{entry_of, standing_of}
 use Rattle.def_machine.specs.Arrive as arrive
 use Rattle.def_machine.specs.Arrive.{gift_at, opened_in}
 use Rattle.def_run.specs.World.{Script, World, names, readied}
 use Rattle.law_machine.specs.Steps.{After}
 use Rattle.law_fate.proofs.Leads.{Leads, Ends, leads_bind, leads_then, leads_give, leads_look}
 use Rattle.law_order.specs.Steps.{Ready, StaysReady}
+use Rattle.law_order_carries.proofs.Breaking.{breaks}
 use Rattle.law_order_asks.specs.Asks.{Bears}
 use Rattle.law_order_asks.proofs.Asking.{asks, tell_now}
 use Rattle.law_order_history.specs.Tells.{Tale, over, then_on}
 use Rattle.law_order_tales.specs.Middle.{middle, MovesNone}
 use Rattle.law_order_tales.proofs.Arriving.{head_of}
 use Rattle.law_order_tales.proofs.Middle.{growing_is_small}
+use Rattle.law_order_ask_tales.proofs.Breaking.{breaking_small}
+use Rattle.law_order_ask_tales.proofs.Orphans as orphans
 use Rattle.law_order_tales.proofs.Stilling.{Any, base, still_come, still_gift, still_to_tell, still_inform}
 
 if_both : (c : Bool) (m n : Act Name (Unit {0})) (t : Vat Name) → m t ≡ Gives tt t → n t ≡ Gives tt t → (if c then m else n) t ≡ Gives tt t
@@ -123,3 +126,33 @@ module _ (script : Script) (honest : ℕ → Bool) (w : World) (a b p i : ℕ) (
     where
       tells : Tells K0 g.name a S ≡ Gives tt t
       tells = sym (asked_by K0 a p i g.name S S (had_there K0 p i S g found) (inr (ap (λ o. opened_in o) found ∙ e))) ∙ f
+
+  -- the provider was noticed, and the gift comes to be: so it breaks
+  module _ (gone : is_in p S.noticed ≡ true) (none : gift_at p i S.gifts ≡ None) (unknown : entry_of K0 S.known (Gift b i) ≡ None) where
+    abbrev It : Name
+    It = orphans.It script honest w b p i S ready gone none unknown
+
+    abbrev Has : Vat Name
+    Has = orphans.Has script honest w b p i S ready gone none unknown
+
+    abbrev Then : Vat Name
+    Then = orphans.Then script honest w b p i S ready gone none unknown
+
+    -- only the asker is told after that
+    told_then : arrive.have_gift K0 p i S ≡ Gives It Has → arrive.break_orphan K0 p i It Has ≡ Gives tt Then → arrive.arrive_ask K0 a p i S ≡ Tells K0 It a Then
+    unfolding arrive.arrive_ask ◌>>=◌ ◌>>◌ and_then
+    told_then e f = ap (λ d. and_then d (λ m. λ q. and_then (arrive.break_orphan K0 p i m q) (λ x. Tells K0 m a))) e ∙ ap (λ d. and_then d (λ x. Tells K0 It a)) f
+
+    pub came : (k : ℕ) (t : Vat Name) → arrive.arrive_ask K0 a p i S ≡ Gives tt t → Tale script honest (middle w b (head_of script honest w a b (Ask p i n) h k) S) (middle w b (head_of script honest w a b (Ask p i n) h k) t)
+    came k t f =
+        let head = head_of script honest w a b (Ask p i n) h k in
+        let had = orphans.had_new script honest w b p i S ready gone none unknown in
+        let fresh = orphans.fresh script honest w b p i S ready gone none unknown in
+        let alone = orphans.alone script honest w b p i S ready gone none unknown in
+        let grown = orphans.has_new script honest w b p i S ready gone none unknown ready in
+        let tells : Tells K0 It a Then ≡ Gives tt t = sym (told_then had (orphans.orphaned script honest w b p i S ready gone none unknown)) ∙ f in
+        let broken = breaks script honest w b h.vat h.there Has It (codes "partition") fresh alone tt (λ o. o) grown.0 in
+        let told : StaysReady script honest w b Then t = subst (λ d. After (StaysReady script honest w b) Then d) tells ((tell_now script honest w b It a).after Then) in
+        then_on (growing_is_small script honest w b head S Has grown.1 (had_still K0 p i It S Has had))
+        (then_on (breaking_small script honest w b h.vat h.there head Has It (codes "partition") fresh alone tt (λ o. o) grown.0)
+        (then_on (growing_is_small script honest w b head Then t (told broken.0).1 (tells_end K0 It a Then t tells)) over))

@@ -1,0 +1,5 @@
+pub mod Breaking
+pub mod Orphans
+pub mod Asks
+pub mod AskTales
+pub mod Shortens
