@@ -1,0 +1,4 @@
+pub mod Adding
+pub mod Coming
+pub mod Came
+pub mod Runs

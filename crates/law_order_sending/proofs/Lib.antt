@@ -1,0 +1,14 @@
+pub mod Agree
+pub mod Around
+pub mod Begins
+pub mod Came
+pub mod Counting
+pub mod Far
+pub mod Held
+pub mod HeldCame
+pub mod Keeping
+pub mod New
+pub mod Passing
+pub mod Sending
+pub mod There
+pub mod Views

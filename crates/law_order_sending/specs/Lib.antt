@@ -1,0 +1,4 @@
+pub mod Agree
+pub mod Came
+pub mod New
+pub mod Passing
