@@ -1,0 +1,13 @@
+pub mod Reorder
+pub mod Learnt
+pub mod Broken
+pub mod Arrival
+pub mod Forwarded
+pub mod Placed
+pub mod Calm
+pub mod Small
+pub mod NewHere
+pub mod Carry
+pub mod Reaching
+pub mod Rests
+pub mod Runs
