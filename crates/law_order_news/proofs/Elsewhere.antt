@@ -22,11 +22,12 @@ use Rattle.law_local.proofs.Positions.{there_is}
 use Rattle.law_local.proofs.Steps.{put_beside}
 use Rattle.law_steady.proofs.Questions.{stepped_counted}
 use Rattle.law_order.specs.Settle.{IsEnded}
-use Rattle.law_order.specs.Steps.{LeadsAmid}
+use Rattle.law_order.specs.Steps.{LeadsAmid, Grown}
 use Rattle.law_order.specs.Worlds.{IfGives, IsObject, FollowsEnd}
 use Rattle.law_order.specs.Places.{delivered, opened_there, leads, leads_at, amid}
 use Rattle.law_order.proofs.Below.{key_is_new}
 use Rattle.law_order.proofs.News.{came_ends}
+use Rattle.law_order.proofs.Remaining.{kept_grown}
 use Rattle.law_order.proofs.Sends.{some_same}
 use Rattle.law_order_arrivals.specs.Tellings.{IsToldOf, IsTidy, IsNoteFor}
 use Rattle.law_order_arrivals.specs.Notes.{EndsOver}
@@ -45,7 +46,7 @@ use Rattle.law_order_news.proofs.Own.{none_opened, settled_same}
 use Rattle.law_order_news.proofs.Learnt.{Learnt, learns, stands}
 use Rattle.law_order_news.proofs.Seeing.{Saw, views, told, view_ends}
 use Rattle.law_order_news.proofs.Far.{far_ends}
-use Rattle.law_order_news.proofs.Stale.{stale_keeps}
+use Rattle.law_order_news.proofs.Stale.{own_order, asks, stale_grown}
 
 -- ---- the note arrives
 
@@ -137,7 +138,7 @@ module _ (script : Script) (once : KnowsOnce script) (knows : KnowsVats script) 
     unfolding arriving.arrive arriving.arrive_elsewhere arriving.learn_name state.◌>>=◌ state.and_then state.give state.look
     viewed = ap (λ q. (if q then refs.settle K n (Broken (codes "partition")) else arriving.view_there K n c) S) live
 
-    saw : Seen T
+    pub saw : Seen T
     saw = subst (λ d. IfGives Seen d) (sym viewed ∙ sym arrival ∙ came.2) (views script b a c S n L.entry L.found host L.ready.number third)
 
     abbrev Key : ℕ
@@ -152,7 +153,7 @@ module _ (script : Script) (once : KnowsOnce script) (knows : KnowsVats script) 
     not_drawn : WasDrawn x.drawn Key → ⊥
     not_drawn i = teller.true_false (is_in (word_of Key) x.drawn) (among_in (word_of Key) x.drawn i) (ap (λ ds. is_in (word_of Key) ds) (sym L.drawn) ∙ key_is_new a (view_word script b a c n S) S.drawn saw.0)
 
-    new_here : entry_of K S.known Q ≡ None
+    pub new_here : entry_of K S.known Q ≡ None
     new_here = L.new c Key not_drawn
 
     -- ---- the third vat
@@ -178,10 +179,13 @@ module _ (script : Script) (once : KnowsOnce script) (knows : KnowsVats script) 
 
     -- ---- the vat as it asks
 
+    pub asked_grown : Grown script honest x b S A
+    asked_grown = (asks script honest x b a c S n saw.0 L.ready).1
+
     asked_ends : FollowsEnd K (record S { known = S.known ++ begun Q (host_of Q) ∷ [] })
     asked_ends = came_ends script honest x b S Q (λ i. i) L.ready
 
-    asked_tidy : IsTidy script honest x b A
+    pub asked_tidy : IsTidy script honest x b A
     unfolding host_of
     asked_tidy = tidy script once w x es k o e honest b A
         (hosts_came script honest b S Q L.ready.ends (λ i. i) new_here L.hosts)
@@ -190,7 +194,7 @@ module _ (script : Script) (once : KnowsOnce script) (knows : KnowsVats script) 
         (subst (λ ps. AllOf (λ (p : Put Name). IsNoteFor p.to p.note) ((ps ++ record { to = a; note = Shorten n c Key } ∷ []) ++ record { to = c; note = Ask a Key Q } ∷ [])) (sym L.empty) (hosted, (tt, tt)))
 
     module _ (unsettled : L.entry.standing ≡ Unsettled) where
-      seen_told : IsToldOf script b a A (seen_vat script b a c n S) n (Ref Q)
+      pub seen_told : IsToldOf script b a A (seen_vat script b a c n S) n (Ref Q)
       seen_told = record {
         only = told script b a c S n L.entry L.found unsettled new_here;
         own = L.ready.number;
@@ -225,9 +229,15 @@ module _ (script : Script) (once : KnowsOnce script) (knows : KnowsVats script) 
         so = so;
       }
 
+      pub third_own : KeepsOwnOrder script honest x b S T
+      third_own = subst (λ d. IfGives (λ u. KeepsOwnOrder script honest x b S u) d) (sym arrival ∙ came.2) (elsewhere_arrivals_keep script honest x b a c a Was S n L.entry h.borne.there can_view)
+
       pub third_keeps : NewsKeep script honest x y b
-      third_keeps = kept (subst (λ d. IfGives (λ u. KeepsOwnOrder script honest x b S u) d) (sym arrival ∙ came.2) (elsewhere_arrivals_keep script honest x b a c a Was S n L.entry h.borne.there can_view))
+      third_keeps = kept third_own
 
     -- a name that was broken stays so
+    pub third_grown : (p : Words) → L.entry.standing ≡ Settled (Broken p) → Grown script honest x b S T
+    third_grown p broken = subst (λ t. Grown script honest x b S t) (sym saw.1) (stale_grown script honest x b a c S n saw.0 L.entry L.found (Broken p) broken L.ready)
+
     pub third_stale : (p : Words) → L.entry.standing ≡ Settled (Broken p) → NewsKeep script honest x y b
-    third_stale p broken = kept (subst (λ t. KeepsOwnOrder script honest x b S t) (sym saw.1) (stale_keeps script honest x b a c S n L.entry L.found (Broken p) broken saw.0 L.ready))
+    third_stale p broken = kept (own_order script honest x b S T (kept_grown script honest x b S T (third_grown p broken)))

@@ -19,6 +19,7 @@ use Rattle.law_order.specs.Worlds.{FollowsEnd}
 use Rattle.law_order.specs.Settle.{aimed_at, settled_to}
 use Rattle.law_order.specs.Settlings.{with_line}
 use Rattle.law_order_arrivals.specs.Tellings.{IsToldOf, IsTidy, IsNoteFor}
+use Rattle.law_order_arrivals.specs.Notes.{KeepsAll}
 use Rattle.law_order_arrivals.specs.Wholes.{KeepsOwnOrder}
 use Rattle.law_order_arrivals.proofs.TrueNotes.{ended_names_keep}
 use Rattle.law_order_runs.proofs.Truths.{data_self}
@@ -60,7 +61,7 @@ module _ (script : Script) (once : KnowsOnce script) (knows : KnowsVats script) 
       unfolding arriving.arrive arriving.arrive_elsewhere arriving.learn_name state.◌>>=◌ state.and_then state.give state.look
       breaks = ap (λ q. (if q then refs.settle K n Problem else arriving.view_there K n c) S) gone
 
-      ends : refs.settle K n Problem S ≡ state.Gives tt T
+      pub ends : refs.settle K n Problem S ≡ state.Gives tt T
       ends = sym breaks ∙ sym (far.arrival script once knows w x y es k a b c n follow o e f honest h) ∙ (far.came script once knows w x y es k a b c n follow o e f honest h).2
 
       away : host_of n ≡ b → ⊥
@@ -83,7 +84,7 @@ module _ (script : Script) (once : KnowsOnce script) (knows : KnowsVats script) 
         goes : WaitersGo script honest b h.borne.vat n
         goes = h.waiters (ap (λ ws. is_in c ws) (sym L.noticed) ∙ gone)
 
-        told : IsToldOf script b a S Then n Problem
+        pub told : IsToldOf script b a S Then n Problem
         told = record {
           only = told_settled script b S n Problem L.entry L.found unsettled (resting.bare script once w x es k follow o e honest b h.borne.vat h.borne.there n away S L empty Problem tt tt tt T ends).0;
           own = L.ready.number;
@@ -95,16 +96,19 @@ module _ (script : Script) (once : KnowsOnce script) (knows : KnowsVats script) 
           ended = λ d. data_self script b d Then.known Problem tt;
         }
 
-        all_tidy : IsTidy script honest x b S
+        pub all_tidy : IsTidy script honest x b S
         all_tidy = tidy script once w x es k o e honest b S L.hosts L.ready.ends.objects L.own (subst (λ ps. AllOf (λ (p : Put Name). IsNoteFor p.to p.note) ps) (sym L.empty) tt)
 
         nowhere : aimed_at script b Then Problem ≡ Nowhere
         unfolding aimed_at aimed refs.severed refs.place
         nowhere = refl
 
+        pub gone_first : KeepsAll script honest x b S Then
+        gone_first = ended_names_keep script honest x b a h.borne.vat S Then n Problem h.borne.there all_tidy told nowhere
+
         pub gone_keeps : NewsKeep script honest x y b
         gone_keeps = far.kept script once knows w x y es k a b c n follow o e f honest h
-            (resting.settles script once w x es k follow o e honest b h.borne.vat h.borne.there n away S L empty Problem tt tt tt T ends ended goes unsettled (ended_names_keep script honest x b a h.borne.vat S Then n Problem h.borne.there all_tidy told nowhere))
+            (resting.settles script once w x es k follow o e honest b h.borne.vat h.borne.there n away S L empty Problem tt tt tt T ends ended goes unsettled gone_first)
 
       pub gone_so : NewsKeep script honest x y b
       gone_so = go (far.standing script once knows w x y es k a b c n follow o e f honest h)

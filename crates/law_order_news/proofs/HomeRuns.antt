@@ -16,12 +16,12 @@ use Rattle.law_fate.specs.WholeFateRuns.{KnowsVats}
 use Rattle.law_reference.specs.Cuts.{NoticesFollowCuts}
 use Rattle.law_reference.proofs.Puts.{among_in}
 use Rattle.law_local.proofs.Steps.{put_beside}
-use Rattle.law_order.specs.Steps.{LeadsAmid}
+use Rattle.law_order.specs.Steps.{LeadsAmid, Grown}
 use Rattle.law_order.specs.Worlds.{IfGives, FollowsEnd}
 use Rattle.law_order.specs.Places.{opened_there, leads, leads_at, amid}
 use Rattle.law_order.proofs.Below.{key_is_new}
 use Rattle.law_order.proofs.Coming.{old_entry}
-use Rattle.law_order.proofs.News.{came_ends}
+use Rattle.law_order.proofs.News.{came_ends, grown_then}
 use Rattle.law_order.proofs.Remaining.{kept_grown}
 use Rattle.law_order_arrivals.specs.Tellings.{IsToldOf, IsTidy, IsNoteFor}
 use Rattle.law_order_arrivals.specs.Notes.{EndsOver}
@@ -74,7 +74,7 @@ module _ (script : Script) (once : KnowsOnce script) (knows : KnowsVats script) 
   abbrev T : Vat Name
   T = (far.came script once knows w x y es k a b b n follow o e f honest h).0
 
-  host : L.entry.host ≡ a
+  pub host : L.entry.host ≡ a
   host = L.hosts n L.entry L.found ∙ far.hosted script once knows w x y es k a b b n follow o e f honest h
 
   abbrev Key : ℕ
@@ -90,7 +90,7 @@ module _ (script : Script) (once : KnowsOnce script) (knows : KnowsVats script) 
     undrawn : drawn_at zero (view_word script b a b n S) S.drawn ≡ None → WasDrawn x.drawn Key → ⊥
     undrawn fresh i = teller.true_false (is_in (word_of Key) x.drawn) (among_in (word_of Key) x.drawn i) (ap (λ ds. is_in (word_of Key) ds) (sym L.drawn) ∙ key_is_new a (view_word script b a b n S) S.drawn fresh)
 
-    none : drawn_at zero (view_word script b a b n S) S.drawn ≡ None → gift_at a Key S.gifts ≡ None
+    pub none : drawn_at zero (view_word script b a b n S) S.drawn ≡ None → gift_at a Key S.gifts ≡ None
     none fresh = ap (λ gs. gift_at a Key gs) L.gifts ∙ no_gift_at x.vats x.drawn a Key (undrawn fresh) Was.gifts ((names_made script once).1 w x es k o e b Was h.borne.there).gifts
 
     abbrev Seen : Vat Name → Type 0
@@ -100,13 +100,13 @@ module _ (script : Script) (once : KnowsOnce script) (knows : KnowsVats script) 
     unfolding arriving.arrive arriving.arrive_elsewhere arriving.learn_name state.◌>>=◌ state.and_then state.give state.look
     viewed = ap (λ q. (if q then refs.settle K n (Broken (codes "partition")) else arriving.view_there K n b) S) live
 
-    saw : Seen T
+    pub saw : Seen T
     saw = subst (λ d. IfGives Seen d) (sym viewed ∙ sym (far.arrival script once knows w x y es k a b b n follow o e f honest h) ∙ (far.came script once knows w x y es k a b b n follow o e f honest h).2) (home.sees script b a S n L.entry L.found host L.ready.number none)
 
     not_drawn : WasDrawn x.drawn Key → ⊥
     not_drawn = undrawn saw.0
 
-    new_here : entry_of K S.known Q ≡ None
+    pub new_here : entry_of K S.known Q ≡ None
     new_here = L.new b Key not_drawn
 
     shut : opened_there Q S.gifts ≡ false
@@ -115,7 +115,7 @@ module _ (script : Script) (once : KnowsOnce script) (knows : KnowsVats script) 
     asked_ends : FollowsEnd K (record S { known = S.known ++ begun Q (host_of Q) ∷ [] })
     asked_ends = came_ends script honest x b S Q (λ i. i) L.ready
 
-    asked_tidy : IsTidy script honest x b A
+    pub asked_tidy : IsTidy script honest x b A
     unfolding host_of
     asked_tidy = tidy script once w x es k o e honest b A
         (hosts_came script honest b S Q L.ready.ends (λ i. i) new_here L.hosts)
@@ -123,11 +123,17 @@ module _ (script : Script) (once : KnowsOnce script) (knows : KnowsVats script) 
         (own_came script honest b S Q L.ready.ends (λ i. i) new_here L.own)
         (subst (λ ps. AllOf (λ (p : Put Name). IsNoteFor p.to p.note) (ps ++ record { to = a; note = Shorten n b Key } ∷ [])) (sym L.empty) (far.hosted script once knows w x y es k a b b n follow o e f honest h, tt))
 
-    grown : KeepsOwnOrder script honest x b A T → NewsKeep script honest x y b
-    grown g = far.kept script once knows w x y es k a b b n follow o e f honest h (grown_own script honest x b S A T (home.had script honest x b a Was S n h.borne.there saw.0 L.ready L.ready).1 g)
+    pub had_grown : Grown script honest x b S A
+    had_grown = (home.had script honest x b a Was S n h.borne.there saw.0 L.ready L.ready).1
+
+    own_then : KeepsOwnOrder script honest x b A T → KeepsOwnOrder script honest x b S T
+    own_then g = grown_own script honest x b S A T had_grown g
+
+    keeps : KeepsOwnOrder script honest x b S T → NewsKeep script honest x y b
+    keeps g = far.kept script once knows w x y es k a b b n follow o e f honest h g
 
     module _ (unsettled : L.entry.standing ≡ Unsettled) where
-      seen_told : IsToldOf script b a A (home.Saw script b a S n) n (Ref Q)
+      pub seen_told : IsToldOf script b a A (home.Saw script b a S n) n (Ref Q)
       seen_told = record {
         only = home.seen script b a S n L.entry L.found unsettled new_here;
         own = L.ready.number;
@@ -144,13 +150,18 @@ module _ (script : Script) (once : KnowsOnce script) (knows : KnowsVats script) 
       so = let told = far.there_told script once knows w x y es k a b b n follow o e f honest h in let object = far.object script once knows w x y es k a b b n follow o e f honest h in
           subst (EndsOver a b) (sym (ap (λ z. leads_at script honest a z (Ref n)) (put_beside x.vats b a A (λ i. far.other script once knows w x y es k a b b n follow o e f honest h (sym i)) ∙ told.1))) (far_ends script honest a told.0 n object.0 b object.1 object.2 object.3)
 
-      pub home_keeps : NewsKeep script honest x y b
-      home_keeps = grown (subst (λ t. KeepsOwnOrder script honest x b A t) (sym saw.1) (home.seen_keeps script honest x b a Was S n h.borne.there saw.0 L.ready L.entry L.found unsettled
+      pub home_own : KeepsOwnOrder script honest x b S T
+      home_own = own_then (subst (λ t. KeepsOwnOrder script honest x b A t) (sym saw.1) (home.seen_keeps script honest x b a Was S n h.borne.there saw.0 L.ready L.entry L.found unsettled
           (teller.back_open script once w x es k o e a b n (Elsewhere n b) elsewhere h.borne honest h.sender h.receiver) live new_here shut asked_tidy seen_told so))
 
+      pub home_keeps : NewsKeep script honest x y b
+      home_keeps = keeps home_own
+
     -- a name that was broken stays so
-    pub home_stale : (p : Words) → L.entry.standing ≡ Settled (Broken p) → NewsKeep script honest x y b
-    home_stale p broken =
+    pub home_grown : (p : Words) → L.entry.standing ≡ Settled (Broken p) → Grown script honest x b S T
+    home_grown p broken =
         let r = home.had script honest x b a Was S n h.borne.there saw.0 L.ready L.ready in
-        grown (subst (λ t. KeepsOwnOrder script honest x b A t) (sym saw.1)
-        (own_order script honest x b A (home.Saw script b a S n) (kept_grown script honest x b A (home.Saw script b a S n) (stale script honest x b A n Q L.entry (old_entry K S.known (begun Q b) L.entry n L.found) (Broken p) broken r.0).1)))
+        grown_then script honest x b S A T had_grown (subst (λ t. Grown script honest x b A t) (sym saw.1) (stale script honest x b A n Q L.entry (old_entry K S.known (begun Q b) L.entry n L.found) (Broken p) broken r.0).1)
+
+    pub home_stale : (p : Words) → L.entry.standing ≡ Settled (Broken p) → NewsKeep script honest x y b
+    home_stale p broken = keeps (own_order script honest x b S T (kept_grown script honest x b S T (home_grown p broken)))

@@ -1,19 +1,20 @@
-mod Own
-mod Steps
-mod Tidiness
-mod Carried
-mod Learnt
-mod Seeing
-mod Far
-mod Teller
-mod Stale
-mod Elsewhere
-mod Home
-mod HomeRuns
-mod Away
-mod Waiters
-mod Resting
-mod ElsewhereRuns
-mod SettledRuns
-mod Opens
-mod OpenRuns
+pub mod Own
+pub mod Steps
+pub mod Tidiness
+pub mod Carried
+pub mod Learnt
+pub mod Seeing
+pub mod Far
+pub mod Teller
+pub mod Stale
+pub mod Elsewhere
+pub mod Home
+pub mod HomeRuns
+pub mod Away
+pub mod Waiters
+pub mod Resting
+pub mod ElsewhereRuns
+pub mod SettledRuns
+pub mod Opens
+pub mod Opening
+pub mod OpenRuns

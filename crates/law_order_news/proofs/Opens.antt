@@ -4,7 +4,8 @@ use Rattle.std.proofs.lemmas.List.{append-nil}
 use Rattle.def_machine.specs.Values.{Ref, Name, Gift}
 use Rattle.def_machine.specs.State.{Note, Open, Vat, with_opened}
 use Rattle.def_machine.specs.Refs as refs
-use Rattle.def_run.specs.World.{Script, World, names}
+use Rattle.def_run.specs.World as world
+use Rattle.def_run.specs.World.{Script, Link, World, names}
 use Rattle.law_order.specs.Ways.{Lane, Queue, Held, Way, IsOneWay, Place, Free, Mid, Ways}
 use Rattle.law_order.specs.Changes.{Grows}
 use Rattle.law_order.specs.Messages.{More, StaysBehind}
@@ -13,6 +14,7 @@ use Rattle.law_order.specs.Places.{queued, held_in, delivered, gift_place, leads
 use Rattle.law_order.specs.Settle.{led_to, onward_to}
 use Rattle.law_order.specs.Steps.{Grown}
 use Rattle.law_order.specs.Arrivals.{IsOpenWay, IsShut, IsLedTo}
+use Rattle.law_order.proofs.Arrived.{kept_there}
 use Rattle.law_order.proofs.Changes.{growing_keeps}
 use Rattle.law_order.proofs.Messages.{behind_then}
 use Rattle.law_order.proofs.Named.{Test, test_self, test_is}
@@ -21,6 +23,19 @@ use Rattle.law_order.proofs.Standing.{more_then, queue_more, held_more, way_more
 use Rattle.law_order.proofs.Turned.{turning_keeps}
 use Rattle.law_order_asks.specs.Asks.{Bears}
 use Rattle.law_order_asks.proofs.Steps as steps
+
+-- the link is open without the note
+module _ (script : Script) (honest : ℕ → Bool) (x : World) (a b i : ℕ) (n : Name) (h : Bears x a b (Open i n)) where
+  ends_kept : (l : Link) → world.is_link a b (world.with_notes h.rest l) ≡ world.is_link a b l
+  unfolding world.is_link world.with_notes
+  ends_kept l = refl
+
+  cut_kept : (l : Link) → (world.with_notes h.rest l).cut ≡ l.cut
+  unfolding world.with_notes
+  cut_kept l = refl
+
+  pub bare_way : honest a ≡ true → honest b ≡ true → IsOpenWay honest a b (steps.Bare script honest x a b (Open i n) h)
+  bare_way sender receiver = let p = kept_there (world.with_notes h.rest) false a b a b ends_kept cut_kept x.links (h.link, h.found, h.uncut) in record { link = p.0; found = p.1; uncut = p.2; sender = sender; receiver = receiver }
 
 module _ (script : Script) (honest : ℕ → Bool) (x : World) (a b i : ℕ) (n : Name) (h : Bears x a b (Open i n)) (s : Vat Name) where
   abbrev pub G : Name

@@ -24,7 +24,7 @@ use Rattle.law_order_news.proofs.Away.{settling_kept, settles_alone, alone_waite
 use Rattle.law_order_news.proofs.Stale.{own_order}
 use Rattle.law_order_news.proofs.Waiters as waiters
 
-target_same : (K : Naming Name Name) (s : Vat Name) (n : Name) (v : Value Name) → IsNoItems v → refs.target_of K s n v ≡ v
+pub target_same : (K : Naming Name Name) (s : Vat Name) (n : Name) (v : Value Name) → IsNoItems v → refs.target_of K s n v ≡ v
 unfolding refs.target_of
 target_same K s n (Items k) h = absurd h
 target_same K s n other h = refl

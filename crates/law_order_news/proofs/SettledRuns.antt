@@ -2,7 +2,7 @@
 use Rattle.std.proofs.Common.{◌≡◌, ℕ, zero, Bool, true, false, List, [], ◌∷◌, ◌++◌, Some, None, length, refl, sym, ap, subst, ◌∙◌, ◌⊎◌, inl, inr, eqb-true}
 use Rattle.std.specs.Prelude.{◌==◌}
 use Rattle.def_machine.specs.Values.{Words, Value, Broken, Ref, Name, Object, Naming, Own, Foreign, naming, spot_of, host_of}
-use Rattle.def_machine.specs.State.{Known, Note, SettledTo, Plain, Unsettled, Settled, Settles, Put, Vat, Done, Gives, is_in, ◌>>=◌}
+use Rattle.def_machine.specs.State.{Known, Note, SettledTo, Passed, Plain, Unsettled, Settled, Settles, Put, Vat, Done, Gives, is_in, ◌>>=◌}
 use Rattle.def_machine.specs.State as state
 use Rattle.def_machine.specs.Refs as refs
 use Rattle.def_machine.specs.Refs.{entry_of, standing_of, follow_at}
@@ -13,7 +13,7 @@ use Rattle.def_run.specs.World.{Script, Carry, Entry, Event, Link, World, Goes, 
 use Rattle.law_machine.proofs.StepLaws.{settled_entry}
 use Rattle.law_name.specs.Names.{AllOf, names_in}
 use Rattle.law_name.specs.Runs.{KnowsOnce}
-use Rattle.law_fate.specs.Lasting.{Each, KnownWell, NoteWell, NoPromise, SettledWell}
+use Rattle.law_fate.specs.Lasting.{Each, KnownWell, NoteWell, PassedLast, NoPromise, SettledWell}
 use Rattle.law_fate.specs.Wellness.{WorldWell}
 use Rattle.law_fate.proofs.RunWell.{runs_stay_well}
 use Rattle.law_reference.specs.Cuts.{NoticesFollowCuts}
@@ -33,6 +33,7 @@ use Rattle.law_order_arrivals.proofs.TrueNotes.{ended_names_keep, settled_names_
 use Rattle.law_order_runs.proofs.Beginnings.{reached_is, each_all, named_object}
 use Rattle.law_order_runs.proofs.ToldRuns.{NoteTrue}
 use Rattle.law_order_runs.proofs.Truths.{data_self, object_self}
+use Rattle.law_order_asks.specs.Asks.{Bears}
 use Rattle.law_order_asks.proofs.Steps as steps
 use Rattle.law_order_steady.proofs.Facts.{ClearSpot, IsClear}
 use Rattle.law_order_news.specs.News.{NewsKeep, BearsSettled, SettledCarriesKeepInRuns}
@@ -122,6 +123,15 @@ module _ (script : Script) (once : KnowsOnce script) (w x : World) (es : List En
   pub told_leads : leads_in script honest a Sender (Ref n) ≡ End (Queue a) q
   told_leads = near_leads script honest a Sender n q (told.2.1 ∙ ap Settled found.0) found.1 (none_known q object)
 
+-- ---- what a note tells that a name settled to is no promise, and no gift
+
+all_links : (ls : List Link) → Each (λ (l : Link). Each NoteWell l.notes) ls → AllOf (λ (l : Link). AllOf NoteWell l.notes) ls
+all_links [] g = tt
+all_links (l ∷ ls) g = (each_all NoteWell l.notes g.0, all_links ls g.1)
+
+pub told_last : (script : Script) (w x : World) (es : List Entry) (k : ℕ) → open_from script zero script.vats (begins script) ≡ Goes w → steps_from script es k w ≡ Goes x → (a b : ℕ) (n : Name) (y : Passed Name) → Bears x a b (SettledTo n y) → PassedLast y
+told_last script w x es k o e a b n y h = (subst (λ ns. AllOf NoteWell ns) h.first (link_all (λ (l : Link). AllOf NoteWell l.notes) a b x.links h.link (all_links x.links (reached_is WorldWell _ x e ((runs_stay_well script).1 w es k o)).links) h.found)).0
+
 -- ---- values that are no lists
 
 abbrev IsNoRef : Value Name → Type 0
@@ -157,7 +167,7 @@ module _ (script : Script) (once : KnowsOnce script) (w x y : World) (es : List 
   unnoticed : is_in a Was.noticed ≡ false
   unnoticed = teller.unnoticed script once w x es k o e a b n Tells settled h.borne follow
 
-  learnt : (s : Vat Name) × (arriving.learn_name K (world.read_name (names_in Was.known) n) (readied x Was) ≡ Gives n s) × Learnt script x honest b Was n s
+  pub learnt : (s : Vat Name) × (arriving.learn_name K (world.read_name (names_in Was.known) n) (readied x Was) ≡ Gives n s) × Learnt script x honest b Was n s
   learnt = learns script once w x es k o e honest b Was h.borne.there n (teller.made script once w x es k o e a b n Tells settled h.borne) plain
 
   abbrev S : Vat Name
@@ -168,19 +178,15 @@ module _ (script : Script) (once : KnowsOnce script) (w x y : World) (es : List 
 
   -- ---- what it settled to
 
-  lasts : NoPromise v
-  lasts = (subst (λ ns. AllOf NoteWell ns) h.borne.first (link_all (λ (l : Link). AllOf NoteWell l.notes) a b x.links h.borne.link (all_links x.links (reached_is WorldWell _ x e ((runs_stay_well script).1 w es k o)).links) h.borne.found)).0
-    where
-      all_links : (ls : List Link) → Each (λ (l : Link). Each NoteWell l.notes) ls → AllOf (λ (l : Link). AllOf NoteWell l.notes) ls
-      all_links [] g = tt
-      all_links (l ∷ ls) g = (each_all NoteWell l.notes g.0, all_links ls g.1)
+  pub lasts : NoPromise v
+  lasts = told_last script w x es k o e a b n (Plain v) h.borne
 
   there_told : NoteTrue script x.vats a Tells
   there_told = teller.told script once w x es k o e a b n Tells settled h.borne
 
   -- ---- the arrival
 
-  bare : (ns : List (Note Name)) → delivered (Tells ∷ ns) ≡ delivered ns
+  pub bare : (ns : List (Note Name)) → delivered (Tells ∷ ns) ≡ delivered ns
   unfolding delivered
   bare ns = refl
 
@@ -190,7 +196,7 @@ module _ (script : Script) (once : KnowsOnce script) (w x y : World) (es : List 
   abbrev Arrival : Done Name (Unit {0})
   Arrival = steps.Arrival script honest x a b Tells h.borne
 
-  arrival : Arrival ≡ refs.settle K n v S
+  pub arrival : Arrival ≡ refs.settle K n v S
   unfolding arriving.arrive arriving.arrive_settled arriving.learn world.read_note world.read_passed world.plain_read state.◌>>=◌ state.and_then
   arrival = ap (λ d. state.and_then d (λ m. arriving.learn K a (Plain (world.read_value (world.known_after Ns n) v).read) >>= (λ z. refs.settle K m z))) learnt.1
       ∙ ap (λ d. state.and_then d (λ z. refs.settle K n z)) (value_learnt K (world.known_after Ns n) v S lasts)
@@ -201,13 +207,13 @@ module _ (script : Script) (once : KnowsOnce script) (w x y : World) (es : List 
   abbrev T : Vat Name
   T = came.0
 
-  ends : refs.settle K n v S ≡ Gives tt T
+  pub ends : refs.settle K n v S ≡ Gives tt T
   ends = sym arrival ∙ came.2
 
   abbrev Then : Vat Name
   Then = settled_to K (with_line S (Settles n v)) n v
 
-  all_tidy : IsTidy script honest x b S
+  pub all_tidy : IsTidy script honest x b S
   all_tidy = tidy script once w x es k o e honest b S L.hosts L.ready.ends.objects L.own (subst (λ ps. AllOf (λ (p : Put Name). IsNoteFor p.to p.note) ps) (sym L.empty) tt)
 
   -- ---- what it settled to is clear, and the vat is told so
@@ -232,10 +238,10 @@ module _ (script : Script) (once : KnowsOnce script) (w x y : World) (es : List 
   clear_by (Ref q) i = subst (λ s. ClearSpot Was.noticed s) (sym (spot_far script b a q (ref_object q i) (ref_host q i) other)) unnoticed
   clear_by other i = tt
 
-  clear : IsClear K Was.noticed v
+  pub clear : IsClear K Was.noticed v
   clear = clear_by v refl
 
-  empty : (j : Known Name) → entry_of K Was.known n ≡ Some j → (j.held ≡ []) × (j.told ≡ [])
+  pub empty : (j : Known Name) → entry_of K Was.known n ≡ Some j → (j.held ≡ []) × (j.told ≡ [])
   empty j g = teller.empty script once w x es k o e a b n Tells settled h.borne j g
 
   away : host_of n ≡ b → ⊥
@@ -257,7 +263,7 @@ module _ (script : Script) (once : KnowsOnce script) (w x y : World) (es : List 
     ended_by (Ref q) g d = object_self script b d Then.known q (follows.objects q (named_object script b q g))
     ended_by other g d = data_self script b d Then.known other tt
 
-    told : IsToldOf script b a S Then n v
+    pub told : IsToldOf script b a S Then n v
     told = record {
       only = told_settled script b S n v L.entry L.found unsettled (resting.bare script once w x es k follow o e honest b Was h.borne.there n away S L empty v lasts h.single clear T ends).0;
       own = L.ready.number;
@@ -274,7 +280,7 @@ module _ (script : Script) (once : KnowsOnce script) (w x y : World) (es : List 
     nowhere (Ref q) g = absurd g
     nowhere other g = refl
 
-    first_by : (z : Value Name) → v ≡ z → KeepsAll script honest x b S Then
+    pub first_by : (z : Value Name) → v ≡ z → KeepsAll script honest x b S Then
     first_by (Ref q) i = subst (λ u. KeepsAll script honest x b S (settled_to K (with_line S (Settles n u)) n u)) (sym i)
         (settled_names_keep script honest x b a Was S (settled_to K (with_line S (Settles n (Ref q))) n (Ref q)) n q h.borne.there all_tidy
         (subst (λ u. IsToldOf script b a S (settled_to K (with_line S (Settles n u)) n u) n u) i told) h.receiver h.sender (ref_object q i) (ref_host q i) (ref_leads q i))

@@ -4,11 +4,10 @@ use Rattle.def_machine.specs.Values.{Value, Name, Answer, Naming, host_of}
 use Rattle.def_machine.specs.State.{Known, Standing, Settled, Change, Wait, See, Ask, Shorten, Views, Vat, begun, changed, changed_to, unless_settled, drawn_at, with_change}
 use Rattle.def_machine.specs.Refs.{entry_of}
 use Rattle.def_run.specs.World.{Script, World, names}
-use Rattle.law_order.specs.Steps.{Ready, KeepsOrder, StaysReady}
+use Rattle.law_order.specs.Steps.{Ready, Grown, KeepsOrder, StaysReady}
 use Rattle.law_order.proofs.Adds.{adds_nothing, adds_note, change_adds, stays_quiet}
 use Rattle.law_order.proofs.Coming.{old_entry}
 use Rattle.law_order.proofs.News.{asked, stays_then}
-use Rattle.law_order.proofs.Remaining.{kept_grown}
 use Rattle.law_order.proofs.Sends.{some_same}
 use Rattle.law_order_arrivals.specs.Views.{view_word, view_key, view_name, asked_vat, seen_vat}
 use Rattle.law_order_arrivals.specs.Wholes.{KeepsOwnOrder}
@@ -57,11 +56,9 @@ module _ (script : Script) (honest : ℕ → Bool) (w : World) (v : ℕ) (s : Va
   pub stale : StaysReady script honest w v s (Told (with_change J (See g) n s.known))
   stale = subst (λ t. StaysReady script honest w v s t) (sym told_same) waits
 
-module _ (script : Script) (honest : ℕ → Bool) (w : World) (v h c : ℕ) (s : Vat Name) (n : Name) (k : Known Name) (known : entry_of (names script v) s.known n ≡ Some k) (y : Value Name) (settled : k.standing ≡ Settled y)
-    (fresh : drawn_at zero (view_word script v h c n s) s.drawn ≡ None) (ready : Ready script honest w v s) where
-  abbrev K : Naming Name Name
-  K = names script v
+-- ---- a gift is asked for
 
+module _ (script : Script) (honest : ℕ → Bool) (w : World) (v h c : ℕ) (s : Vat Name) (n : Name) (fresh : drawn_at zero (view_word script v h c n s) s.drawn ≡ None) where
   abbrev Word : ℕ
   Word = view_word script v h c n s
 
@@ -84,12 +81,14 @@ module _ (script : Script) (honest : ℕ → Bool) (w : World) (v h c : ℕ) (s 
   unfolding host_of
   comes = come_stays script honest w v First Q (λ i. i) (Answer 0 (record { sender = 0; number = 0 })) (gift_is_new v First 0 (record { sender = 0; number = 0 }) c Key)
 
-  asks : StaysReady script honest w v s A
+  pub asks : StaysReady script honest w v s A
   asks = stays_then script honest w v {s = s} {t = First} {u = A} (asked script honest w v h Word h c n s fresh)
-      (stays_then script honest w v {s = First} {t = Second} {u = A} comes (stays_quiet script honest w v Second A (adds_note K Second (record { to = c; note = Ask h Key Q }) tt, refl, refl, refl)))
+      (stays_then script honest w v {s = First} {t = Second} {u = A} comes (stays_quiet script honest w v Second A (adds_note (names script v) Second (record { to = c; note = Ask h Key Q }) tt, refl, refl, refl)))
 
-  seen : StaysReady script honest w v s (seen_vat script v h c n s)
-  seen = stays_then script honest w v {s = s} {t = A} {u = seen_vat script v h c n s} asks (stale script honest w v A n Q k (old_entry K s.known (begun Q c) k n known) y settled)
+  -- a name that settled stays as it is
+  module _ (k : Known Name) (known : entry_of (names script v) s.known n ≡ Some k) (y : Value Name) (settled : k.standing ≡ Settled y) (ready : Ready script honest w v s) where
+    seen : StaysReady script honest w v s (seen_vat script v h c n s)
+    seen = stays_then script honest w v {s = s} {t = A} {u = seen_vat script v h c n s} asks (stale script honest w v A n Q k (old_entry (names script v) s.known (begun Q c) k n known) y settled)
 
-  pub stale_keeps : KeepsOwnOrder script honest w v s (seen_vat script v h c n s)
-  stale_keeps = own_order script honest w v s (seen_vat script v h c n s) (kept_grown script honest w v s (seen_vat script v h c n s) (seen ready).1)
+    pub stale_grown : Grown script honest w v s (seen_vat script v h c n s)
+    stale_grown = (seen ready).1

@@ -17,7 +17,7 @@ use Rattle.law_reference.proofs.Claims.{Waits}
 use Rattle.law_reference.proofs.Settles.{change_settles}
 use Rattle.law_order.specs.Settle.{settled_to}
 use Rattle.law_order.specs.Settlings.{with_line}
-use Rattle.law_order.specs.Steps.{StaysInOrder}
+use Rattle.law_order.specs.Steps.{Ready, StaysInOrder}
 use Rattle.law_order.specs.Worlds.{IfGives, FollowsEnd}
 use Rattle.law_order.proofs.Entries.{Differs, as_it_was, changes, differs, same_length}
 use Rattle.law_order.proofs.Sends.{entry_changed, if_map, some_same, none_some}
@@ -73,13 +73,16 @@ module _ (script : Script) (once : KnowsOnce script) (w x : World) (es : List En
   in_hand : Steady script x b (λ m. share (owed_at b m) (one n m) + of_all [] m) (λ m. 0) Start
   in_hand = less script x b (of_all []) (λ m. 0) (λ m. share (owed_at b m) (one n m) + of_all [] m) (λ m. 0) (λ m. let z = other_host b m n away in omega arith) (λ m. omega arith) Start starts
 
-  steady_then : Steady script x b (λ m. 2 * asked_at m j + (share (owed_at b m) (waits_at m j) + of_all [] m)) (λ m. onward_all b m j.held + 0) Then
+  pub steady_then : Steady script x b (λ m. 2 * asked_at m j + (share (owed_at b m) (waits_at m j) + of_all [] m)) (λ m. onward_all b m j.held + 0) Then
   unfolding readied
   steady_then = then_steady script x b (of_all []) (λ m. 0) n y last j Start found (subst IsOpen (sym waits) still_open) (subst (Waits K b) (sym waits) tt) in_hand
 
-  -- all is followed to an end then
+  -- the vat is ready then, and follows all to an end
+  pub ready_then : Ready script honest x b Then
+  ready_then = facts.ready script x b honest (λ m. 2 * asked_at m j + (share (owed_at b m) (waits_at m j) + of_all [] m)) (λ m. onward_all b m j.held + 0) Then steady_then
+
   pub follows : FollowsEnd K Then
-  follows = (facts.ready script x b honest (λ m. 2 * asked_at m j + (share (owed_at b m) (waits_at m j) + of_all [] m)) (λ m. onward_all b m j.held + 0) Then steady_then).ends
+  follows = ready_then.ends
 
   -- ---- those that wait for it
 
@@ -94,10 +97,10 @@ module _ (script : Script) (once : KnowsOnce script) (w x : World) (es : List En
       go (as_it_was i) = subst (λ o. IsWaitOf n (refs.standing_in o)) (sym i) h
       go (changes g i a c) = let z = change_settles y g in subst (λ o. IsWaitOf n (refs.standing_in o)) (sym c) (subst (λ t. IsWaitOf n t) (sym z.1) tt)
 
-  asleep : AllOf (λ (q : Name). IsWaitOf n (standing_of K Then.known q)) j.waiting
+  pub asleep : AllOf (λ (q : Name). IsWaitOf n (standing_of K Then.known q)) j.waiting
   asleep = all_by (λ q. IsWaitOf n (standing_of K Then.known q)) j.waiting (λ q i. wait_then q (subst (λ m. IsWaitOf m (standing_of K was.known q)) named ((waiters_wait_in_runs script once).1 w x es k follow o e b was there j q (found_among script b was.known n j found) i)))
 
-  rests : (g : Known Name) × (entry_of K Then.known n ≡ Some g) × (g.standing ≡ Settled y)
+  pub rests : (g : Known Name) × (entry_of K Then.known n ≡ Some g) × (g.standing ≡ Settled y)
   unfolding readied
   rests = (changed (Settle y) j, entry_changed K n (Settle y) was.known j found, settled_now script b (with_line Start (Settles n y)) n y j found (subst settling.IsOpen (sym waits) tt) empty)
 
@@ -106,7 +109,7 @@ module _ (script : Script) (once : KnowsOnce script) (w x : World) (es : List En
   steady_wait = less script x b (λ m. 2 * asked_at m j + (share (owed_at b m) (waits_at m j) + of_all [] m)) (λ m. onward_all b m j.held + 0) (λ m. 2 * total (answers m) [] + (share (owed_at b m) (total (λ (q : Name). one q m) j.waiting) + of_all [] m)) (λ m. 0)
       (λ m. omega arith) (λ m. omega arith) Then steady_then
 
-  few : suc (length Start.known) ≤ suc (suc (length Then.known))
+  pub few : suc (length Start.known) ≤ suc (suc (length Then.known))
   few = let same = same_length script b (Settle y) n Start.known in omega arith
 
   pub settle_in_order : IfGives (λ t. StaysInOrder script honest x b Then t) (each (λ q. refs.settle_at K (suc (length Start.known)) q y) j.waiting Then)

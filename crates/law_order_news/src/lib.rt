@@ -23,12 +23,12 @@ pub fn settled_carries_keep_in_runs()
     ensures { SettledCarriesKeepInRuns }
 {}
 
-/// As an entry carries a note that opens a gift, and the note's name leads at the host to a promise of its own that waits,
-/// what is ahead of a reference or of a message stays ahead of it, and what is doomed stays doomed; and each message stands
-/// where it stood. What waited for the gift goes to the end of what is held for the promise.
+/// As an entry carries a note that opens a gift, and the note's name leads at the host to a name that waits, what is ahead
+/// of a reference or of a message stays ahead of it, and what is doomed stays doomed; and each message stands where it
+/// stood. What waited for the gift goes to where that name leads.
 ///
-/// It is said where the gift stands at its host and was not opened, its host knows the note's name, and the promise does
-/// not wait for the gift. No vat of the script may be told twice that it knows a vat, or that it knows itself.
+/// It is said where the gift stands at its host and was not opened, its host knows the note's name, and the name to which
+/// that leads does not wait for the gift. No vat of the script may be told twice that it knows a vat, or that it knows itself.
 pub fn opened_gifts_wait_in_runs()
     ensures { OpensWaitInRuns }
 {}

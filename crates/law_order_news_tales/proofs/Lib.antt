@@ -1,0 +1,13 @@
+pub mod Turning
+pub mod Moving
+pub mod Viewing
+pub mod Sunk
+pub mod First
+pub mod Parts
+pub mod Breaks
+pub mod Told
+pub mod Elsewhere
+pub mod Settled
+pub mod Opened
+pub mod OpenTales
+pub mod Laws
