@@ -1,0 +1,11 @@
+pub mod Acts
+pub mod ByOpenings
+pub mod ByTurns
+pub mod Counted
+pub mod Course
+pub mod OpenRuns
+pub mod Stays
+pub mod Steps
+pub mod Still
+pub mod TurnRuns
+pub mod Turning

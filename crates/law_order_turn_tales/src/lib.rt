@@ -1,0 +1,2 @@
+//! Turns and opening turns as small steps.
+#![tactic(auto)]

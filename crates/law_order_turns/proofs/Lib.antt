@@ -1,0 +1,7 @@
+pub mod OpenRuns
+pub mod Own
+pub mod Resolvers
+pub mod Same
+pub mod TurnRuns
+pub mod Turning
+pub mod Turns
