@@ -1,0 +1,45 @@
+-- Each kind of entry is made of small steps, so each run is in order.
+use Rattle.std.proofs.Common.{◌≡◌, ℕ, Bool, true, [], ◌∷◌, ◌++◌, sym, subst, ◌∙◌}
+use Rattle.std.proofs.lemmas.List.{append_assoc}
+use Rattle.def_machine.specs.Values.{Name}
+use Rattle.def_machine.specs.State.{Plain, AGift, Many, Note, Deliver, Open, Ask, SettledTo, Elsewhere, Shorten}
+use Rattle.def_run.specs.World.{Script, NoticeLink}
+use Rattle.law_fate.specs.WholeFateRuns.{KnowsVats}
+use Rattle.law_name.specs.Runs.{KnowsOnce}
+use Rattle.law_reference.specs.Cuts.{NoticesFollowCuts}
+use Rattle.law_reference.proofs.AskHolds.{notices_front}
+use Rattle.law_order_history.proofs.Tales.{tales_are_ordered}
+use Rattle.law_order_tales.specs.Entries.{CarriesAreTales, NoticesAreTales, OfScripts}
+use Rattle.law_order_tales.specs.Middle.{DeliversNothing}
+use Rattle.law_order_tales.proofs.Entries.{kinds_are_enough}
+use Rattle.law_order_notice_tales.proofs.Small.{notice_tales}
+use Rattle.law_order_ask_tales.proofs.AskTales.{asks_are_tales}
+use Rattle.law_order_ask_tales.proofs.Shortens.{shortens_are_tales}
+use Rattle.law_order_message_tales.proofs.Runs.{carries_of_messages_are_tales}
+use Rattle.law_order_news_tales.proofs.Laws.{elsewhere_are_tales, gifts_are_tales}
+use Rattle.law_ordered.specs.Ordered.{LeftAreTales, LeftAreEnough}
+
+notices_are_tales : OfScripts NoticesAreTales
+notices_are_tales script once vats cuts honest all x y v u g =
+    let follow : NoticesFollowCuts (g.es ++ NoticeLink v u ∷ []) = notices_front script [] (g.es ++ NoticeLink v u ∷ []) g.rest (subst NoticesFollowCuts (g.split ∙ sym (append_assoc g.es (NoticeLink v u ∷ []) g.rest)) cuts) in
+    notice_tales script once g.opened x y g.es 1 v u follow g.opens g.before g.after honest (all v) (all u)
+
+module _ (script : Script) (once : KnowsOnce script) (vats : KnowsVats script) (cuts : NoticesFollowCuts script.schedule) (honest : ℕ → Bool) (all : (v : ℕ) → honest v ≡ true) (left : LeftAreTales script honest) where
+  carries : (n : Note Name) → DeliversNothing n → CarriesAreTales script honest n
+  carries (Deliver d n verb ys) silent = absurd silent
+  carries (Open i n) silent = left.opens i n
+  carries (Ask p i n) silent = asks_are_tales script once vats cuts honest all p i n
+  carries (SettledTo n (Plain v)) silent = left.settled n v
+  carries (SettledTo n (AGift h i)) silent = gifts_are_tales script honest n h i
+  carries (SettledTo n (Many ys)) silent = left.lists n ys
+  carries (Elsewhere n c) silent = elsewhere_are_tales script once vats cuts honest all n c
+  carries (Shorten n c i) silent = shortens_are_tales script once vats cuts honest all n c i
+
+pub left_are_enough : LeftAreEnough
+left_are_enough script once vats cuts honest all left = tales_are_ordered script honest (kinds_are_enough script honest (record {
+  opening = left.openings;
+  turns = left.turns;
+  messages = carries_of_messages_are_tales script once vats cuts honest all;
+  carries = carries script once vats cuts honest all left;
+  notices = notices_are_tales script once vats cuts honest all;
+}))
