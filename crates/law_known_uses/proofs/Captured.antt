@@ -6,7 +6,7 @@ use Rattle.ev_base.specs.declared.names.Name.TheVariants as name
 use Rattle.def_event.specs.declared.shown.Shown.{Shown, Name as Named}
 use Rattle.def_event.specs.declared.event.Event.{Event as ShownEvent}
 use Rattle.def_event.specs.declared.event.Event.TheVariants as event
-use Rattle.def_machine.specs.Values.{Words, Value, Name, Object, Promise, Spot, Own, Foreign, naming, spot_of}
+use Rattle.def_machine.specs.Values.{Words, Value, Name, Object, Spot, Own, Foreign, naming, spot_of}
 use Rattle.def_machine.specs.State.{Bound, Message, Happened, ObjectMade, Sends, Reacts, Posted}
 use Rattle.def_run.specs.World as world
 use Rattle.def_run.specs.World.{Script, Event, Here, names, events_of}

@@ -71,8 +71,8 @@ module _ (draws : List ℕ) (script : Script) where
 
   shut_on : (w x : World) → IsShut w → Leads script w x → IsShut x
   unfolding events_of readied
-  shut_on w x h (quiet es none few more) v a = ap (λ es. calls draws v a (lines draws es)) more ∙ nobodys_calls draws v a w.history es none ∙ h v a
-  shut_on w x h (steps u s t ms head step ls at taken none d new there more) v a = ap (λ es. calls draws v a (lines draws es)) more ∙ either (u == v) refl
+  shut_on w x h (quiet es none few vats more) v a = ap (λ es. calls draws v a (lines draws es)) more ∙ nobodys_calls draws v a w.history es none ∙ h v a
+  shut_on w x h (steps u s t ms head step ls at taken none d new vats more) v a = ap (λ es. calls draws v a (lines draws es)) more ∙ either (u == v) refl
     where
       placed : (so rest : List (Happened Name)) → t.happened ≡ so ++ rest → place_of (At draws ls u (w.history ++ head) so) ≡ u + 1
       placed so rest q = step_placed w u s ms head step taken ls t.happened so rest q

@@ -11,6 +11,7 @@ use Rattle.law_fate.specs.FateRuns.{Reached}
 use Rattle.law_fate.specs.Fate.{total}
 use Rattle.law_fate.proofs.RunCounts.{pick, total_append}
 use Rattle.law_fate.proofs.RunFates.{none_vats, none_links}
+use Rattle.law_name.proofs.Among.{get_put}
 use Rattle.law_connected.specs.Known.{IsAmong}
 use Rattle.law_connected.specs.Begotten.{IsTaken, IsReached, start, opened, entered, LineOf, InEachRun}
 use Rattle.law_connected.proofs.Knowing.{among_mid}
@@ -165,8 +166,8 @@ module _ (script : Script) where
   no_line (y ∷ h) k x q = cc
 
   lined_on : (w x : World) → Came w → Lined w → IsPassed script x → Leads script w x → Lined x
-  lined_on w x a lines r (quiet es none few more) = quiet_lined w x es lines none more
-  lined_on w x a lines r (steps u s t ms head step links at taken none d new there more) = step_lined w x a lines r u s t ms head step links at taken none d new there more
+  lined_on w x a lines r (quiet es none few vats more) = quiet_lined w x es lines none more
+  lined_on w x a lines r (steps u s t ms head step links at taken none d new vats more) = step_lined w x a lines r u s t ms head step links at taken none d new (subst (λ us. slice_get us u ≡ Some t) (sym vats) (get_put w.vats u s t at)) more
 
   pub came_lined : (w : World) → Came w → Lined w
   unfolding begins
@@ -178,13 +179,13 @@ module _ (script : Script) where
   goes_is : (x y : World) → Goes x ≡ Goes y → x ≡ y
   goes_is x y e = cc
 
-  -- a world that the run came to, with lines of no vat behind, which carry nothing
+  -- a world that the run came to, with lines of no vat behind, which carry nothing, and the same vats
   abbrev pub Ended : World → Type 0
-  Ended x = (w : World) × (es : List Event) × Came w × IsNobodys es × (x.history ≡ w.history ++ es) × (total is_carry es ≡ 0)
+  Ended x = (w : World) × (es : List Event) × Came w × IsNobodys es × (x.history ≡ w.history ++ es) × (total is_carry es ≡ 0) × (x.vats ≡ w.vats)
 
-  stopped_at : (w x : World) → Came w → x.history ≡ w.history → Ended x
+  stopped_at : (w x : World) → Came w → (x.history ≡ w.history) × (x.vats ≡ w.vats) → Ended x
   unfolding total
-  stopped_at w x c e = (w, [], c, λ u f i. i, e ∙ sym (append-nil w.history), refl)
+  stopped_at w x c e = (w, [], c, λ u f i. i, e.0 ∙ sym (append-nil w.history), refl, e.1)
 
   then_is : (r : Run) (f : World → Run) (x y : World) → r ≡ Goes x → f x ≡ Goes y → world.then_goes r f ≡ Goes y
   unfolding world.then_goes
@@ -300,7 +301,7 @@ module _ (script : Script) where
   close_came w a = let vats : List Event = world.left_vats script w.vats in let links : List Event = world.left_links script w.links in
       let none : IsNobodys (vats ++ (links ++ IsEnd ∷ [])) = nobodys_join vats (links ++ IsEnd ∷ []) (vats_nobodys script w.vats) (nobodys_join links (IsEnd ∷ []) (links_nobodys script w.links) (one_line IsEnd (λ u e i. cc))) in
       let more : ((w.history ++ vats) ++ links) ++ IsEnd ∷ [] ≡ w.history ++ (vats ++ (links ++ IsEnd ∷ [])) = append_assoc (w.history ++ vats) links (IsEnd ∷ []) ∙ append_assoc w.history vats (links ++ IsEnd ∷ []) in
-      let ended : Ended (record w { history = ((w.history ++ vats) ++ links) ++ IsEnd ∷ [] }) = (w, vats ++ (links ++ IsEnd ∷ []), a, none, more, close_carries w) in ended
+      let ended : Ended (record w { history = ((w.history ++ vats) ++ links) ++ IsEnd ∷ [] }) = (w, vats ++ (links ++ IsEnd ∷ []), a, none, more, close_carries w, refl) in ended
 
   -- in a whole run, also in one that stopped
   pub run_ended : Reached Ended (world.run script)
@@ -327,7 +328,7 @@ module _ (script : Script) where
   last_world = by (world.run script) run_ended
     where
       has : (x : World) → Ended x → (w : World) × IsPassed script w × ((v : ℕ) (e : Happened Name) → IsAmong (Here v e) x.history → IsAmong (Here v e) w.history)
-      has x (w, es, c, none, q, few) = (w, is_run w c, λ v e i. own v e (among_either (Here v e) w.history es (subst (λ zs. IsAmong (Here v e) zs) q i)))
+      has x (w, es, c, none, q, few, vats) = (w, is_run w c, λ v e i. own v e (among_either (Here v e) w.history es (subst (λ zs. IsAmong (Here v e) zs) q i)))
         where
           own : (v : ℕ) (e : Happened Name) → IsAmong (Here v e) w.history ⊎ IsAmong (Here v e) es → IsAmong (Here v e) w.history
           own v e (inl i) = i

@@ -1,5 +1,5 @@
 -- What an opening turn and an entry make of a world: lines of no vat that carry nothing, or the lines of one step of one vat, behind the line that tells which step it is.
-use Rattle.std.proofs.Common.{◌≡◌, ℕ, zero, suc, Bool, true, false, List, [], ◌∷◌, ◌++◌, Option, Some, None, refl, ◌⊎◌, inl, inr, subst, ap, sym}
+use Rattle.std.proofs.Common.{◌≡◌, ℕ, zero, Bool, true, false, List, [], ◌∷◌, ◌++◌, Option, Some, None, refl, ◌⊎◌, inl, inr, subst, ap, sym}
 use Rattle.std.specs.Prelude.{slice_get}
 use Rattle.def_machine.specs.Values.{Name, Root}
 use Rattle.def_machine.specs.State.{Message, Note, Vat, Done, Gives, Act}
@@ -16,13 +16,6 @@ use Rattle.law_connected.proofs.Events.{IsNobodys, nobodys_join, lost_on_nobodys
 use Rattle.law_connected.proofs.RunStems.{one_line}
 use Rattle.law_uses.proofs.Kept.{is_carry, put_either}
 
--- a vat that is there is there as it was put
-put_there : {A : Type 0} (v : ℕ) (t : A) (xs : List A) (s : A) → slice_get xs v ≡ Some s → slice_get (world.put_at v t xs) v ≡ Some t
-unfolding world.put_at
-put_there v t [] s e = cc
-put_there zero t (x ∷ xs) s e = refl
-put_there (suc v) t (x ∷ xs) s e = put_there v t xs s e
-
 -- an opening turn is the first that its vat takes
 abbrev pub FirstIs : Step Name Name → Vat Name → Type 0
 FirstIs (Starts tree depth root given) s = s.activations ≡ zero
@@ -30,14 +23,14 @@ FirstIs _ s = Unit {0}
 
 module _ (script : Script) (w : World) where
   pub data Leads (x : World) : Type 0 where
-    quiet : (es : List Event) → IsNobodys es → total is_carry es ≡ 0 → x.history ≡ w.history ++ es → Leads x
+    quiet : (es : List Event) → IsNobodys es → total is_carry es ≡ 0 → x.vats ≡ w.vats → x.history ≡ w.history ++ es → Leads x
     steps : (v : ℕ) (s t : Vat Name) (ms : List (Message Name)) (head : List Event) (step : Step Name Name) (links : List Link) → slice_get w.vats v ≡ Some s → IsTaken script w v s ms head step → IsNobodys head
-        → does (names script v) step (world.readied w (record s { queue = ms })) ≡ Gives tt t → FirstIs step s → slice_get x.vats v ≡ Some t → x.history ≡ w.history ++ head ++ events_of links v t.happened → Leads x
+        → does (names script v) step (world.readied w (record s { queue = ms })) ≡ Gives tt t → FirstIs step s → x.vats ≡ world.put_at v t w.vats → x.history ≡ w.history ++ head ++ events_of links v t.happened → Leads x
 
-  -- a world to which it goes, or which has no more lines where it stops
+  -- a world to which it goes, or which has no more lines and the same vats where it stops
   abbrev pub Comes : Run → Type 0
   Comes (Goes x) = Leads x
-  Comes (Stopped c k x) = x.history ≡ w.history
+  Comes (Stopped c k x) = (x.history ≡ w.history) × (x.vats ≡ w.vats)
 
   -- the world, with a note off its link
   abbrev With : List Link → World
@@ -45,13 +38,13 @@ module _ (script : Script) (w : World) where
 
   idle_comes : (k : ℕ) (ls : List Link) → Comes (world.idle script k (With ls))
   unfolding world.idle total is_carry
-  idle_comes k ls = quiet (Idle k ∷ []) (one_line (Idle k) (λ u f e. cc)) refl refl
+  idle_comes k ls = quiet (Idle k ∷ []) (one_line (Idle k) (λ u f e. cc)) refl refl refl
 
   back_comes : (v : ℕ) (ls : List Link) (head : List Event) (n : ℕ) (s : Vat Name) (ms : List (Message Name)) (step : Step Name Name) → FirstIs step s → slice_get w.vats v ≡ Some s → IsTaken script w v s ms head step → IsNobodys head
       → (d : Done Name (Unit {0})) → does (names script v) step (world.readied w (record s { queue = ms })) ≡ d → Comes (world.put_back v (With ls) head n d)
   unfolding world.put_back
-  back_comes v ls head n s ms step new at taken none (Gives u t) e = steps v s t ms head step ls at taken none e new (put_there v t w.vats s at) refl
-  back_comes v ls head n s ms step new at taken none other e = refl
+  back_comes v ls head n s ms step new at taken none (Gives u t) e = steps v s t ms head step ls at taken none e new refl refl
+  back_comes v ls head n s ms step new at taken none other e = (refl, refl)
 
   within_comes : (v : ℕ) (ls : List Link) (head : List Event) (n : ℕ) (s : Vat Name) (ms : List (Message Name)) (step : Step Name Name) → FirstIs step s → slice_get w.vats v ≡ Some s → IsTaken script w v s ms head step → IsNobodys head
       → Comes (world.within v (With ls) head n (does (names script v) step) (Some (record s { queue = ms })))
@@ -93,11 +86,11 @@ module _ (script : Script) (w : World) where
   unfolding world.cut is_carry
   cut_comes k v to = let one : List Event = world.lost_on script (world.link_at v to w.links) in let other : List Event = world.lost_on script (world.link_at to v w.links) in
       quiet (CutAt k v to ∷ (one ++ other)) (nobodys_join (CutAt k v to ∷ []) (one ++ other) (one_line (CutAt k v to) (λ u f e. cc))
-      (nobodys_join one other (lost_on_nobodys script (world.link_at v to w.links)) (lost_on_nobodys script (world.link_at to v w.links)))) (no_cut_line (Root 0) script v to k w.links is_carry refl (λ m. refl)) refl
+      (nobodys_join one other (lost_on_nobodys script (world.link_at v to w.links)) (lost_on_nobodys script (world.link_at to v w.links)))) (no_cut_line (Root 0) script v to k w.links is_carry refl (λ m. refl)) refl refl
 
   notice_comes : (k v to : ℕ) (o : Option (Vat Name)) → slice_get w.vats v ≡ o → Comes (world.within v w (NoticedAt k v to ∷ []) (world.step_number script k) (notice (names script v) to) o)
   unfolding does world.within
-  notice_comes k v to None at = refl
+  notice_comes k v to None at = (refl, refl)
   notice_comes k v to (Some s) at = within_comes v w.links (NoticedAt k v to ∷ []) (world.step_number script k) s s.queue (Notices to) tt at (k, refl, refl) (one_line (NoticedAt k v to) (λ u f e. cc))
 
   -- an entry of a schedule
@@ -117,7 +110,7 @@ module _ (script : Script) (w : World) where
   open_comes : (v : ℕ) (p : Program) → slice_get script.vats v ≡ Some p → ((s : Vat Name) → slice_get w.vats v ≡ Some s → s.activations ≡ zero) → (o : Option (Vat Name)) → slice_get w.vats v ≡ o
       → Comes (world.within v w (Opens v ∷ []) v (opening (names script v) p.tree script.depth (Root v) (world.given script.vats p.knows)) o)
   unfolding does world.within
-  open_comes v p there new None at = refl
+  open_comes v p there new None at = (refl, refl)
   open_comes v p there new (Some s) at = within_comes v w.links (Opens v ∷ []) v s s.queue (Starts p.tree script.depth (Root v) (world.given script.vats p.knows)) (new s at) at
       (p, refl, there, refl, refl, refl, refl, roots_given script.vats p.knows) (one_line (Opens v) (λ u f e. cc))
 

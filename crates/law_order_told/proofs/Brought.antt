@@ -97,8 +97,8 @@ module _ (script : Script) where
   head_brings w c a s ms head (Notices b) t g k j u v n bytes q = let o = one_is (world.NoticedAt t.0 a b) (Carried j u v n bytes) g k (sym t.1 ∙ q) in absurd (let e = o.1 in cc)
 
   brought_on : (w x : World) → Came script w → Brought w → Leads script w x → Brought x
-  brought_on w x c lines (quiet es none few more) h k j u v n bytes q = quiet_brought w x es lines few more h k j u v n bytes q
-  brought_on w x c lines (steps a s t ms head step links at taken none d new there more) h k j u v n bytes q = either (parted (w.history ++ head) (events_of links a t.happened) h (Carried j u v n bytes) k (sym more ∙ q))
+  brought_on w x c lines (quiet es none few vats more) h k j u v n bytes q = quiet_brought w x es lines few more h k j u v n bytes q
+  brought_on w x c lines (steps a s t ms head step links at taken none d new vats more) h k j u v n bytes q = either (parted (w.history ++ head) (events_of links a t.happened) h (Carried j u v n bytes) k (sym more ∙ q))
     where
       front : (m : List Event) → Parted w.history head h (Carried j u v n bytes) m → Brings u v n h
       front m (inl p) = lines h p.0 j u v n bytes p.1
@@ -127,16 +127,16 @@ module _ (script : Script) where
 
   -- ---- what is carried was sent before
 
-  abbrev SentIn : List Event → Name → Type 0
+  abbrev pub SentIn : List Event → Name → Type 0
   SentIn es x = (j v act : ℕ) × (m : Message Name) × (slice_get es j ≡ Some (Here v (Sends act m))) × (m.id ≡ x)
 
-  get_among : (e : Event) (es : List Event) → IsAmong e es → (j : ℕ) × (slice_get es j ≡ Some e)
+  pub get_among : (e : Event) (es : List Event) → IsAmong e es → (j : ℕ) × (slice_get es j ≡ Some e)
   get_among e [] i = absurd i
   get_among e (x ∷ es) (inl q) = (zero, ap Some (sym q))
   get_among e (x ∷ es) (inr i) = let r = get_among e es i in (suc r.0, r.1)
 
   -- what stems from a send was sent
-  stems_sent : (w : World) (v : ℕ) (m : Message Name) → Stems w v m → SentIn w.history m.id
+  pub stems_sent : (w : World) (v : ℕ) (m : Message Name) → Stems w v m → SentIn w.history m.id
   stems_sent w v m (sent a x i l) = let r = get_among (Here v (Sends a (record m { target = x }))) w.history i in (r.0, v, a, record m { target = x }, r.1, refl)
   stems_sent w v m (carried u n z ys has before same verb to from pass come) = let r = stems_sent w u n before in (r.0, r.1, r.2, r.3, r.4, r.5 ∙ same)
 

@@ -5,9 +5,10 @@ use Rattle.law_order_shown.proofs.Whole.{shown_in_order}
 use Rattle.law_order_told.specs.Told.{WhatIsCarriedWasSent, RunsAreShownInOrder}
 use Rattle.law_order_told.proofs.Placed.{in_place}
 use Rattle.law_order_told.proofs.Brought.{carries_were_sent}
+use Rattle.law_order_told.proofs.Apart.{messages_named, names_apart}
 
 pub carried_was_sent : WhatIsCarriedWasSent
 carried_was_sent script = carries_were_sent script
 
 pub shown_runs : RunsAreShownInOrder
-shown_runs script apart ordered = shown_in_order (draws_of (run script)) (history_of (run script)) (in_place script (draws_of (run script))) apart.messages (carries_were_sent script) apart.apart ordered
+shown_runs script once follow ordered = shown_in_order (draws_of (run script)) (history_of (run script)) (in_place script (draws_of (run script))) (messages_named script once) (carries_were_sent script) (names_apart script once follow) ordered

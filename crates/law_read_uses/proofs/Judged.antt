@@ -37,10 +37,10 @@ text_or : (bytes : List ℕ) (is : Bool) (t : Trace) → (rule 41 (if is then So
 text_or bytes true t e = e
 text_or bytes false t e = cc
 
-text_read : (bytes : List ℕ) (t : Trace) → read bytes ≡ Ok t → read_text bytes ≡ Ok t
+pub text_read : (bytes : List ℕ) (t : Trace) → read bytes ≡ Ok t → read_text bytes ≡ Ok t
 text_read bytes t e = text_or bytes (is_utf8 bytes) t e
 
-same_trace : (r : Result Trace ℕ) (t u : Trace) → r ≡ Ok t → r ≡ Ok u → t ≡ u
+pub same_trace : (r : Result Trace ℕ) (t u : Trace) → r ≡ Ok t → r ≡ Ok u → t ≡ u
 same_trace r t u e f = cc
 
 -- It is said of events that end with any line: so they may be taken as those of a run that stopped, which asks nothing of the last event.
