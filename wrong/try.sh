@@ -11,7 +11,7 @@ git clone -q "$here" "$copy/tree"
 git -C "$copy/tree" apply "$patch"
 cd "$copy/tree"
 rt ci "${law%%::*}" > "$copy/log" 2>&1 || true
-if grep -q "^fn $law: not proved" "$copy/log"; then
+if grep -Eq "^fn $law: (not proved|no proof)" "$copy/log"; then
     echo "$1: refused by $law"
 else
     tail -n 20 "$copy/log"
