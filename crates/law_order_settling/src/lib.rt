@@ -1,2 +1,2 @@
-//! A settling in the middle of a step is made of small steps of the order of a run.
+//! A settling in the middle of a step as small steps of the order of a run, over what goes out to other vats.
 #![tactic(auto)]

@@ -1,2 +1,2 @@
-//! Turns and opening turns as small steps.
+//! Turns and opening turns as small steps, over what is to be shown of their sends and settlings.
 #![tactic(auto)]

@@ -1,4 +1,4 @@
--- In each run messages are taken in the order in which they were sent.
+-- What is left to show that in each run messages are taken in the order in which they were sent.
 use Rattle.std.specs.Prelude.{ℕ, Bool}
 use Rattle.def_machine.specs.Values.{Value, Name}
 use Rattle.def_machine.specs.State.{Passeds, Plain, Many, Open, SettledTo}

@@ -1,4 +1,4 @@
-//! In each run messages are taken in the order in which they were sent.
+//! What is left to show that in each run messages are taken in the order in which they were sent.
 #![tactic(auto)]
 
 ghost use Rattle.law_ordered.specs.Ordered.{LeftAreEnough};
