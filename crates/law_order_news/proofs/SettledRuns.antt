@@ -224,10 +224,10 @@ module _ (script : Script) (once : KnowsOnce script) (w x y : World) (es : List 
   ref_told : (q : Name) → v ≡ Ref q → ToldRef q
   ref_told q i = subst (λ z. NoteTrue script x.vats a (SettledTo n (Plain z))) i there_told
 
-  ref_object : (q : Name) → v ≡ Ref q → IsObject q
+  pub ref_object : (q : Name) → v ≡ Ref q → IsObject q
   ref_object q i = named_object script a q (subst NoPromise i lasts)
 
-  ref_host : (q : Name) → v ≡ Ref q → host_of q ≡ a
+  pub ref_host : (q : Name) → v ≡ Ref q → host_of q ≡ a
   ref_host q i = told_host script once w x es k o e honest a n q (ref_told q i) (ref_object q i)
 
   ref_leads : (q : Name) → v ≡ Ref q → LeadsAmid script honest x b S a (Ref n) ≡ End (Queue a) q

@@ -104,7 +104,7 @@ module _ (script : Script) (once : KnowsOnce script) (w x : World) (es : List En
   unfolding readied
   rests = (changed (Settle y) j, entry_changed K n (Settle y) was.known j found, settled_now script b (with_line Start (Settles n y)) n y j found (subst settling.IsOpen (sym waits) tt) empty)
 
-  steady_wait : Steady script x b (λ m. 2 * total (answers m) [] + (share (owed_at b m) (total (λ (q : Name). one q m) j.waiting) + of_all [] m)) (λ m. 0) Then
+  pub steady_wait : Steady script x b (λ m. 2 * total (answers m) [] + (share (owed_at b m) (total (λ (q : Name). one q m) j.waiting) + of_all [] m)) (λ m. 0) Then
   unfolding total waits_at
   steady_wait = less script x b (λ m. 2 * asked_at m j + (share (owed_at b m) (waits_at m j) + of_all [] m)) (λ m. onward_all b m j.held + 0) (λ m. 2 * total (answers m) [] + (share (owed_at b m) (total (λ (q : Name). one q m) j.waiting) + of_all [] m)) (λ m. 0)
       (λ m. omega arith) (λ m. omega arith) Then steady_then

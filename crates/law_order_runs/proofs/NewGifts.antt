@@ -116,11 +116,11 @@ module _ (P : ℕ → ℕ) (d : List ℕ) (a v : ℕ) where
 
 module _ (script : Script) (knows : KnowsOnce script) (w x : World) (es : List Entry) (k : ℕ) (o : open_from script zero script.vats (begins script) ≡ Goes w) (e : steps_from script es k w ≡ Goes x)
     (a b : ℕ) (l : Link) (s : Vat Name) (found : link_at a b x.links ≡ Some l) (there : slice_get x.vats b ≡ Some s) (n : Note Name) (rest : List (Note Name)) (first : l.notes ≡ n ∷ rest) where
-  providers : HasProviders x
+  pub providers : HasProviders x
   providers = reached_is HasProviders _ x e ((one_provider script).1 w es k o)
 
   -- who provides the gifts in it
-  from : Provides providers.0 x.drawn a b n
+  pub from : Provides providers.0 x.drawn a b n
   from = (subst (λ ns. Each (Provides providers.0 x.drawn a b) ns) first (found_tells providers.0 x.drawn a b l x.links providers.1 found)).0
 
   first_part : (i : ℕ) → gifts_in_note i n ≤ gifts_under_way i x.links
@@ -138,15 +138,15 @@ module _ (script : Script) (knows : KnowsOnce script) (w x : World) (es : List E
   abbrev Passing : World → Type 0
   Passing y = ((i : ℕ) → (gifts_put i y.links ≤ drawn_of i y.drawn) × (gifts_under_way i y.links ≤ drawn_of i y.drawn)) × ((i j : ℕ) → 1 ≤ gifts_put i y.links → 1 ≤ gifts_put j y.links → word_of i ≡ word_of j → i ≡ j)
 
-  few : (i : ℕ) → gifts_in_note i n ≤ 1
+  pub few : (i : ℕ) → gifts_in_note i n ≤ 1
   few i =
       let passing : Passing x = reached_is Passing _ x e ((gifts_pass_once script).1 w es k o) in
       let most = (passing.0 i).1 in let part = first_part i in let one = drawn_once i in omega arith
 
-  unknown : (h i : ℕ) → (h ≡ b → ⊥) → 1 ≤ gifts_in_note i n → IsAmong (Gift h i) (names_in s.known) → ⊥
+  pub unknown : (h i : ℕ) → (h ≡ b → ⊥) → 1 ≤ gifts_in_note i n → IsAmong (Gift h i) (names_in s.known) → ⊥
   unknown h i f m c = f ((known_alone script knows).1 w x es k o e h i b s (let part = first_part i in omega arith) there c)
 
-  spared : (i : ℕ) → 1 ≤ gifts_in_note i n → NoteOk (Spares i) n
+  pub spared : (i : ℕ) → 1 ≤ gifts_in_note i n → NoteOk (Spares i) n
   spared i m =
       let hidden = ((gifts_hidden script knows).1 w x es k o e i (let part = first_part i in omega arith)).1 in
       (subst (λ ns. AllOf (NoteOk (Spares i)) ns) first (link_all (λ (j : Link). AllOf (NoteOk (Spares i)) j.notes) a b x.links l hidden found)).0

@@ -1,14 +1,14 @@
 -- Acts of a vat in the middle of a step, as tales: lines, reactions that are queued, others that are told.
-use Rattle.std.proofs.Common.{◌≡◌, ℕ, Bool, true, false, List, [], ◌∷◌, ◌++◌, Some, refl, sym, ap, subst, ◌∙◌, ◌⊎◌, inl, inr, append_assoc, if◌then◌else◌}
+use Rattle.std.proofs.Common.{◌≡◌, ℕ, Bool, true, false, List, [], ◌∷◌, ◌++◌, Some, refl, sym, ap, ◌∙◌, ◌⊎◌, inl, inr, append_assoc}
 use Rattle.std.proofs.lemmas.List.{append-nil}
 use Rattle.std.specs.Prelude.{slice_get}
 use Rattle.def_machine.specs.Values.{Value, Items, Ref, Name, Naming}
-use Rattle.def_machine.specs.State.{Message, Note, SettledTo, Elsewhere, Happened, Vat, Done, Gives, Act, ◌>>=◌, look, give, send_out, is_in}
+use Rattle.def_machine.specs.State.{Message, Note, SettledTo, Elsewhere, Happened, Vat, Done, Gives, send_out}
 use Rattle.def_machine.specs.Refs as refs
 use Rattle.def_machine.specs.Refs.{Place, Away}
 use Rattle.def_run.specs.World.{Script, Event, World, names, events_of}
 use Rattle.law_machine.specs.Steps.{After}
-use Rattle.law_fate.proofs.Leads.{Leads, Ends}
+use Rattle.law_fate.proofs.Leads.{Ends}
 use Rattle.law_name.specs.Names.{AllOf}
 use Rattle.law_run.specs.Moves.{went}
 use Rattle.law_order.specs.Settlings.{with_line}
@@ -26,7 +26,6 @@ use Rattle.law_order_history.proofs.Same.{same_worlds}
 use Rattle.law_order_tales.specs.Middle.{middle, IsQuietLine, MovesNone}
 use Rattle.law_order_tales.proofs.Middle.{events_quiet, events_both, growing_is_small}
 use Rattle.law_order_tales.proofs.Stilling.{Any, still_inform}
-use Rattle.law_order_settling.specs.Holding.{Holds}
 use Rattle.law_order_settling.proofs.Frames.{Frame, frame_inform, Less, Same, same_kept, same_pass, same_states}
 use Rattle.law_order_settling.proofs.Frames as frames
 use Rattle.law_order_settling.proofs.Later.{Later, as_it_led, later_self, later_then}
@@ -46,7 +45,7 @@ module _ (K : Naming Name Name) (R : Vat Name → Vat Name → Type 0) (law : Is
   unfolding refs.inform
   informs p h = keeps_bind R law (keeps_look R law _) (λ y. keeps_bind R law (keeps_look R law _) (λ q. keeps_bind R law (keeps_look R law _) (λ gone. keeps_if R law gone (keeps_give R law _) (informs_of p h y q))))
 
-all_four : {A : Type 0} (s : Vat Name) (P Q R S : Vat Name → Vat Name → Type 0) (Z : Vat Name → Type 0) (d : Done Name A) → After P s d → After Q s d → After R s d → Ends Any S s d → ((t : Vat Name) → P s t → Q s t → R s t → S s t → Z t) → IfGives Z d
+pub all_four : {A : Type 0} (s : Vat Name) (P Q R S : Vat Name → Vat Name → Type 0) (Z : Vat Name → Type 0) (d : Done Name A) → After P s d → After Q s d → After R s d → Ends Any S s d → ((t : Vat Name) → P s t → Q s t → R s t → S s t → Z t) → IfGives Z d
 all_four s P Q R S Z (Gives a t) p q r i f = f t p q r i
 all_four s P Q R S Z other p q r i f = tt
 
@@ -155,3 +154,22 @@ module _ (script : Script) (honest : ℕ → Bool) (w : World) (v : ℕ) (head :
 
     pub queue_told : Told s (record s { queue = s.queue ++ m ∷ [] })
     queue_told = record { tale = went_tale s Then queue_small; later = later_grown s Then [] (sym (append-nil s.happened)) tt ready stay (same_states script v s Then refl refl refl) (frames.frame_same K s Then refl refl refl) }
+
+-- fewer lists may have come
+pub told_wider : (script : Script) (honest : ℕ → Bool) (w : World) (v : ℕ) (head : List Event) (L M : Type 0) (s t : Vat Name) → (L → M) → Told script honest w v head L s t → Told script honest w v head M s t
+told_wider script honest w v head L M s t f h = record {
+  tale = h.tale;
+  later = record {
+    ready = h.later.ready;
+    leading = h.later.leading;
+    undrawn = h.later.undrawn;
+    told = h.later.told;
+    story = h.later.story;
+    quiet = h.later.quiet;
+    known = h.later.known;
+    lists = h.later.lists;
+    follows = λ l x k e. h.later.follows (λ i. l (f i)) x k e;
+    held = h.later.held;
+    reacts = h.later.reacts;
+  };
+}

@@ -1,35 +1,30 @@
 -- A name settles to what is no object of another vat, and what it held comes to the queue, or is lost: one small step.
-use Rattle.std.proofs.Common.{◌≡◌, ℕ, zero, suc, Bool, true, false, List, [], ◌∷◌, ◌++◌, Option, Some, None, length, refl, sym, ap, subst, ◌∙◌, ◌⊎◌, inl, inr, append_assoc}
+use Rattle.std.proofs.Common.{◌≡◌, ℕ, zero, suc, Bool, true, false, List, [], ◌∷◌, ◌++◌, Some, None, length, refl, sym, ap, subst, ◌∙◌, ◌⊎◌, inl, inr}
 use Rattle.std.proofs.lemmas.List.{append-nil}
 use Rattle.std.specs.Prelude.{slice_get, codes}
 use Rattle.def_machine.specs.Values.{Value, Broken, Items, Ref, Name, Naming, Spot, Own, Foreign, NoObject}
 use Rattle.def_machine.specs.State.{Message, Standing, Settled, Viewed, Settle, Known, Vat, is_in, with_change}
 use Rattle.def_machine.specs.Refs as refs
 use Rattle.def_machine.specs.Refs.{entry_of, standing_of}
-use Rattle.def_run.specs.World as world
 use Rattle.def_run.specs.World.{Script, Event, World, names}
 use Rattle.law_reference.proofs.Follow.{eq_dec}
-use Rattle.law_order.specs.Ways.{Lane, Queue, Held, Way, Item, Place, Nowhere, Free, End, Mid, Ways, Ahead}
-use Rattle.law_order.specs.Places.{item, queued, held_on, held_in, leads, stands_at, ways_of, ways, amid}
+use Rattle.law_order.specs.Ways.{Lane, Queue, Held, Way, Item, Place, Nowhere, Free, End, Mid, Ways}
+use Rattle.law_order.specs.Places.{item, queued, held_on, held_in, stands_at, ways_of, ways, amid}
 use Rattle.law_order.specs.Messages.{StandsAt}
 use Rattle.law_order.specs.Settle.{IsEnded, SettlesHere, aimed_at, passed_by, settled_to}
 use Rattle.law_order.specs.Steps.{WaysAmid, LeadsAmid, IsHeld, StaysInOrder}
-use Rattle.law_order.specs.Worlds.{IsObject}
 use Rattle.law_order.proofs.Entries.{Differs, as_it_was, changes, differs, same_length}
 use Rattle.law_order.proofs.Lanes.{Same, same_lane}
 use Rattle.law_order.proofs.Named.{passes_here, passes_other, passes_queue, passes_way, passes_mid, passes_nowhere, passes_free}
 use Rattle.law_order.proofs.Sends.{get_put, entry_changed}
-use Rattle.law_order.proofs.Settled.{settled_stands, follows_settled, others_standing}
-use Rattle.law_order.proofs.Standing.{queue_is}
+use Rattle.law_order.proofs.Settled.{follows_settled, others_standing}
 use Rattle.law_order_views.proofs.Quiet.{is_name}
 use Rattle.law_order_views.proofs.Settling.{IsOpen, settles}
-use Rattle.law_order_history.specs.Befores.{Brings}
 use Rattle.law_order_history.specs.Tells.{over, then_on}
 use Rattle.law_order_tales.specs.Middle.{middle}
-use Rattle.law_order_tales.specs.Resting.{WasBrought}
 use Rattle.law_order_tales.proofs.Middle.{at_vat}
-use Rattle.law_order_settling.proofs.Acts.{Told, story_more}
-use Rattle.law_order_settling.proofs.Frames.{Frame, changed_frame, Less, less_mild}
+use Rattle.law_order_settling.proofs.Acts.{Told}
+use Rattle.law_order_settling.proofs.Frames.{changed_frame, less_mild}
 use Rattle.law_order_settling.proofs.Later.{NotHeld, as_it_led, elsewhere, Leading, Later}
 use Rattle.law_order_settling.proofs.LetsGo.{WentOn, LetsGo, lets_go_small}
 

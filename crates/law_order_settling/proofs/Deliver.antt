@@ -1,18 +1,17 @@
 -- The first message that a name holds goes out in a note, with its arguments: a small step.
 use Rattle.std.proofs.Common.{◌≡◌, ℕ, zero, Bool, true, List, [], ◌∷◌, ◌++◌, Some, None, sym, ap, subst, ◌∙◌}
 use Rattle.std.specs.Prelude.{slice_get}
-use Rattle.def_machine.specs.Values.{Value, Ref, Name, Naming, Foreign}
+use Rattle.def_machine.specs.Values.{Ref, Name, Naming, Foreign}
 use Rattle.def_machine.specs.State.{Message, Known, WaitsOn, Passeds, NoMore, Deliver, Posted, Vat, Done, Gives, Act, ◌>>=◌, ◌>>◌, and_then, tell, send_out}
 use Rattle.def_machine.specs.Refs as refs
 use Rattle.def_machine.specs.Refs.{entry_of}
 use Rattle.def_run.specs.World as world
 use Rattle.def_run.specs.World.{Script, Event, Link, World, names}
 use Rattle.law_machine.specs.Steps.{After}
-use Rattle.law_name.specs.Names.{IsAmong}
-use Rattle.law_order.specs.Ways.{Held, Place, Ways, Ahead}
+use Rattle.law_order.specs.Ways.{Held, Ways}
 use Rattle.law_order.specs.Order.{Coming, comes}
 use Rattle.law_order.specs.Places.{item, held_in}
-use Rattle.law_order.specs.Steps.{WaysAmid, LeadsAmid, Grown}
+use Rattle.law_order.specs.Steps.{WaysAmid, Grown}
 use Rattle.law_order.specs.Worlds.{IfGives, IsObject}
 use Rattle.law_order.proofs.Changes.{growing_keeps}
 use Rattle.law_order.proofs.News.{grown_then}

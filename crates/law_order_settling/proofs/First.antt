@@ -1,40 +1,34 @@
 -- A name settles to an object of another vat: read as though it waited on that and held what it held, that is a small step; and so is that it settles, where it holds nothing.
-use Rattle.std.proofs.Common.{◌≡◌, ℕ, suc, Bool, true, false, List, [], ◌∷◌, ◌++◌, Option, Some, None, length, refl, sym, ap, subst, ◌∙◌, ◌⊎◌, inl, inr}
-use Rattle.std.proofs.lemmas.List.{append-nil}
+use Rattle.std.proofs.Common.{◌≡◌, ℕ, Bool, true, false, List, [], ◌∷◌, ◌++◌, Some, refl, sym, ap, subst, ◌∙◌, ◌⊎◌, inl, inr}
 use Rattle.std.specs.Prelude.{slice_get}
 use Rattle.def_machine.specs.Values.{Value, Ref, Name, Naming, Foreign}
-use Rattle.def_machine.specs.State.{Message, Standing, WaitsOn, Settled, Settle, Known, Settles, Happened, Vat, with_change, is_in}
+use Rattle.def_machine.specs.State.{Message, WaitsOn, Settle, Known, Settles, Vat}
 use Rattle.def_machine.specs.Refs.{entry_of}
-use Rattle.def_run.specs.World as world
 use Rattle.def_run.specs.World.{Script, Event, World, names, events_of}
-use Rattle.law_order.specs.Ways.{Lane, Queue, Held, Way, Item, Place, End, Mid, Ways, IsIn, Ahead}
+use Rattle.law_name.specs.Names.{IsAmong}
+use Rattle.law_order.specs.Ways.{Lane, Queue, Held, Way, Place, End, Mid, Ways, IsIn, Ahead}
 use Rattle.law_order.specs.Changes.{Grows}
-use Rattle.law_order.specs.Turns.{stays_so}
-use Rattle.law_order.specs.Places.{item, queued, held_on, held_in, leads, stands_at, ways_of, ways, amid}
-use Rattle.law_order.specs.Messages.{StandsAt, StaysBehind}
-use Rattle.law_order.specs.Settle.{IsReady, KeepsBy, SentOn, aimed_at, passed_by, led_to, emptied, onward_to, without, settled_to}
+use Rattle.law_order.specs.Places.{queued, held_in, stands_at, ways_of, ways, amid}
+use Rattle.law_order.specs.Settle.{IsReady, led_to, onward_to, settled_to}
 use Rattle.law_order.specs.Settlings.{with_line}
-use Rattle.law_order.specs.Steps.{WaysAmid, LeadsAmid}
-use Rattle.law_order.specs.Worlds.{IsObject, IsWaiting}
+use Rattle.law_order.specs.Steps.{WaysAmid, LeadsAmid, IsHeld}
+use Rattle.law_order.specs.Worlds.{IsObject, IsKnown, IsWaiting}
 use Rattle.law_order.proofs.Changes.{growing_keeps}
 use Rattle.law_order.proofs.Entries.{Differs, as_it_was, changes, differs, same_length}
 use Rattle.law_order.proofs.Lanes.{Same, same_lane, held_one, held_apart}
-use Rattle.law_order.proofs.Named.{Test, test_self, passes_mid}
-use Rattle.law_order.proofs.Sends.{get_put, entry_changed}
-use Rattle.law_order.proofs.Settling.{starting_keeps, settling_keeps, keeps_then}
-use Rattle.law_order.proofs.Standing.{held_is}
-use Rattle.law_order_views.proofs.Settling.{IsOpen, settles}
-use Rattle.law_order_history.specs.Lines.{AllQuiet}
+use Rattle.law_order.proofs.Named.{Test}
+use Rattle.law_order.proofs.Settling.{starting_keeps}
+use Rattle.law_order_views.proofs.Quiet.{is_name}
+use Rattle.law_order_views.proofs.Settling.{IsOpen}
 use Rattle.law_order_history.specs.Tells.{SmallStep}
-use Rattle.law_order_tales.specs.Middle.{middle, IsQuietLine}
+use Rattle.law_order_tales.specs.Middle.{middle}
 use Rattle.law_order_tales.proofs.Middle.{at_vat, events_quiet}
 use Rattle.law_order_tales.proofs.Resting.{resting}
 use Rattle.law_order_settling.proofs.Acts.{story_more}
-use Rattle.law_order_settling.proofs.Block.{Passes, stays, went, passes_by}
-use Rattle.law_order_settling.proofs.LetsGo.{LetsGo, lets_go_small}
+use Rattle.law_order_settling.proofs.Later.{as_it_led, Later}
 use Rattle.law_order_settling.proofs.Put.{put_known, put_here, put_other, put_length}
-use Rattle.law_order_settling.proofs.Read.{Read, Seen, Real, others, seen, leads_read, onward_read, settles_read, aims}
-use Rattle.law_order_settling.proofs.Waiting.{WaitsElse, leads_same, onward_same}
+use Rattle.law_order_settling.proofs.Read.{Real, onward_read, ready_read}
+use Rattle.law_order_settling.proofs.Waiting.{WaitsElse, follow_same, leads_same, onward_same}
 
 module _ (script : Script) (honest : ℕ → Bool) (w : World) (v h : ℕ) (head : List Event) (L : Type 0) (r : Vat Name) (at : slice_get w.vats v ≡ Some r) (p n : Name) (k : Known Name) (far : (names script v).spot n ≡ Foreign h) (object : IsObject n) (plain : IsObject p → ⊥) (named : k.name ≡ p) (host : k.host ≡ v) where
   abbrev K : Naming Name Name
@@ -86,7 +80,7 @@ module _ (script : Script) (honest : ℕ → Bool) (w : World) (v h : ℕ) (head
         others = other_entry;
       }
 
-      leads_first : (u : ℕ) (x : Value Name) → LeadsAmid script honest w v V u x ≡ LeadsAmid script honest w v s u x
+      pub leads_first : (u : ℕ) (x : Value Name) → LeadsAmid script honest w v V u x ≡ LeadsAmid script honest w v s u x
       leads_first u x = leads_same script honest v p s V waits_else w u x
 
       held_first : (m : Name) → held_in m (entry_of K V.known m) ≡ held_in m (entry_of K s.known m)
@@ -136,6 +130,54 @@ module _ (script : Script) (honest : ℕ → Bool) (w : World) (v h : ℕ) (head
 
       lines_first : (middle w v head V).history ≡ (middle w v head s).history ++ events_of w.links v (Settles p (Ref n) ∷ [])
       lines_first = story_more script honest w v head L s V (Settles p (Ref n) ∷ []) refl
+
+      -- ---- what is asked of it
+
+      -- it holds what it held, and so much reacts on it
+      record WasKnown (m : Name) (j : Known Name) : Type 0 where
+        known_then : Known Name
+        found_then : entry_of K s.known m ≡ Some known_then
+        held_then : known_then.held ≡ j.held
+        reacts_then : known_then.reactions ≡ j.reactions
+
+      some_same : (i j : Known Name) → Some i ≡ Some j → i ≡ j
+      some_same i j e = cc
+
+      known_back : (m : Name) (j : Known Name) → entry_of K V.known m ≡ Some j → WasKnown m j
+      known_back m j e = go (is_name m p)
+        where
+          go : (m ≡ p) ⊎ (m ≡ p → ⊥) → WasKnown m j
+          go (inl q) = let same : Seen0 k.held ≡ j = some_same (Seen0 k.held) j (sym seen_now ∙ (ap (entry_of K V.known) (sym q) ∙ e)) in
+              record { known_then = k; found_then = ap (entry_of K s.known) q ∙ found; held_then = ap (λ (z : Known Name). z.held) same; reacts_then = ap (λ (z : Known Name). z.reactions) same }
+          go (inr f) = record { known_then = j; found_then = sym (other_entry m f) ∙ e; held_then = refl; reacts_then = refl }
+
+      known_on : (m : Name) → IsKnown K s m → IsKnown K V m
+      known_on m i = go (is_name m p)
+        where
+          go : (m ≡ p) ⊎ (m ≡ p → ⊥) → IsKnown K V m
+          go (inl q) = (Seen0 k.held, ap (entry_of K V.known) q ∙ seen_now)
+          go (inr f) = (i.0, other_entry m f ∙ i.1)
+
+      held_back : (x : Value Name) → IsHeld script honest w v V x → IsHeld script honest w v s x
+      held_back (Ref m) (inl i) = inl i
+      held_back (Ref m) (inr i) = let j = known_back m i.0 i.1 in inr (j.known_then, j.found_then)
+      held_back other i = tt
+
+      -- What is asked of the vat holds of it read so.
+      pub first_later : Later script honest w v head L s V
+      first_later = record {
+        ready = λ q. ready_read script honest w v h r at p n k far object plain named host k.held T g;
+        leading = λ x i. as_it_led (held_back x i) (leads_first v x);
+        undrawn = λ x e. e;
+        told = events_of w.links v (Settles p (Ref n) ∷ []);
+        story = lines_first;
+        quiet = events_quiet w.links v (Settles p (Ref n) ∷ []) (tt, tt);
+        known = known_on;
+        lists = refl;
+        follows = λ l x j e. sym (follow_same script honest v p s V waits_else x) ∙ e;
+        held = λ m j e x i. let b = known_back m j e in record { known = b.known_then; found = b.found_then; among = subst (IsAmong x) (sym b.held_then) i };
+        reacts = λ m j e x i. let b = known_back m j e in record { known = b.known_then; found = b.found_then; among = subst (IsAmong x) (sym b.reacts_then) i };
+      }
 
       pub first_small : SmallStep script honest (middle w v head s) (middle w v head V)
       unfolding ways amid

@@ -1,14 +1,14 @@
 -- What passings, sendings and settlings leave as it is: lists, names that are known, words that were drawn; and as a value passes, what is followed, held, and to react.
 use Rattle.std.proofs.Common.{◌≡◌, ℕ, zero, suc, ◌-◌, Bool, true, false, List, [], ◌∷◌, ◌++◌, Option, Some, None, length, refl, sym, ap, subst, ◌∙◌, ◌==◌}
 use Rattle.std.specs.Prelude.{nat_le}
-use Rattle.def_machine.specs.Values.{Value, Name, Naming, Coming, key}
-use Rattle.def_machine.specs.State.{Message, Known, Change, Hold, Wait, WaitOn, See, React, ToTell, Settle, Standing, Settled, Passed, AGift, Open, Note, Happened, Vat, Done, Gives, Act, Stop, ◌>>=◌, ◌>>◌, and_then, give, stop, look, tell, spend, spent, enqueue, send_out, alter, come, draw, draws, drawn_at, begun, with_change, changed, changed_to, unless_settled, change, dead, holding}
+use Rattle.def_machine.specs.Values.{Value, Name, Naming, key}
+use Rattle.def_machine.specs.State.{Message, Known, Change, Hold, Wait, WaitOn, See, React, ToTell, Settle, Standing, Settled, Passed, AGift, Open, Vat, Done, Gives, Act, ◌>>=◌, ◌>>◌, and_then, give, stop, look, tell, spend, spent, enqueue, send_out, alter, come, draw, draws, drawn_at, begun, with_change, changed, changed_to, unless_settled, change, dead, holding}
 use Rattle.def_machine.specs.Refs as refs
 use Rattle.def_machine.specs.Refs.{entry_of}
 use Rattle.def_run.specs.World.{Script, names}
 use Rattle.law_machine.specs.Steps.{After}
 use Rattle.law_machine.proofs.Walks.{Property, Holds, IsClosed, InRefs, InRefsUnder}
-use Rattle.law_machine.proofs.RefsWalk.{walk_pass_on, walk_inform}
+use Rattle.law_machine.proofs.RefsWalk.{walk_pass_all, walk_pass_on, walk_inform}
 use Rattle.law_name.specs.Names.{IsAmong}
 use Rattle.law_order.specs.Worlds.{IsKnown}
 use Rattle.law_order.proofs.Adding.{follow_alike}
@@ -143,6 +143,9 @@ module _ (K : Naming Name Name) where
 
   pub frame_inform : (p : Name) (h : ℕ) (s : Vat Name) → After Frame s (refs.inform K p h s)
   frame_inform p h s = (walk_inform FramesBy K closed in_refs in_refs_under p h).after s
+
+  pub frame_pass_all : (h : ℕ) (xs : List (Value Name)) (s : Vat Name) → After Frame s (refs.pass_all K h xs s)
+  frame_pass_all h xs s = (walk_pass_all FramesBy K closed in_refs in_refs_under h xs).after s
 
   pub frame_pass_on : (m : Message Name) (h : ℕ) (n : Name) (s : Vat Name) → After Frame s (refs.pass_on K m h n s)
   frame_pass_on m h n s = (walk_pass_on FramesBy K closed in_refs in_refs_under m h n).after s

@@ -1,9 +1,8 @@
 -- The small step by which a held message goes out to another vat: what stands where before and after it, and what its note brings.
-use Rattle.std.proofs.Common.{◌≡◌, ℕ, zero, Bool, true, false, List, [], ◌∷◌, ◌++◌, Option, Some, None, refl, sym, ap, subst, ◌∙◌, ◌⊎◌, inl, inr, append_assoc}
-use Rattle.std.proofs.lemmas.List.{append-nil}
+use Rattle.std.proofs.Common.{◌≡◌, ℕ, zero, Bool, true, List, [], ◌∷◌, ◌++◌, Some, None, refl, sym, ap, subst, ◌∙◌, inl, inr}
 use Rattle.std.specs.Prelude.{slice_get}
 use Rattle.def_machine.specs.Values.{Words, Value, Ref, Name, Naming, Foreign}
-use Rattle.def_machine.specs.State.{Message, Standing, WaitsOn, Known, Passeds, Delivery, Note, Deliver, Put, Posted, Vat}
+use Rattle.def_machine.specs.State.{Message, WaitsOn, Known, Passeds, Delivery, Note, Deliver, Put, Posted, Vat}
 use Rattle.def_machine.specs.Refs.{entry_of}
 use Rattle.def_run.specs.World as world
 use Rattle.def_run.specs.World.{Script, Event, Link, World, names, events_of}
@@ -11,19 +10,18 @@ use Rattle.law_name.specs.Names.{AllOf, IsAmong}
 use Rattle.law_order.specs.Ways.{Lane, Queue, Held, Way, Item, Place, End, Mid, Ways, IsIn, Doom, by_mid, Ahead, doomed_there, in_mid, past_mid}
 use Rattle.law_order.specs.Turns.{Within}
 use Rattle.law_order.specs.Order.{Coming, comes, all_pass_as}
-use Rattle.law_order.specs.Places.{item, queued, held_on, held_in, delivered, leads, stands_at, ways_of, ways, amid}
+use Rattle.law_order.specs.Places.{item, queued, held_on, held_in, delivered, stands_at, ways_of, ways, amid}
 use Rattle.law_order.specs.Messages.{StandsAt}
 use Rattle.law_order.specs.Steps.{WaysAmid, LeadsAmid, Grown}
 use Rattle.law_order.specs.Worlds.{IsObject}
 use Rattle.law_order.proofs.Brought.{passed_home_is_behind}
 use Rattle.law_order.proofs.Changes.{growing_keeps}
-use Rattle.law_order.proofs.Lanes.{Same, same_lane}
+use Rattle.law_order.proofs.Lanes.{same_lane}
 use Rattle.law_order.proofs.Pushing.{push_append}
 use Rattle.law_order.proofs.Sends.{get_put}
 use Rattle.law_order.proofs.Standing.{IsQuiet, Row}
-use Rattle.law_order_history.specs.Befores.{Brings, passing_place, up_to, IsBroughtFrom}
-use Rattle.law_order_history.specs.Lines.{AllQuiet}
-use Rattle.law_order_history.specs.Tells.{Keeps, IsStillBrought, IsSentOnNow, IsStanding, IsStillHeld, SmallStep}
+use Rattle.law_order_history.specs.Befores.{passing_place, up_to, IsBroughtFrom}
+use Rattle.law_order_history.specs.Tells.{IsStillBrought, IsSentOnNow, IsStanding, IsStillHeld, SmallStep}
 use Rattle.law_order_history.specs.Told.{IsTold}
 use Rattle.law_order_history.proofs.Lines.{last_or}
 use Rattle.law_order_history.proofs.Links.{On, on_of, of_on, IsPut, on_back, on_back_all, on_link, RowGrew, row_same, row_more, rows_still, row_grew}
@@ -31,7 +29,7 @@ use Rattle.law_order_history.proofs.Same.{brought_once}
 use Rattle.law_order_tales.specs.Middle.{middle}
 use Rattle.law_order_tales.proofs.Middle.{at_vat, events_quiet}
 use Rattle.law_order_settling.proofs.Acts.{story_more}
-use Rattle.law_order_settling.proofs.LetsGo.{From, from_there, from_lane, brought_from, one_lane}
+use Rattle.law_order_settling.proofs.LetsGo.{From, from_there, from_lane, brought_from}
 use Rattle.law_order_settling.proofs.Out as out
 use Rattle.law_order_settling.proofs.Put.{put_known}
 use Rattle.law_order_settling.proofs.Read.{Real, seen, onward_read}

@@ -1,5 +1,5 @@
 -- What a name held goes out one by one, read so: what one message needs, from what is asked of the vat so read.
-use Rattle.std.proofs.Common.{◌≡◌, ℕ, zero, Bool, true, List, [], ◌∷◌, ◌++◌, Option, Some, None, refl, inl}
+use Rattle.std.proofs.Common.{◌≡◌, ℕ, Bool, true, List, [], ◌∷◌, ◌++◌, Some, None, refl, inl}
 use Rattle.std.specs.Prelude.{slice_get}
 use Rattle.def_machine.specs.Values.{Ref, Name, Naming, Foreign, host_of}
 use Rattle.def_machine.specs.State.{Message, Unsettled, WaitsOn, Known, Vat, Done, Gives, begun, and_then}
@@ -97,8 +97,8 @@ module _ (script : Script) (honest : ℕ → Bool) (w : World) (v h : ℕ) (head
 
       -- the answer here may come to wait
       abbrev pub MayWait : Name → Vat Name → Type 0
-      MayWait b t = (kb : Known Name) × (entry_of K t.known b ≡ Some kb) × (kb.standing ≡ Unsettled) × (IsLoose script honest w v b t × IsLoose script honest w v b (Read ms t))
+      MayWait b t = (kb : Known Name) × (entry_of K t.known b ≡ Some kb) × (kb.standing ≡ Unsettled) × IsLoose script honest w v b t
 
-      pub asked_out : (b : Name) → (b ≡ p → ⊥) → IfGives (λ t. MayWait b t) (refs.deliver K Anew h n Next) → IfGives To (and_then (refs.deliver K Anew h n Next) (λ z. refs.wait_on K b a))
-      asked_out b apart may = if_to (and_then (refs.deliver K Anew h n Next) (λ z. refs.wait_on K b a))
-          (one.asked_out script honest w v h head r at p n k far object plain named hosted rh everyone there number other objects link m ms u f.real came_next.coming came_next.came a eventual unknown ready leads here can_next (λ d done i. came_next.args h d done i) b apart may)
+      pub asked_out : (b : Name) → IfGives (λ t. MayWait b t) (refs.deliver K Anew h n Next) → IfGives To (and_then (refs.deliver K Anew h n Next) (λ z. refs.wait_on K b a))
+      asked_out b may = if_to (and_then (refs.deliver K Anew h n Next) (λ z. refs.wait_on K b a))
+          (one.asked_out script honest w v h head r at p n k far object plain named hosted rh everyone there number other objects link m ms u f.real came_next.coming came_next.came a eventual unknown ready leads here can_next (λ d done i. came_next.args h d done i) b may)

@@ -1,5 +1,5 @@
 -- A name settles to what is here, or breaks: what it held comes to the queue in its order, or is lost.
-use Rattle.std.proofs.Common.{◌≡◌, ℕ, Bool, true, false, List, [], ◌∷◌, ◌++◌, Option, Some, None, refl, sym, ap, subst, ◌∙◌, ◌⊎◌, inl, inr, append_assoc}
+use Rattle.std.proofs.Common.{◌≡◌, ℕ, Bool, List, [], ◌∷◌, ◌++◌, Option, Some, None, refl, sym, ap, subst, ◌∙◌, ◌⊎◌, inl, inr, append_assoc}
 use Rattle.std.proofs.lemmas.List.{append-nil}
 use Rattle.std.specs.Prelude.{slice_get}
 use Rattle.def_machine.specs.Values.{Words, Value, Broken, Items, Ref, Name, Naming}
@@ -12,11 +12,11 @@ use Rattle.def_run.specs.World.{Script, Event, World, names}
 use Rattle.law_order.specs.Ways.{Queue, Held, Way, Item, Place, Nowhere, End, Mid, Ways, Ahead}
 use Rattle.law_order.specs.Places.{item, queued, held_on, held_in, aimed, ways, amid}
 use Rattle.law_order.specs.Messages.{StandsAt, StaysBehind}
-use Rattle.law_order.specs.Settle.{IsHere, IsReady, aimed_at, passed_by, settled_to}
+use Rattle.law_order.specs.Settle.{IsHere, aimed_at, passed_by, settled_to}
 use Rattle.law_order.specs.Settlings.{with_line, CanSettle, LosesWell, SendsWell}
 use Rattle.law_order.specs.Steps.{WaysAmid, LeadsAmid, StaysInOrder}
 use Rattle.law_order.specs.Worlds.{IfGives, IsWaiting, AddsOnly}
-use Rattle.law_order.proofs.Adds.{adds_nothing, alike_same, grown_adds}
+use Rattle.law_order.proofs.Adds.{alike_same, grown_adds}
 use Rattle.law_order.proofs.Onward.{retargeted, all_sent, leads_here, aimed_here, here_leads}
 use Rattle.law_order.proofs.OrderPassing.{leads_via}
 use Rattle.law_order.proofs.Sends.{if_map, if_both, chain}
@@ -24,12 +24,11 @@ use Rattle.law_order.proofs.SettledPlaces.{here_so, nothing_so, sent_to, behind_
 use Rattle.law_order.proofs.Standing.{queued_append, queued_end, queue_is, held_is}
 use Rattle.law_order_views.proofs.Settling.{IsOpen}
 use Rattle.law_order_tales.specs.Middle.{middle}
-use Rattle.law_order_settling.specs.Holding.{Holds, HeldCame}
+use Rattle.law_order_settling.specs.Holding.{Holds}
 use Rattle.law_order_settling.proofs.Acts.{Told, told_self, told_then, line_told}
 use Rattle.law_order_settling.proofs.Block.{block_told}
 use Rattle.law_order_settling.proofs.Later.{NotHeld, holds_on}
 use Rattle.law_order_settling.proofs.LetsGo.{WentOn}
-use Rattle.law_order_settling.proofs.Walk.{IsObjectValue}
 
 -- ---- lists
 

@@ -23,7 +23,8 @@ use Rattle.law_order_settling.specs.Holding.{Holds, HeldCame}
 use Rattle.law_order_settling.proofs.Acts.{Told, held_back, story_more}
 use Rattle.law_order_settling.proofs.Frames.{same_states}
 use Rattle.law_order_settling.proofs.Later.{Later, as_it_led, holds_by, holds_on, unsent_more}
-use Rattle.law_order_settling.proofs.Settling.{IsList, FarIsTold, settle_tale}
+use Rattle.law_order_settling.proofs.FarTold.{FarIsTold}
+use Rattle.law_order_settling.proofs.Settling.{IsList, settle_tale}
 use Rattle.law_order_settling.proofs.Resolving.{resolve_tale}
 
 module _ (script : Script) (honest : ℕ → Bool) (w : World) (v : ℕ) (head : List Event) where

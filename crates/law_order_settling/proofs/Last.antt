@@ -3,18 +3,16 @@ use Rattle.std.proofs.Common.{◌≡◌, ℕ, Bool, true, false, List, [], ◌�
 use Rattle.std.proofs.lemmas.List.{append-nil}
 use Rattle.std.specs.Prelude.{slice_get}
 use Rattle.def_machine.specs.Values.{Value, Ref, Name, Naming, Foreign}
-use Rattle.def_machine.specs.State.{Message, Standing, WaitsOn, Known, Vat}
+use Rattle.def_machine.specs.State.{WaitsOn, Known, Vat}
 use Rattle.def_machine.specs.Refs.{entry_of}
-use Rattle.def_run.specs.World as world
 use Rattle.def_run.specs.World.{Script, Event, World, names}
 use Rattle.law_order.specs.Ways.{Lane, Queue, Held, Way, Item, Place, End, Mid, Ways, IsIn, Ahead}
 use Rattle.law_order.specs.Turns.{Reroutes, stays_so}
 use Rattle.law_order.specs.Places.{item, queued, held_on, held_in, stands_at, ways_of, ways, amid}
-use Rattle.law_order.specs.Messages.{StandsAt}
-use Rattle.law_order.specs.Settle.{IsReady, KeepsBy, SentOn, aimed_at, passed_by, led_to, emptied, onward_to, without}
+use Rattle.law_order.specs.Settle.{IsReady, KeepsBy, SentOn, passed_by, led_to, emptied, onward_to, without}
 use Rattle.law_order.specs.Steps.{WaysAmid, LeadsAmid}
 use Rattle.law_order.specs.Worlds.{IsObject}
-use Rattle.law_order.proofs.Lanes.{Same, same_lane, held_one, held_apart, queue_apart, way_apart}
+use Rattle.law_order.proofs.Lanes.{Same, same_lane, held_one}
 use Rattle.law_order.proofs.Named.{Test, test_self, passes_mid}
 use Rattle.law_order.proofs.Sends.{get_put}
 use Rattle.law_order.proofs.Settling.{settling_keeps}

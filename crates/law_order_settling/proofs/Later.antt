@@ -1,9 +1,8 @@
 -- From one state of a vat in the middle of a step to a later one: what it has leads on to where it led, or to where another value led; nothing more is held or reacts. So what is asked of it is kept.
 use Rattle.std.proofs.Common.{◌≡◌, ℕ, zero, suc, Bool, true, false, List, [], ◌∷◌, ◌++◌, Some, None, refl, sym, ap, subst, ◌∙◌, ◌⊎◌, inl, inr, ◌||◌, append_assoc}
 use Rattle.std.proofs.lemmas.List.{append-nil}
-use Rattle.std.specs.Prelude.{slice_get}
 use Rattle.def_machine.specs.Values.{Value, Items, Ref, Name, Naming, host_of}
-use Rattle.def_machine.specs.State.{Message, Known, Passed, Passeds, NoMore, More, Vat, Sends, Took, drawn_at}
+use Rattle.def_machine.specs.State.{Message, Known, Passed, Passeds, NoMore, More, Vat, Sends, drawn_at}
 use Rattle.def_machine.specs.Native.{list_at}
 use Rattle.def_machine.specs.Refs as refs
 use Rattle.def_machine.specs.Refs.{entry_of}
@@ -11,7 +10,7 @@ use Rattle.def_run.specs.World.{Script, Event, Here, World, names}
 use Rattle.law_name.specs.Names.{IsAmong}
 use Rattle.law_order.specs.Ways.{Held, Way, Place, End}
 use Rattle.law_order.specs.Order.{members, comes}
-use Rattle.law_order.specs.Worlds.{IsObject, IsKnown}
+use Rattle.law_order.specs.Worlds.{IsKnown}
 use Rattle.law_order.specs.Steps.{Ready, LeadsAmid, IsHeld}
 use Rattle.law_order_history.specs.Lines.{counts, AllQuiet, sends_it, was_sent}
 use Rattle.law_order_history.specs.Passings.{CanPass, IsThere, IsNoVat, IsOpenOrLost, AllCame, CameAs}

@@ -1,12 +1,12 @@
 -- What a name held goes elsewhere, and the name leads elsewhere: that is a small step, where all stays behind what it was behind.
-use Rattle.std.proofs.Common.{◌≡◌, ℕ, Bool, false, List, [], ◌∷◌, ◌++◌, None, refl, sym, ap, subst, ◌∙◌, ◌⊎◌, inl, inr}
+use Rattle.std.proofs.Common.{◌≡◌, ℕ, Bool, List, [], ◌∷◌, ◌++◌, None, refl, sym, ap, subst, ◌∙◌, ◌⊎◌, inl, inr}
 use Rattle.def_machine.specs.Values.{Name, Ref}
 use Rattle.def_machine.specs.State.{Passeds, Delivery, Note}
 use Rattle.def_run.specs.World.{Script, Event, World}
 use Rattle.law_order.specs.Ways.{Lane, Held, Way, Item, Place, End, Mid, Ways, Ahead}
 use Rattle.law_order.specs.Places.{item, delivered, leads, ways}
 use Rattle.law_order.specs.Messages.{StandsAt}
-use Rattle.law_order_history.specs.Lines.{AllQuiet, was_sent}
+use Rattle.law_order_history.specs.Lines.{AllQuiet}
 use Rattle.law_order_history.specs.Befores.{Brings, up_to, IsBroughtFrom, in_lane, apart}
 use Rattle.law_order_history.specs.Tells.{IsStanding, IsStillBrought, SmallStep}
 use Rattle.law_order_history.proofs.Same.{brought_once}

@@ -5,7 +5,6 @@ pub mod LetsGo
 pub mod Block
 pub mod Walk
 pub mod Here
-pub mod Settling
 pub mod Put
 pub mod Waiting
 pub mod Read
@@ -18,9 +17,15 @@ pub mod Reading
 pub mod Deliver
 pub mod Comes
 pub mod OutLater
-pub mod Resolving
-pub mod Kept
+pub mod Waits
 pub mod Begun
 pub mod Awaits
 pub mod OneOut
 pub mod Goings
+pub mod OutAll
+pub mod Nobody
+pub mod FarTold
+pub mod Sound
+pub mod Settling
+pub mod Resolving
+pub mod Kept

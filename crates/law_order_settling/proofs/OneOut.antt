@@ -1,5 +1,5 @@
 -- One message that the name held goes out to the other vat, with its answer: a tale, read as though the name still held the rest.
-use Rattle.std.proofs.Common.{◌≡◌, ℕ, zero, Bool, true, List, [], ◌∷◌, ◌++◌, Option, Some, None, refl, ◌∙◌}
+use Rattle.std.proofs.Common.{◌≡◌, ℕ, zero, Bool, true, List, [], ◌∷◌, ◌++◌, Some, None, refl, sym, subst}
 use Rattle.std.specs.Prelude.{slice_get}
 use Rattle.def_machine.specs.Values.{Ref, Name, Naming, Foreign, host_of}
 use Rattle.def_machine.specs.State.{Message, Unsettled, WaitsOn, Known, Vat, begun, ◌>>◌, and_then, tell, alter}
@@ -11,7 +11,7 @@ use Rattle.law_order.specs.Order.{Coming, comes}
 use Rattle.law_order.specs.Settlings.{IsLoose}
 use Rattle.law_order.specs.Steps.{Ready, LeadsAmid}
 use Rattle.law_order.specs.Ways.{Way, End}
-use Rattle.law_order.specs.Worlds.{IfGives, IsObject}
+use Rattle.law_order.specs.Worlds.{IfGives, IsObject, IsWaiting}
 use Rattle.law_order.proofs.News.{stays_self}
 use Rattle.law_order.proofs.Sends.{if_both, chain, if_map}
 use Rattle.law_order_history.specs.Passings.{AllCame, CameAs}
@@ -25,7 +25,7 @@ use Rattle.law_order_settling.proofs.Deliver.{Begins, delivered_small}
 use Rattle.law_order_settling.proofs.Later.{Later, later_then}
 use Rattle.law_order_settling.proofs.Pass.{Can}
 use Rattle.law_order_settling.proofs.Put.{put_known}
-use Rattle.law_order_settling.proofs.Read.{Real, ready_read}
+use Rattle.law_order_settling.proofs.Read.{Real, waits_apart, ready_read}
 
 module _ (script : Script) (honest : ℕ → Bool) (w : World) (v h : ℕ) (head : List Event) (r : Vat Name) (at : slice_get w.vats v ≡ Some r) (p n : Name) (k : Known Name) (far : (names script v).spot n ≡ Foreign h) (object : IsObject n) (plain : IsObject p → ⊥) (named : k.name ≡ p) (hosted : k.host ≡ v)
     (rh : Vat Name) (everyone : (u : ℕ) → honest u ≡ true) (there : slice_get w.vats h ≡ Some rh) (number : rh.number ≡ h) (other : h ≡ v → ⊥) (objects : (o : Name) → IsObject o → entry_of (names script h) rh.known o ≡ None)
@@ -79,10 +79,10 @@ module _ (script : Script) (honest : ℕ → Bool) (w : World) (v h : ℕ) (head
     to_came : Later script honest w v head ⊥ (Full s) (Full Came)
     to_came = begins_at.later_came script honest w v h head r at p n k far object plain named hosted rh everyone there number other objects link m ms a eventual s gs unknown ready leads here
 
-    module _ (can : C Came) (args : Args Came Anew) (b : Name) (b_apart : b ≡ p → ⊥) where
+    module _ (can : C Came) (args : Args Came Anew) (b : Name) where
       -- the answer here may come to wait
       abbrev pub MayWait : Vat Name → Type 0
-      MayWait t = (kb : Known Name) × (entry_of K t.known b ≡ Some kb) × (kb.standing ≡ Unsettled) × (IsLoose script honest w v b t × IsLoose script honest w v b (Rest t))
+      MayWait t = (kb : Known Name) × (entry_of K t.known b ≡ Some kb) × (kb.standing ≡ Unsettled) × IsLoose script honest w v b t
 
       out : IfGives (λ t. Out Came t) (refs.deliver K Anew h n Came)
       out = delivered_small script honest w v h head r at p n k far object plain named hosted rh everyone there number other objects link m ms s Came gs
@@ -91,12 +91,16 @@ module _ (script : Script) (honest : ℕ → Bool) (w : World) (v h : ℕ) (head
       told_out : (t : Vat Name) → Out Came t → Goes t
       told_out t d = record { tale = then_on d.1.0 over; later = later_then script honest w v head ⊥ (Full s) (Full Came) (Rest t) to_came d.1.1 }
 
+      -- it is not the name that settled
+      b_apart : (t : Vat Name) → R t → MayWait t → b ≡ p → ⊥
+      b_apart t g i = waits_apart script honest w v h r at p n k far object plain named hosted ms t g b i.0 i.1 (subst IsWaiting (sym i.2) tt)
+
       waits : (t : Vat Name) → Out Came t → MayWait t → IfGives (λ u. To u) (refs.wait_on K b a t)
       unfolding refs.wait_on ◌>>◌ and_then tell alter
-      waits t d i = (
-        awaits.real_waits script honest w v h head ⊥ r at p n k far object plain named hosted ms t d.0 b a i.0 i.1 i.2 b_apart apart i.3.0,
-        told_then script honest w v head ⊥ (Full s) (Rest t) (Rest (awaits.Then script honest w v h head ⊥ r at p n k far object plain named hosted ms t d.0 b a i.0 i.1 i.2 b_apart apart)) (told_out t d)
-            (awaits.waits_read script honest w v h head ⊥ r at p n k far object plain named hosted ms t d.0 b a i.0 i.1 i.2 b_apart apart i.3.1),
+      waits t d i = let f : (b ≡ p → ⊥) = b_apart t d.0 i in (
+        awaits.real_waits script honest w v h head ⊥ r at p n k far object plain named hosted ms t d.0 b a i.0 i.1 i.2 f apart i.3,
+        told_then script honest w v head ⊥ (Full s) (Rest t) (Rest (awaits.Then script honest w v h head ⊥ r at p n k far object plain named hosted ms t d.0 b a i.0 i.1 i.2 f apart)) (told_out t d)
+            (awaits.waits_read script honest w v h head ⊥ r at p n k far object plain named hosted ms t d.0 b a i.0 i.1 i.2 f apart (awaits.loose_read script honest w v h head ⊥ r at p n k far object plain named hosted ms t d.0 b a i.0 i.1 i.2 f apart i.3)),
       )
 
       pub asked_out : IfGives (λ t. MayWait t) (refs.deliver K Anew h n Came) → IfGives (λ u. To u) (and_then (refs.deliver K Anew h n Came) (λ z. refs.wait_on K b a))

@@ -1,29 +1,23 @@
 -- A held message goes out to another vat: read as though the name held it till then, a small step.
-use Rattle.std.proofs.Common.{◌≡◌, ℕ, zero, Bool, true, false, List, [], ◌∷◌, ◌++◌, Option, Some, None, refl, sym, ap, subst, ◌∙◌, ◌⊎◌, inl, inr, append_assoc}
-use Rattle.std.proofs.lemmas.List.{append-nil}
+use Rattle.std.proofs.Common.{◌≡◌, ℕ, Bool, true, false, List, [], ◌∷◌, ◌++◌, Some, None, refl, sym, ap, subst, ◌∙◌, ◌⊎◌, inl, inr}
 use Rattle.std.specs.Prelude.{slice_get}
-use Rattle.def_machine.specs.Values.{Words, Value, Ref, Name, Naming, Foreign}
-use Rattle.def_machine.specs.State.{Message, Standing, WaitsOn, Known, Passeds, Delivery, Note, Deliver, Put, Posted, Vat, is_in}
+use Rattle.def_machine.specs.Values.{Words, Value, Name, Naming, Foreign}
+use Rattle.def_machine.specs.State.{Message, WaitsOn, Known, Passeds, Delivery, Note, Deliver, Posted, Vat}
 use Rattle.def_machine.specs.Refs.{entry_of}
 use Rattle.def_run.specs.World as world
 use Rattle.def_run.specs.World.{Script, Event, Link, World, names, events_of}
-use Rattle.law_name.specs.Names.{AllOf, IsAmong}
-use Rattle.law_order.specs.Ways.{Lane, Queue, Held, Way, Item, Place, Nowhere, Free, End, Mid, Ways, IsIn, IsOneWay, Doom, nowhere, by_end, by_mid, alike, Ahead, doomed_there, in_end, in_mid, past_mid}
-use Rattle.law_order.specs.Turns.{Within}
-use Rattle.law_order.specs.Places.{item, queued, held_on, held_in, delivered, stands_at, ways_of, ways, amid}
-use Rattle.law_order.specs.Messages.{StandsAt, StaysBehind}
+use Rattle.law_order.specs.Ways.{Lane, Queue, Held, Way, Item, Place, Free, End, Ways, IsIn, IsOneWay, Doom, nowhere, by_end, alike, Ahead, doomed_there, in_end}
+use Rattle.law_order.specs.Places.{item, queued, held_on, held_in, stands_at, ways_of, ways, amid}
 use Rattle.law_order.specs.Settle.{KeepsBy, SentOn}
 use Rattle.law_order.specs.Steps.{WaysAmid, LeadsAmid, Grown}
 use Rattle.law_order.specs.Worlds.{IsObject}
 use Rattle.law_order.proofs.Adds.{adds_nothing, adds_note, grown_adds, stays_quiet}
 use Rattle.law_order.proofs.Arrived.{IsOpen}
-use Rattle.law_order.proofs.Changes.{growing_keeps}
 use Rattle.law_order.proofs.Comings.{note_open}
 use Rattle.law_order.proofs.Lanes.{Same, same_lane}
 use Rattle.law_order.proofs.News.{grown_then}
 use Rattle.law_order.proofs.Sends.{get_put}
 use Rattle.law_order.proofs.Settling.{sending_on_keeps}
-use Rattle.law_order_history.specs.Passings.{IsCutFrom}
 use Rattle.law_order_history.proofs.Lost.{cut_leads}
 use Rattle.law_order_tales.proofs.Middle.{at_vat}
 use Rattle.law_order_settling.proofs.Put.{put_known}

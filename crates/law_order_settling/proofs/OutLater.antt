@@ -1,8 +1,8 @@
 -- From a vat that is read so, as its arguments pass and the message goes out, to it read so then: what is asked holds of it still.
-use Rattle.std.proofs.Common.{◌≡◌, ℕ, zero, Bool, true, List, [], ◌∷◌, ◌++◌, Option, Some, None, refl, sym, ap, subst, ◌∙◌, ◌⊎◌, inl, inr}
+use Rattle.std.proofs.Common.{◌≡◌, ℕ, Bool, true, List, [], ◌∷◌, ◌++◌, Option, Some, None, refl, sym, ap, subst, ◌∙◌, ◌⊎◌, inl, inr}
 use Rattle.std.specs.Prelude.{slice_get}
-use Rattle.def_machine.specs.Values.{Value, Items, Ref, Name, Naming, Foreign}
-use Rattle.def_machine.specs.State.{Message, Standing, WaitsOn, Known, Passeds, Delivery, Note, Deliver, Put, Posted, Vat, drawn_at}
+use Rattle.def_machine.specs.Values.{Value, Ref, Name, Naming, Foreign}
+use Rattle.def_machine.specs.State.{Message, WaitsOn, Known, Passeds, Delivery, Deliver, Posted, Vat}
 use Rattle.def_machine.specs.Refs as refs
 use Rattle.def_machine.specs.Refs.{entry_of}
 use Rattle.def_run.specs.World as world
@@ -11,7 +11,6 @@ use Rattle.law_name.specs.Names.{IsAmong}
 use Rattle.law_order.specs.Steps.{LeadsAmid, IsHeld}
 use Rattle.law_order.specs.Worlds.{IsObject, IsKnown}
 use Rattle.law_order_views.proofs.Quiet.{is_name}
-use Rattle.law_order_tales.specs.Middle.{middle}
 use Rattle.law_order_tales.proofs.Middle.{events_quiet}
 use Rattle.law_order_settling.proofs.Acts.{story_more}
 use Rattle.law_order_settling.proofs.Frames.{Less}

@@ -1,19 +1,19 @@
 -- What the arguments of a held message bring as it goes out: read as though the name still held it, and those behind it, all that was ahead of a reference in them is ahead of what passes for it.
-use Rattle.std.proofs.Common.{◌≡◌, ℕ, zero, suc, Bool, true, false, List, [], ◌∷◌, ◌++◌, Option, Some, None, length, refl, sym, ap, subst, ◌∙◌, ◌⊎◌, inl, inr, if◌then◌else◌, ◌==◌, codes}
+use Rattle.std.proofs.Common.{◌≡◌, ℕ, zero, suc, Bool, true, false, List, [], ◌∷◌, Option, Some, None, length, refl, sym, ap, subst, ◌∙◌, ◌⊎◌, inl, inr, if◌then◌else◌, ◌==◌, codes}
 use Rattle.std.proofs.lemmas.Bool.{eq-eqb}
 use Rattle.std.specs.Prelude.{slice_get}
 use Rattle.def_machine.specs.Values.{Value, Broken, Ref, Name, Object, Naming, Spot, Own, Foreign, NoObject, naming, spot_of}
-use Rattle.def_machine.specs.State.{Message, Standing, WaitsOn, Settled, Known, Passed, Passeds, Plain, AGift, Many, Open, ToTell, Vat, Done, Gives, Act, ◌>>=◌, ◌>>◌, and_then, give, draw, draws, drawn_at, send_out, alter, with_change, is_in}
+use Rattle.def_machine.specs.State.{Message, Standing, WaitsOn, Settled, Known, Passed, Plain, AGift, Open, ToTell, Vat, Done, Gives, ◌>>=◌, ◌>>◌, and_then, give, draw, draws, drawn_at, send_out, alter, with_change, is_in}
 use Rattle.def_machine.specs.Refs as refs
 use Rattle.def_machine.specs.Refs.{Place, Near, Mine, Away, Gone, entry_of, standing_of, standing_in}
-use Rattle.def_run.specs.World.{Script, Event, World, names}
+use Rattle.def_run.specs.World.{Script, World, names}
 use Rattle.law_name.specs.Names.{IsAmong}
 use Rattle.law_order.specs.Ways.{Held, Way, Item, End, Mid, Ways, IsIn, Doom, by_end, by_mid, alike, Ahead, doomed_there, in_mid, past_mid}
 use Rattle.law_order.specs.Ways as lanes
 use Rattle.law_order.specs.Turns.{Within}
 use Rattle.law_order.specs.Places.{item, aimed}
 use Rattle.law_order.specs.Steps.{WaysAmid, LeadsAmid, Ready, Grown, IsHeld}
-use Rattle.law_order.specs.Worlds.{IsObject, IsKnown, IsWaiting, IsFixed}
+use Rattle.law_order.specs.Worlds.{IsObject, IsWaiting, IsFixed}
 use Rattle.law_order.specs.Order.{passes}
 use Rattle.law_order.specs.Settle.{passed_by}
 use Rattle.law_order.proofs.Brought.{passed_home_is_behind}
@@ -25,10 +25,10 @@ use Rattle.law_order_views.proofs.Quiet.{is_name}
 use Rattle.law_order_history.specs.Befores.{IsBroughtFrom}
 use Rattle.law_order_history.specs.Passings.{OnGives, CanPass}
 use Rattle.law_order_history.proofs.Passed.{Step, BringsName, leaf_passes, passing}
-use Rattle.law_order_history.proofs.PassWalk.{IsFlat, LeafOf, IsPassing}
+use Rattle.law_order_history.proofs.PassWalk.{LeafOf, IsPassing}
 use Rattle.law_order_settling.proofs.LetsGo.{From, from_there, from_lane, brought_from}
 use Rattle.law_order_settling.proofs.Put.{put_known, put_change}
-use Rattle.law_order_settling.proofs.Read.{Real, others, seen, meets, same_length, ready_read, settles_read, leads_read, onward_read}
+use Rattle.law_order_settling.proofs.Read.{Real, others, seen, meets, same_length, leads_read, onward_read}
 use Rattle.law_order_settling.proofs.Waiting.{severed_same, placed_same}
 
 none_some : {A : Type 0} (k : Known Name) → ◌≡◌ {A = Option (Known Name)} None (Some k) → A

@@ -1,5 +1,5 @@
 -- What is known with one entry in another's place.
-use Rattle.std.proofs.Common.{◌≡◌, ℕ, suc, Bool, true, false, List, [], ◌∷◌, ◌++◌, Option, Some, None, length, refl, sym, ap, subst, ◌∙◌, ◌⊎◌, inl, inr}
+use Rattle.std.proofs.Common.{◌≡◌, ℕ, suc, Bool, true, false, List, [], ◌∷◌, ◌++◌, Option, Some, None, length, refl, sym, ap, subst, ◌∙◌}
 use Rattle.def_machine.specs.Values.{Name, Naming, naming}
 use Rattle.def_machine.specs.State.{Known, Change, with_change, changed}
 use Rattle.def_machine.specs.Refs.{entry_of}

@@ -1,16 +1,16 @@
 -- A vat in which a name settled to an object of another vat, read as though the name waited on that object and still held some messages.
-use Rattle.std.proofs.Common.{◌≡◌, ℕ, zero, suc, Bool, true, false, List, [], ◌∷◌, ◌++◌, Option, Some, None, length, refl, sym, ap, subst, ◌∙◌, ◌⊎◌, inl, inr}
-use Rattle.std.specs.Prelude.{slice_get, ◌≤◌}
+use Rattle.std.proofs.Common.{◌≡◌, ℕ, zero, suc, Bool, false, List, [], Option, Some, None, length, refl, sym, ap, subst, ◌∙◌, ◌⊎◌, inl, inr}
+use Rattle.std.specs.Prelude.{slice_get}
 use Rattle.def_machine.specs.Values.{Value, Ref, Name, Promise, Answer, Naming, Foreign}
-use Rattle.def_machine.specs.State.{Message, Standing, Unsettled, WaitsOn, Viewed, Settled, Known, Vat, is_in}
+use Rattle.def_machine.specs.State.{Message, Standing, WaitsOn, Viewed, Settled, Known, Vat, is_in}
 use Rattle.def_machine.specs.Refs as refs
 use Rattle.def_machine.specs.Refs.{entry_of, standing_of, standing_in}
 use Rattle.def_run.specs.World as world
 use Rattle.def_run.specs.World.{Script, World, names}
-use Rattle.law_order.specs.Ways.{Held, Way, Place, End, Ways}
+use Rattle.law_order.specs.Ways.{Held, Way, Place, End}
 use Rattle.law_order.specs.Places.{aimed, leads, released, released_at, onward_at, ways_of, ways, amid}
-use Rattle.law_order.specs.Settle.{OnlySettles, SettlesHere, aimed_at, passed_by}
-use Rattle.law_order.specs.Steps.{WaysAmid, LeadsAmid, Ready, IsHeld}
+use Rattle.law_order.specs.Settle.{SettlesHere, aimed_at, passed_by}
+use Rattle.law_order.specs.Steps.{WaysAmid, LeadsAmid, Ready}
 use Rattle.law_order.specs.Worlds.{IsObject, IsKnown, IsWaiting, IsFixed, FollowsEnd, StandsAlike}
 use Rattle.law_order.proofs.Amid.{entry_self}
 use Rattle.law_order.proofs.Far.{far_aimed}
@@ -118,7 +118,8 @@ module _ (script : Script) (honest : ℕ → Bool) (w : World) (v h : ℕ) (r : 
 
     -- ---- it is ready
 
-    waits_apart : (m : Name) (j : Known Name) → entry_of K u.known m ≡ Some j → IsWaiting j.standing → m ≡ p → ⊥
+    -- what waits is another
+    pub waits_apart : (m : Name) (j : Known Name) → entry_of K u.known m ≡ Some j → IsWaiting j.standing → m ≡ p → ⊥
     waits_apart m j e i q = settled_waits (Ref n) j.standing (subst (λ (z : Known Name). z.standing ≡ Settled (Ref n)) (some_same g.known j (sym g.found ∙ ap (entry_of K u.known) (sym q) ∙ e)) g.settled) i
       where
         some_same : (a b : Known Name) → Some a ≡ Some b → a ≡ b

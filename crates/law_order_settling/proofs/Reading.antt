@@ -1,14 +1,14 @@
 -- What is asked of a vat holds of it read so, and of it as it is then.
-use Rattle.std.proofs.Common.{◌≡◌, ℕ, zero, suc, Bool, true, false, List, [], ◌∷◌, ◌++◌, Option, Some, None, length, refl, sym, ap, subst, ◌∙◌, ◌⊎◌, inl, inr}
+use Rattle.std.proofs.Common.{◌≡◌, ℕ, suc, Bool, List, [], Some, length, refl, sym, ap, subst, ◌∙◌, ◌⊎◌, inl, inr}
 use Rattle.std.proofs.lemmas.List.{append-nil}
 use Rattle.std.specs.Prelude.{slice_get}
 use Rattle.def_machine.specs.Values.{Value, Items, Ref, Name, Naming, Foreign}
-use Rattle.def_machine.specs.State.{Message, Standing, WaitsOn, Known, Vat, is_in}
+use Rattle.def_machine.specs.State.{Message, WaitsOn, Known, Vat}
 use Rattle.def_machine.specs.Refs as refs
 use Rattle.def_machine.specs.Refs.{entry_of}
 use Rattle.def_run.specs.World.{Script, Event, World, names}
 use Rattle.law_name.specs.Names.{IsAmong}
-use Rattle.law_order.specs.Ways.{Lane, Held, Way, Place, End}
+use Rattle.law_order.specs.Ways.{Lane, Way, Place, End}
 use Rattle.law_order.specs.Settle.{passed_by}
 use Rattle.law_order.specs.Steps.{LeadsAmid, IsHeld}
 use Rattle.law_order.specs.Worlds.{IsObject, IsKnown}

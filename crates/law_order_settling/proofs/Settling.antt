@@ -1,5 +1,5 @@
 -- A whole settling from a steady vat, as a tale to a steady vat, where what goes out to another vat does so by small steps.
-use Rattle.std.proofs.Common.{◌≡◌, ℕ, zero, suc, ◌+◌, ◌*◌, ◌≤◌, Bool, true, false, List, [], ◌∷◌, ◌++◌, Option, Some, None, length, refl, sym, ap, subst, ◌∙◌, ◌⊎◌, inl, inr, arith}
+use Rattle.std.proofs.Common.{◌≡◌, ℕ, zero, suc, ◌+◌, ◌*◌, ◌≤◌, Bool, true, false, List, [], Option, Some, None, length, refl, sym, ap, subst, ◌∙◌, arith}
 use Rattle.std.proofs.lemmas.List.{append-nil}
 use Rattle.std.specs.Prelude.{slice_get}
 use Rattle.def_machine.specs.Values.{Value, Broken, Items, Ref, Name, Naming, Spot, Own, Foreign, NoObject}
@@ -11,14 +11,12 @@ use Rattle.def_run.specs.World.{Script, Event, World, names}
 use Rattle.law_fate.specs.Fate.{one, total}
 use Rattle.law_fate.specs.Lasting.{NoPromise}
 use Rattle.law_name.specs.Names.{AllOf}
-use Rattle.law_order.specs.Ways.{Nowhere}
 use Rattle.law_order.specs.Places.{held_on, held_in, aimed}
 use Rattle.law_order.specs.Settle.{IsHere, IsOwnSpot, aimed_at, settled_to}
 use Rattle.law_order.specs.Settlings.{with_line, IsPlain, IsObjectSpot, CanSettle, SendsWell, WaitsWell, KnownWell}
 use Rattle.law_order.specs.Steps.{StaysReady}
 use Rattle.law_order.specs.Worlds.{IfGives}
 use Rattle.law_order.proofs.Entries.{Differs, as_it_was, changes, differs}
-use Rattle.law_order.proofs.Sends.{entry_changed}
 use Rattle.law_order.proofs.Whole.{target_plain}
 use Rattle.law_order_views.specs.Led.{SettlesAsItsView}
 use Rattle.law_order_views.specs.Wholes.{ViewWell, StandsLed, EntryLed, SettlesLed}
@@ -37,6 +35,7 @@ use Rattle.law_order_settling.specs.Holding.{Holds, HeldCame}
 use Rattle.law_order_settling.proofs.Acts.{Told, told_self, told_then, line_told, later_by}
 use Rattle.law_order_settling.proofs.Acts as acts
 use Rattle.law_order_settling.proofs.Block.{lists_back}
+pub use Rattle.law_order_settling.proofs.FarTold.{FarIsTold}
 use Rattle.law_order_settling.proofs.Frames.{changed_frame, less_mild}
 use Rattle.law_order_settling.proofs.Here.{here_told, gone_told, all_lost}
 use Rattle.law_order_settling.proofs.Later.{holds_on}
@@ -61,12 +60,7 @@ module _ (script : Script) (honest : ℕ → Bool) (w : World) (v : ℕ) (head :
   abbrev C : Vat Name → Type 0
   C s = HeldCame script honest w v head s
 
-  -- What a name held that settles to an object of another vat goes out by small steps.
-  abbrev pub FarIsTold : Type 1
-  FarIsTold = (R : Name → Vat Name → Type 0) (settle : Settler {N = Name} {W = Name} K) (p n : Name) (h : ℕ) (k : Known Name) (s : Vat Name) → K.spot n ≡ Foreign h → entry_of K s.known p ≡ Some k → CanSettle script honest w v (Ref n) p k s
-      → SendsWell script honest w v (Ref n) R settle k.held (settled_to K (with_line s (Settles p (Ref n))) p (Ref n)) → H s → C s → IfGives (λ t. To s t) (state.each (refs.send_on K settle) k.held (settled_to K (with_line s (Settles p (Ref n))) p (Ref n)))
-
-  module _ (far : FarIsTold) where
+  module _ (far : FarIsTold script honest w v head L r at) where
     module _ (y : Value Name) (plain : IsPlain K y) (excuse : (j : ℕ) → y ≡ Items j → L) (never : IsObjectValue y → L → ⊥) (R : Name → Vat Name → Type 0) (settle : Settler {N = Name} {W = Name} K) (each_told : (q : Name) (s : Vat Name) → R q s → H s → (IsObjectValue y → C s) → IfGives (λ t. To s t) (settle q y s)) where
       abbrev Then : Vat Name → Name → Vat Name
       Then s p = settled_to K (with_line s (Settles p y)) p y

@@ -1,5 +1,5 @@
 -- Two vats that know the same, but for one name that waits in both: each value is followed to the same in both, and leads to the same place.
-use Rattle.std.proofs.Common.{◌≡◌, ℕ, zero, suc, Bool, true, false, List, [], ◌∷◌, ◌++◌, Option, Some, None, length, refl, sym, ap, subst, ◌∙◌, ◌⊎◌, inl, inr}
+use Rattle.std.proofs.Common.{◌≡◌, ℕ, zero, suc, Bool, true, false, List, Option, Some, None, length, refl, sym, ap, subst, ◌∙◌, ◌⊎◌, inl, inr}
 use Rattle.std.specs.Prelude.{slice_get, codes, ◌==◌}
 use Rattle.def_machine.specs.Values.{Value, Broken, Ref, Name, Root, Object, Naming, Spot, Own, Foreign, NoObject, host_of}
 use Rattle.def_machine.specs.State.{Standing, Unsettled, WaitsOn, Viewed, Settled, Known, GiftEntry, Vat, is_in}
@@ -7,7 +7,7 @@ use Rattle.def_machine.specs.Refs as refs
 use Rattle.def_machine.specs.Refs.{entry_of, standing_of, standing_in}
 use Rattle.def_run.specs.World as world
 use Rattle.def_run.specs.World.{Script, Link, World, names}
-use Rattle.law_order.specs.Ways.{Lane, Queue, Held, Way, Place, Nowhere, Free, End, Ways}
+use Rattle.law_order.specs.Ways.{Lane, Queue, Held, Way, Place, Nowhere, Free, End}
 use Rattle.law_order.specs.Places.{aimed, by_host, by_follow, of_name, leads_in, leads_at, leads, released, released_at, over, is_honest, onward_at, ways_of, ways, amid}
 use Rattle.law_order.specs.Steps.{WaysAmid, LeadsAmid}
 use Rattle.law_order.specs.Worlds.{IsObject, IsWaiting}

@@ -1,27 +1,22 @@
 -- A whole settling in the middle of a step, as a tale: block by block, as the machine does it.
-use Rattle.std.proofs.Common.{◌≡◌, ℕ, zero, suc, Bool, true, false, List, [], ◌∷◌, ◌++◌, Option, Some, None, refl, sym, ap, subst, ◌∙◌, ◌⊎◌, inl, inr}
+use Rattle.std.proofs.Common.{◌≡◌, ℕ, Bool, false, List, [], ◌∷◌, ◌++◌, Some, refl, inl, inr}
 use Rattle.std.specs.Prelude.{slice_get}
-use Rattle.def_machine.specs.Values.{Words, Value, Null, Broken, Items, Ref, Name, Naming, Spot, Own, Foreign, NoObject}
+use Rattle.def_machine.specs.Values.{Value, Ref, Name, Naming, Foreign}
 use Rattle.def_machine.specs.State.{Message, Standing, Settled, Viewed, Settle, Known, Settles, Lost, Vat, Done, WhereSome}
 use Rattle.def_machine.specs.State as state
 use Rattle.def_machine.specs.Refs as refs
 use Rattle.def_machine.specs.Refs.{Settler, Near, Gone, entry_of, standing_of, standing_in}
 use Rattle.def_run.specs.World.{Script, Event, World, names}
 use Rattle.law_name.specs.Names.{IsAmong, AllOf}
-use Rattle.law_order.specs.Ways.{Queue, Held, Item, Nowhere, End, Mid, Ways}
-use Rattle.law_order.specs.Places.{item, queued, held_on, aimed}
-use Rattle.law_order.specs.Messages.{StandsAt, StaysBehind}
-use Rattle.law_order.specs.Settle.{IsHere, IsOwnSpot, IsReady, aimed_at, passed_by, settled_to}
-use Rattle.law_order.specs.Settlings.{with_line, IsPlain, IsHonestTo, HonestSpot, CanSettle, LosesWell, SendsWell, WaitsWell, KnownWell}
-use Rattle.law_order.specs.Steps.{WaysAmid, LeadsAmid, Ready, Grown, StaysInOrder}
-use Rattle.law_order.specs.Worlds.{IfGives, AddsOnly}
+use Rattle.law_order.specs.Settle.{settled_to}
+use Rattle.law_order.specs.Settlings.{with_line, WaitsWell}
+use Rattle.law_order.specs.Worlds.{IfGives}
 use Rattle.law_order.proofs.Sends.{if_map, if_both, chain}
-use Rattle.law_order_views.specs.Wholes.{ViewWell, StandsLed, EntryLed, SettlesLed}
 use Rattle.law_order_history.specs.Lines.{was_sent}
 use Rattle.law_order_tales.specs.Middle.{middle}
 use Rattle.law_order_settling.specs.Holding.{Holds, HeldCame}
-use Rattle.law_order_settling.proofs.Acts.{Told, told_self, told_then, line_told, inform_told, queue_told}
-use Rattle.law_order_settling.proofs.Later.{Later, unsent_on, holds_on, held_came}
+use Rattle.law_order_settling.proofs.Acts.{Told, told_self, told_then, inform_told, queue_told}
+use Rattle.law_order_settling.proofs.Later.{unsent_on, holds_on, held_came}
 
 -- an object
 abbrev pub IsObjectValue : Value Name → Type 0
@@ -56,7 +51,7 @@ module _ (script : Script) (honest : ℕ → Bool) (w : World) (v : ℕ) (head :
   all_on s t g [] h = tt
   all_on s t g (m ∷ ms) h = (unsent_on script honest w v head L s t g.later m.id h.0, all_on s t g ms h.1)
 
-  reacts : (ms : List (Message Name)) (s : Vat Name) → AllOf (Unsent s) ms → H s → IfGives (λ t. To s t) (state.each state.enqueue ms s)
+  pub reacts : (ms : List (Message Name)) (s : Vat Name) → AllOf (Unsent s) ms → H s → IfGives (λ t. To s t) (state.each state.enqueue ms s)
   unfolding state.each state.◌>>◌ state.and_then state.give state.enqueue
   reacts [] s h i = told_self script honest w v head L s
   reacts (m ∷ ms) s h i = let t : Vat Name = record s { queue = s.queue ++ m ∷ [] } in let g = queue_told script honest w v head L r at s m h.0 i.ready in

@@ -1,2 +1,2 @@
-//! A settling in the middle of a step as small steps of the order of a run, over what goes out to other vats.
+//! A settling in the middle of a step as small steps of the order of a run.
 #![tactic(auto)]

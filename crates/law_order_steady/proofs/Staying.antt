@@ -72,7 +72,7 @@ module _ (script : Script) (w : World) (v : ℕ) (q : Name) (Stay : Standing Nam
   put_drawn : (s : Vat Name) (to : ℕ) (n : Note Name) (ds : List ℕ) → LetsDrawn ds n → AllDrawn ds (world.push_all v s.outbox w.links) → AllDrawn ds (world.push_all v (s.outbox ++ record { to = to; note = n } ∷ []) w.links)
   put_drawn s to n ds l h = subst (λ ls. AllDrawn ds ls) (sym (push_last v s.outbox (record { to = to; note = n }) w.links)) (with_drawn ds n v to (world.push_all v s.outbox w.links) l h)
 
-  go_out : (to : ℕ) (n : Note Name) → LetsNothingGo n → Keeps Goes (send_out to n)
+  pub go_out : (to : ℕ) (n : Note Name) → LetsNothingGo n → Keeps Goes (send_out to n)
   unfolding send_out askings
   go_out to n l = record { after = λ s. record { on = λ g. record { noticed = g.noticed; draws = put_drawn s to n s.drawn (nothing_drawn s.drawn n l) g.draws; later = g.later; few = g.few; asks = g.asks; stay = g.stay } } }
 
@@ -92,7 +92,7 @@ module _ (script : Script) (w : World) (v : ℕ) (q : Name) (Stay : Standing Nam
   pub go_hold : (m : Message Name) (n : Name) → answers q m ≡ 0 → Keeps Goes (alter K (Hold m) n)
   go_hold m n z = mildly (Hold m) n tt (mild_hold m) z
 
-  go_tells : (h : ℕ) (n : Name) → Keeps Goes (alter K (ToTell h) n)
+  pub go_tells : (h : ℕ) (n : Name) → Keeps Goes (alter K (ToTell h) n)
   go_tells h n = mildly (ToTell h) n tt (mild_to_tell h) refl
 
   other_stands : (c : Change Name) (n : Name) (ks : List (Known Name)) → one n q ≡ 0 → standing_of K (with_change K c n ks) q ≡ standing_of K ks q
@@ -104,11 +104,11 @@ module _ (script : Script) (w : World) (v : ℕ) (q : Name) (Stay : Standing Nam
       go (inl e) = e
       go (inr i) = let is = one_self n q i.1 in absurd (omega arith)
 
-  go_waits : (p r : Name) → one p q ≡ 0 → Keeps Goes (alter K (WaitOn r) p)
+  pub go_waits : (p r : Name) → one p q ≡ 0 → Keeps Goes (alter K (WaitOn r) p)
   unfolding alter
   go_waits p r z = record { after = λ s. record { on = λ g. changes (WaitOn r) p s refl (later_change script v (WaitOn r) (mild_wait_on r) p s.known g.later) (subst Stay (sym (other_stands (WaitOn r) p s.known z)) g.stay) g } }
 
-  go_wait : (p r : Name) → Keeps Goes (alter K (Wait r) p)
+  pub go_wait : (p r : Name) → Keeps Goes (alter K (Wait r) p)
   go_wait p r = mildly (Wait r) p tt (mild_wait r) refl
 
   pub go_come : (c : Coming Name Name) (h : ℕ) → Keeps Goes (come K c h)

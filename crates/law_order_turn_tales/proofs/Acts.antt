@@ -31,7 +31,7 @@ use Rattle.law_order_history.proofs.SentStep.{send_step, none_came}
 use Rattle.law_order_history.proofs.TakeStep.{takes_are_small_steps}
 use Rattle.law_order_tales.specs.Middle.{middle, IsQuietLine, MovesNone}
 use Rattle.law_order_tales.proofs.Middle.{at_vat, events_quiet, growing_is_small}
-use Rattle.law_order_tales.proofs.Stilling.{Any, base, still, still_come}
+use Rattle.law_order_tales.proofs.Stilling.{base, still, still_come}
 
 gives_at : {A : Type 0} (P : Vat Name → Type 0) (d : Done Name A) (a : A) (t : Vat Name) → d ≡ Gives a t → IfGives P d → P t
 gives_at P d a t e h = subst (λ r. IfGives P r) e h

@@ -1,5 +1,5 @@
 -- Turns that take a message are made of small steps in every run, where of each what more is kept is shown.
-use Rattle.std.proofs.Common.{◌≡◌, ℕ, Bool, true, List, [], ◌∷◌, ◌++◌, Some, refl, sym, ap, subst, ◌∙◌}
+use Rattle.std.proofs.Common.{◌≡◌, ℕ, Bool, true, List, [], ◌∷◌, ◌++◌, Some, sym, ap, subst, ◌∙◌}
 use Rattle.std.specs.Prelude.{slice_get}
 use Rattle.def_machine.specs.Values.{Name, Promise}
 use Rattle.def_machine.specs.State.{Message, Resolver, Vat, Gives}

@@ -1,7 +1,7 @@
 -- All that a turn does keeps the places of messages counted, and so the messages that it numbers next are new.
 use Rattle.std.proofs.Common.{◌≡◌, ℕ, suc, Bool, List, [], ◌∷◌, ◌++◌, refl, sym, subst, append_assoc, arith}
 use Rattle.std.proofs.lemmas.List.{append-nil}
-use Rattle.def_machine.specs.Values.{Words, Value, Name, Promise, Sent, Naming, naming, name_of, mail_of}
+use Rattle.def_machine.specs.Values.{Words, Value, Name, Promise, Naming, naming, name_of, mail_of}
 use Rattle.def_machine.specs.State.{Cell, Thing, Happened, Took, Sends, Reacts, Lost, Posted, Vat, Gives, Act, begun}
 use Rattle.def_machine.specs.Refs as refs
 use Rattle.def_run.specs.World.{World}

@@ -1,5 +1,5 @@
 -- A turn is made of small steps, where what it does with references is so from each state on its way.
-use Rattle.std.proofs.Common.{◌≡◌, ℕ, suc, ◌+◌, ◌*◌, Bool, true, List, [], ◌∷◌, ◌++◌, Option, Some, None, refl, sym, ap, subst, inl, inr, ◌∙◌}
+use Rattle.std.proofs.Common.{◌≡◌, ℕ, ◌+◌, ◌*◌, Bool, true, List, [], ◌∷◌, ◌++◌, Option, Some, refl, sym, subst, inr}
 use Rattle.std.specs.Prelude.{slice_get}
 use Rattle.def_machine.specs.Values.{Words, Value, Broken, Name, Promise, Naming, host_of}
 use Rattle.def_machine.specs.State.{Cell, Thing, Resolver, Known, Unsettled, Happened, Took, Sends, Finished, Threw, Vat, Gives, tell}
@@ -30,7 +30,7 @@ use Rattle.law_order_turn_tales.proofs.Stays.{Stays, stays_kept}
 use Rattle.law_order_turn_tales.proofs.Turning as turning
 use Rattle.law_order_turn_tales.proofs.Turning.{T, Acts, Closes, Promised, Aside}
 
-quiet_line : (e : Happened Name) → TellsOfNone e → IsQuietLine e
+pub quiet_line : (e : Happened Name) → TellsOfNone e → IsQuietLine e
 quiet_line (Took act m) h = absurd h
 quiet_line (Sends act m) h = absurd h
 quiet_line other h = tt
@@ -59,7 +59,7 @@ module _ (script : Script) (honest : ℕ → Bool) (all : (h : ℕ) → honest h
 
   -- What more is kept of a vat, and what the acts are small steps by.
   pub record Given : Type 0 where
-    pub quietly : (s : Vat Name) (fuel : ℕ) (lines more : List (Happened Name)) (acts : ℕ) (things : List (Thing Name)) (slots : List (Cell Name)) (lists : List (List (Value Name))) → lines ≡ s.happened ++ more → AllOf TellsOfNone more
+    pub quietly : (s : Vat Name) (fuel : ℕ) (lines more : List (Happened Name)) (acts : ℕ) (things : List (Thing Name)) (slots : List (Cell Name)) (lists : List (List (Value Name))) → lines ≡ s.happened ++ more → AllOf TellsOfNone more → ((k : ℕ) (vs : List (Value Name)) → slice_get s.lists k ≡ Some vs → slice_get lists k ≡ Some vs)
         → Then (Aside script w v r there h s fuel lines acts things slots lists) → Also s → Also (Aside script w v r there h s fuel lines acts things slots lists)
     pub promised : (c o : Name → ℕ) (s : Vat Name) → Sure s → S c o s → Then (Promised script w v r there h s) → Also s → Also (Promised script w v r there h s)
     pub sent : (c o : Name → ℕ) (act : ℕ) (x : Value Name) (verb : Words) (args : List (Value Name)) (s t : Vat Name) (a : Value Name) → Sure s → Ok s x → Oks s args → S c o s → refs.send K act x verb args s ≡ Gives a t → Then t → Also s → Leads s t × Also t
@@ -113,7 +113,7 @@ module _ (script : Script) (honest : ℕ → Bool) (all : (h : ℕ) → honest h
       pub acts : Acts script w v r there h end (Fit c o begin)
       unfolding names
       acts = record {
-        quietly = λ s fuel lines more count things slots lists e q g f. onward c o s _ f (own.aside_steady script w v c o s fuel lines count things slots lists f.steady) (quiet_leads s fuel lines more count things slots lists e q, given.quietly s fuel lines more count things slots lists e q g f.more);
+        quietly = λ s fuel lines more count things slots lists e q i g f. onward c o s _ f (own.aside_steady script w v c o s fuel lines count things slots lists f.steady) (quiet_leads s fuel lines more count things slots lists e q, given.quietly s fuel lines more count things slots lists e q i g f.more);
         promised = λ s sure g f. onward c o s _ f (promised_steady script w v c o s f.steady) (promise_goes script honest w v head s (ready script w v honest c o s f.steady), given.promised c o s sure f.steady g f.more);
         sent = λ act x verb args s t a sure ok oks e g f. onward c o s t f (sent_steady script w v c o s t f.steady act x verb args a e) (given.sent c o act x verb args s t a sure ok oks f.steady e g f.more);
         sent_only = λ act x verb args s t a sure ok oks e g f. onward c o s t f (sent_only_steady script w v c o s t f.steady act x verb args a e) (given.sent_only c o act x verb args s t a sure ok oks f.steady e g f.more);
@@ -134,7 +134,7 @@ module _ (script : Script) (honest : ℕ → Bool) (all : (h : ℕ) → honest h
       -- with one more line
       module _ (s : Vat Name) (e : Happened Name) (quiet : TellsOfNone e) (g : Then (with_line s e)) (sure : Sure s) (f : Fit Hand Nobody begin s) where
         next : Fit Hand Nobody begin (with_line s e)
-        next = (acts Hand Nobody).quietly s s.fuel (s.happened ++ e ∷ []) (e ∷ []) s.activations s.things s.slots s.lists refl (quiet, tt) g f
+        next = (acts Hand Nobody).quietly s s.fuel (s.happened ++ e ∷ []) (e ∷ []) s.activations s.things s.slots s.lists refl (quiet, tt) (λ k vs i. i) g f
 
         lined_sure : ((T script w v r there h).rel s (with_line s e)) × Sure (with_line s e)
         unfolding tell
@@ -159,5 +159,5 @@ module _ (script : Script) (honest : ℕ → Bool) (all : (h : ℕ) → honest h
       ending = let nothing = (stays_kept (turning.K script w v r there h)).same end in record {
         closed = λ act p y s is sure named ok e g f. let line : Happened Name = Finished act y in closes p is (with_line s line) (lined_sure s line tt g sure f).1 (next s line tt g sure f) y (lined_ok s line tt g sure f y ok) e nothing;
         failed = λ act p x s is sure named e g f. let line : Happened Name = Threw act x in fails p is (with_line s line) (lined_sure s line tt g sure f).1 (next s line tt g sure f) x e nothing;
-        unasked = λ e s is q same f. subst (λ z. Leads begin z) same (onward Hand Nobody s (with_line s e) f (lined script w v Hand Nobody s e f.steady) (quiet_leads s s.fuel (s.happened ++ e ∷ []) (e ∷ []) s.activations s.things s.slots s.lists refl (q, tt), given.quietly s s.fuel (s.happened ++ e ∷ []) (e ∷ []) s.activations s.things s.slots s.lists refl (q, tt) (subst (λ z. Then z) (sym same) nothing) f.more)).goes;
+        unasked = λ e s is q same f. subst (λ z. Leads begin z) same (onward Hand Nobody s (with_line s e) f (lined script w v Hand Nobody s e f.steady) (quiet_leads s s.fuel (s.happened ++ e ∷ []) (e ∷ []) s.activations s.things s.slots s.lists refl (q, tt), given.quietly s s.fuel (s.happened ++ e ∷ []) (e ∷ []) s.activations s.things s.slots s.lists refl (q, tt) (λ k vs i. i) (subst (λ z. Then z) (sym same) nothing) f.more)).goes;
       }

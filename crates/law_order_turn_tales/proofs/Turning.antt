@@ -1,5 +1,5 @@
 -- A turn, from the state in which its message is taken to that in which it ended: what holds of each state on the way that each act of evaluation keeps, and what follows where the answer is resolved, or breaks.
-use Rattle.std.proofs.Common.{◌≡◌, ℕ, suc, ◌-◌, true, List, [], ◌∷◌, ◌++◌, Option, Some, None, refl, sym, ap, subst, ◌∙◌}
+use Rattle.std.proofs.Common.{◌≡◌, ℕ, suc, ◌-◌, true, List, [], ◌∷◌, ◌++◌, Option, Some, None, refl, sym, subst}
 use Rattle.std.proofs.lemmas.List.{append-nil}
 use Rattle.std.specs.Prelude.{slice_get}
 use Rattle.def_kernel.specs.declared.node.Node.{Node}
@@ -15,6 +15,7 @@ use Rattle.law_machine.specs.Steps.{IsQuiet}
 use Rattle.law_machine.proofs.Keeps.{Keeps, IsKept}
 use Rattle.law_machine.proofs.RefsKeeps.{keeps_settle, keeps_resolve, keeps_send, keeps_send_only, keeps_react}
 use Rattle.law_machine.proofs.RefsQuiet.{quiet_settle, quiet_resolve, quiet_send, quiet_send_only, quiet_react}
+use Rattle.law_machine.proofs.StepLaws.{get_append}
 use Rattle.law_name.specs.Names.{AllOf, Named, ValueOk, ValuesOk}
 use Rattle.law_name.proofs.Facts.{Holds, Fact, Also, IsValue, AreValues, AreNouns, nothing}
 use Rattle.law_name.proofs.Facts as facts
@@ -61,7 +62,7 @@ module _ (script : Script) (w : World) (v : ℕ) (r : Vat Name) (there : slice_g
 
     -- What holds of a state holds of the next, where all that was told and made stays to the end.
     pub record Acts : Type 0 where
-      pub quietly : (s : Vat Name) (fuel : ℕ) (lines more : List (Happened Name)) (acts : ℕ) (things : List (Thing Name)) (slots : List (Cell Name)) (lists : List (List (Value Name))) → lines ≡ s.happened ++ more → AllOf TellsOfNone more
+      pub quietly : (s : Vat Name) (fuel : ℕ) (lines more : List (Happened Name)) (acts : ℕ) (things : List (Thing Name)) (slots : List (Cell Name)) (lists : List (List (Value Name))) → lines ≡ s.happened ++ more → AllOf TellsOfNone more → ((k : ℕ) (vs : List (Value Name)) → slice_get s.lists k ≡ Some vs → slice_get lists k ≡ Some vs)
           → Then (Aside s fuel lines acts things slots lists) → Fit s → Fit (Aside s fuel lines acts things slots lists)
       pub promised : (s : Vat Name) → Sound T s → Then (Promised s) → Fit s → Fit (Promised s)
       pub sent : (act : ℕ) (x : Value Name) (verb : Words) (args : List (Value Name)) (s t : Vat Name) (a : Value Name) → Sound T s → ValueOk (T.ok s) x → ValuesOk (T.ok s) args → refs.send K act x verb args s ≡ Gives a t → Then t → Fit s → Fit t
@@ -88,14 +89,14 @@ module _ (script : Script) (w : World) (v : ℕ) (r : Vat Name) (there : slice_g
 
       still : KeptStill P
       still = record {
-        fuel = λ s n o g. acts.quietly s (s.fuel - n) s.happened [] s.activations s.things s.slots s.lists (none_more s) tt g (o (kept.trans {s = s} {t = record s { fuel = s.fuel - n }} {u = end} (kept.fuel s n) g));
-        told = λ s e q o g. acts.quietly s s.fuel (s.happened ++ e ∷ []) (e ∷ []) s.activations s.things s.slots s.lists refl (q, tt) g (o (kept.trans {s = s} {t = record s { happened = s.happened ++ e ∷ [] }} {u = end} (kept.happened s e) g));
-        activations = λ s o g. acts.quietly s s.fuel s.happened [] (suc s.activations) s.things s.slots s.lists (none_more s) tt g (o (kept.trans {s = s} {t = record s { activations = suc s.activations }} {u = end} (kept.activations s) g));
-        thing = λ s z o g. acts.quietly s s.fuel s.happened [] s.activations (s.things ++ z ∷ []) s.slots s.lists (none_more s) tt g (o (kept.trans {s = s} {t = record s { things = s.things ++ z ∷ [] }} {u = end} (kept.thing s z) g));
-        killed = λ s n o g. acts.quietly s s.fuel s.happened [] s.activations (change dead n s.things) s.slots s.lists (none_more s) tt g (o (kept.trans {s = s} {t = record s { things = change dead n s.things }} {u = end} (kept.killed s n) g));
-        slot = λ s c o g. acts.quietly s s.fuel s.happened [] s.activations s.things (s.slots ++ c ∷ []) s.lists (none_more s) tt g (o (kept.trans {s = s} {t = record s { slots = s.slots ++ c ∷ [] }} {u = end} (kept.slot s c) g));
-        written = λ s n y o g. acts.quietly s s.fuel s.happened [] s.activations s.things (change (holding y) n s.slots) s.lists (none_more s) tt g (o (kept.trans {s = s} {t = record s { slots = change (holding y) n s.slots }} {u = end} (kept.written s n y) g));
-        list = λ s ys o g. acts.quietly s s.fuel s.happened [] s.activations s.things s.slots (s.lists ++ ys ∷ []) (none_more s) tt g (o (kept.trans {s = s} {t = record s { lists = s.lists ++ ys ∷ [] }} {u = end} (kept.list s ys) g));
+        fuel = λ s n o g. acts.quietly s (s.fuel - n) s.happened [] s.activations s.things s.slots s.lists (none_more s) tt (λ k vs e. e) g (o (kept.trans {s = s} {t = record s { fuel = s.fuel - n }} {u = end} (kept.fuel s n) g));
+        told = λ s e q o g. acts.quietly s s.fuel (s.happened ++ e ∷ []) (e ∷ []) s.activations s.things s.slots s.lists refl (q, tt) (λ k vs i. i) g (o (kept.trans {s = s} {t = record s { happened = s.happened ++ e ∷ [] }} {u = end} (kept.happened s e) g));
+        activations = λ s o g. acts.quietly s s.fuel s.happened [] (suc s.activations) s.things s.slots s.lists (none_more s) tt (λ k vs e. e) g (o (kept.trans {s = s} {t = record s { activations = suc s.activations }} {u = end} (kept.activations s) g));
+        thing = λ s z o g. acts.quietly s s.fuel s.happened [] s.activations (s.things ++ z ∷ []) s.slots s.lists (none_more s) tt (λ k vs e. e) g (o (kept.trans {s = s} {t = record s { things = s.things ++ z ∷ [] }} {u = end} (kept.thing s z) g));
+        killed = λ s n o g. acts.quietly s s.fuel s.happened [] s.activations (change dead n s.things) s.slots s.lists (none_more s) tt (λ k vs e. e) g (o (kept.trans {s = s} {t = record s { things = change dead n s.things }} {u = end} (kept.killed s n) g));
+        slot = λ s c o g. acts.quietly s s.fuel s.happened [] s.activations s.things (s.slots ++ c ∷ []) s.lists (none_more s) tt (λ k vs e. e) g (o (kept.trans {s = s} {t = record s { slots = s.slots ++ c ∷ [] }} {u = end} (kept.slot s c) g));
+        written = λ s n y o g. acts.quietly s s.fuel s.happened [] s.activations s.things (change (holding y) n s.slots) s.lists (none_more s) tt (λ k vs e. e) g (o (kept.trans {s = s} {t = record s { slots = change (holding y) n s.slots }} {u = end} (kept.written s n y) g));
+        list = λ s ys o g. acts.quietly s s.fuel s.happened [] s.activations s.things s.slots (s.lists ++ ys ∷ []) (none_more s) tt (λ k vs e. get_append s.lists (ys ∷ []) k vs e) g (o (kept.trans {s = s} {t = record s { lists = s.lists ++ ys ∷ [] }} {u = end} (kept.list s ys) g));
       }
 
       abbrev V : Care Name

@@ -108,7 +108,7 @@ module _ (word : ℕ → ℕ) (v : ℕ) (x : Name) (owed : Bool) (fit : IsFit v 
   learnt (Old n) = record { after = λ e s g. (g, refl) }
   learnt (New n h) = comes (IsLearnt n) h
 
-  learn_name : (z : Incoming Name Name) → Keeps Spares (arrive.learn_name N z)
+  pub learn_name : (z : Incoming Name Name) → Keeps Spares (arrive.learn_name N z)
   unfolding arrive.learn_name
   learn_name (Old n) = keeps_give Spares base n
   learn_name (New n h) = coming _ h
@@ -133,7 +133,7 @@ module _ (word : ℕ → ℕ) (v : ℕ) (x : Name) (owed : Bool) (fit : IsFit v 
   mutual
     unfolding arrive.learn arrive.learn_all
 
-    learn : (p : ℕ) (y : Passed (Incoming Name Name)) → Keeps Spares (arrive.learn N p y)
+    pub learn : (p : ℕ) (y : Passed (Incoming Name Name)) → Keeps Spares (arrive.learn N p y)
     learn p (Plain y) = learn_value y
     learn p (AGift h i) = learn_gift p h i
     learn p (Many ys) = let rest = learn_all p ys in search (moves, base, make_list) depth 14

@@ -1,8 +1,8 @@
 -- Each kind of entry is made of small steps, so each run is in order.
-use Rattle.std.proofs.Common.{◌≡◌, ℕ, Bool, true, [], ◌∷◌, ◌++◌, sym, subst, ◌∙◌}
+use Rattle.std.proofs.Common.{◌≡◌, ℕ, Bool, true, [], ◌∷◌, ◌++◌, refl, sym, subst, ◌∙◌}
 use Rattle.std.proofs.lemmas.List.{append_assoc}
 use Rattle.def_machine.specs.Values.{Name}
-use Rattle.def_machine.specs.State.{Plain, AGift, Many, Note, Deliver, Open, Ask, SettledTo, Elsewhere, Shorten}
+use Rattle.def_machine.specs.State.{Note, Deliver, Open, Ask, SettledTo, Elsewhere, Shorten}
 use Rattle.def_run.specs.World.{Script, NoticeLink}
 use Rattle.law_fate.specs.WholeFateRuns.{KnowsVats}
 use Rattle.law_name.specs.Runs.{KnowsOnce}
@@ -16,30 +16,33 @@ use Rattle.law_order_notice_tales.proofs.Small.{notice_tales}
 use Rattle.law_order_ask_tales.proofs.AskTales.{asks_are_tales}
 use Rattle.law_order_ask_tales.proofs.Shortens.{shortens_are_tales}
 use Rattle.law_order_message_tales.proofs.Runs.{carries_of_messages_are_tales}
-use Rattle.law_order_news_tales.proofs.Laws.{elsewhere_are_tales, gifts_are_tales}
-use Rattle.law_ordered.specs.Ordered.{LeftAreTales, LeftAreEnough}
+use Rattle.law_order_news_tales.proofs.Laws.{elsewhere_are_tales}
+use Rattle.law_order_open_tales.proofs.Laws.{opens_are_tales}
+use Rattle.law_order_settled_tales.proofs.Laws.{settled_carries_are_tales}
+use Rattle.law_order_turn_tales.proofs.Whole.{turns_are_tales, openings_are_tales}
+use Rattle.law_ordered.specs.Ordered.{RunsAreOrdered}
 
 notices_are_tales : OfScripts NoticesAreTales
 notices_are_tales script once vats cuts honest all x y v u g =
     let follow : NoticesFollowCuts (g.es ++ NoticeLink v u ∷ []) = notices_front script [] (g.es ++ NoticeLink v u ∷ []) g.rest (subst NoticesFollowCuts (g.split ∙ sym (append_assoc g.es (NoticeLink v u ∷ []) g.rest)) cuts) in
     notice_tales script once g.opened x y g.es 1 v u follow g.opens g.before g.after honest (all v) (all u)
 
-module _ (script : Script) (once : KnowsOnce script) (vats : KnowsVats script) (cuts : NoticesFollowCuts script.schedule) (honest : ℕ → Bool) (all : (v : ℕ) → honest v ≡ true) (left : LeftAreTales script honest) where
+module _ (script : Script) (once : KnowsOnce script) (vats : KnowsVats script) (cuts : NoticesFollowCuts script.schedule) (honest : ℕ → Bool) (all : (v : ℕ) → honest v ≡ true) where
   carries : (n : Note Name) → DeliversNothing n → CarriesAreTales script honest n
   carries (Deliver d n verb ys) silent = absurd silent
-  carries (Open i n) silent = left.opens i n
+  carries (Open i n) silent = opens_are_tales script once vats cuts honest all i n
   carries (Ask p i n) silent = asks_are_tales script once vats cuts honest all p i n
-  carries (SettledTo n (Plain v)) silent = left.settled n v
-  carries (SettledTo n (AGift h i)) silent = gifts_are_tales script honest n h i
-  carries (SettledTo n (Many ys)) silent = left.lists n ys
+  carries (SettledTo n y) silent = settled_carries_are_tales script once vats cuts honest all n y
   carries (Elsewhere n c) silent = elsewhere_are_tales script once vats cuts honest all n c
   carries (Shorten n c i) silent = shortens_are_tales script once vats cuts honest all n c i
 
-pub left_are_enough : LeftAreEnough
-left_are_enough script once vats cuts honest all left = tales_are_ordered script honest (kinds_are_enough script honest (record {
-  opening = left.openings;
-  turns = left.turns;
-  messages = carries_of_messages_are_tales script once vats cuts honest all;
-  carries = carries script once vats cuts honest all left;
-  notices = notices_are_tales script once vats cuts honest all;
-}))
+pub runs_are_ordered : RunsAreOrdered
+runs_are_ordered script once vats cuts =
+    let honest : ℕ → Bool = λ v. true in let all : ((v : ℕ) → honest v ≡ true) = λ v. refl in
+    tales_are_ordered script honest (kinds_are_enough script honest (record {
+      opening = openings_are_tales script once vats cuts honest all;
+      turns = turns_are_tales script once vats cuts honest all;
+      messages = carries_of_messages_are_tales script once vats cuts honest all;
+      carries = carries script once vats cuts honest all;
+      notices = notices_are_tales script once vats cuts honest all;
+    }))

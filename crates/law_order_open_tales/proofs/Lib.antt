@@ -1,0 +1,13 @@
+pub mod Leaving
+pub mod Flags
+pub mod Waits
+pub mod Opening
+pub mod Steadies
+pub mod Grown
+pub mod Knows
+pub mod Settles
+pub mod Holding
+pub mod Led
+pub mod Resolved
+pub mod Rested
+pub mod Laws

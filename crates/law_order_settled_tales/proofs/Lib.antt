@@ -1,0 +1,10 @@
+pub mod Heard
+pub mod Begins
+pub mod Learning
+pub mod Entries
+pub mod Learnt
+pub mod Aims
+pub mod Waits
+pub mod Settles
+pub mod Known
+pub mod Laws
