@@ -12,5 +12,6 @@ pub mod Fates
 pub mod Reach
 pub mod Severed
 pub mod Uses
+pub mod Order
 pub mod Unread
 pub mod Generated

@@ -7,7 +7,8 @@ use Rattle.def_machine.specs.State.{Stop, Astray, Vat, is_in}
 use Rattle.def_machine.specs.Refs.{follow}
 use Rattle.def_run.specs.World as machine
 use Rattle.def_run.specs.World.{Program, Entry, NoticeLink, World, Goes, Stopped, begins, names, open_from, run, steps_from}
-use Rattle.def_run.specs.Text.{text}
+use Rattle.def_run.specs.Text.{text, history_of}
+use Rattle.def_trace.specs.Order.{JudgesOrder}
 use Rattle.def_trace.specs.Uses.{JudgesUses}
 use Rattle.ev_trace.specs.Reading as trace
 use Rattle.law_machine.specs.Breaks.{settled_value, SeveredStays}
@@ -20,6 +21,7 @@ use Rattle.law_fate.specs.Carry.{carries}
 use Rattle.law_frozen.specs.Runs.{ReachIsFrozenIn}
 use Rattle.law_connected.specs.Begotten.{LinesConnected, TakenBegotten}
 use Rattle.law_connected.specs.UseLaws.{RunConnected}
+use Rattle.law_order.specs.Order.{Ordered}
 use Rattle.law_text.specs.Runs.{events_of}
 use Rattle.law_read_texts.specs.Runs.{TellsLowOf, trace_of}
 use Rattle.ev_scope.specs.declared.accepted.Scoped.{Scoped}
@@ -97,6 +99,16 @@ HoldsUses script = JudgesUses (events_of (run script)) None × JudgesUses (trace
 
 abbrev pub RunsHoldUses : Option Command → List ℕ → Type 0
 RunsHoldUses command input = (script : machine.Script) → IsToRun command input script → HoldsUses script
+
+-- ---- order
+
+-- In that run no object takes a message before each that is before it was taken: what was sent first on a reference, also by who handed it on, comes first.
+-- So it is by the lines of its text, as `check` judges the order of messages: neither in the history nor in what is read of the text is a message taken too early.
+abbrev pub HoldsOrder : machine.Script → Type 0
+HoldsOrder script = Ordered (history_of (run script)) × JudgesOrder (events_of (run script)) None × JudgesOrder (trace_of script (run script)).history None
+
+abbrev pub RunsHoldOrder : Option Command → List ℕ → Type 0
+RunsHoldOrder command input = (script : machine.Script) → IsToRun command input script → HoldsOrder script
 
 -- ---- partitions
 

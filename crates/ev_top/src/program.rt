@@ -9,7 +9,7 @@ ghost use Rattle.def_machine.specs.State.{Fuel, Deep};
 ghost use Rattle.ev_reader.specs.declared.fault.Stage.{Stage as Part};
 ghost use Rattle.ev_top.specs.Causes.{Breaks, ComesWhere, Follows, HasFault, HasNoTree, IsAstray, IsLong, IsProgramRefused, RepeatsWord, Stops};
 ghost use Rattle.ev_top.specs.Due.{IsDue, IsOfWhole, IsReading, Pays, IsOfRead, Finishes, MayRun, Reads, ReadsFor, Settles, debt_of};
-ghost use Rattle.ev_top.specs.Headline.{MessagesHaveOneFate, RunsHoldUses, SeveredStaysBroken, StampedReachFrozenAlone, StopsAsItCame, SumsUp, UsesAreConnected};
+ghost use Rattle.ev_top.specs.Headline.{MessagesHaveOneFate, RunsHoldOrder, RunsHoldUses, SeveredStaysBroken, StampedReachFrozenAlone, StopsAsItCame, SumsUp, UsesAreConnected};
 ghost use Rattle.ev_top.specs.Programs.{refusal};
 
 use crate::command::{Command, command_of, reads};
@@ -213,6 +213,8 @@ pub fn top<S: Source, K: Sink>(alloc: Global, words: &Seq<Str>, src: &mut S, out
     ensures connected { IfSome (S.left src.old) (λ input. UsesAreConnected (command_of words.now) input) }
     // So it is by the lines of its text alone: the judge of uses, whose answer check tells, finds none that fails.
     ensures uses { IfSome (S.left src.old) (λ input. RunsHoldUses (command_of words.now) input) }
+    // In that run messages are taken in the order in which they were sent, also on a reference that was handed on.
+    ensures order { IfSome (S.left src.old) (λ input. RunsHoldOrder (command_of words.now) input) }
     // In that run a reference that is broken or severed by a partition stays so.
     ensures severed { IfSome (S.left src.old) (λ input. SeveredStaysBroken (command_of words.now) input) }
     // Where that run stops, what is left of it is what it came to before the step that stopped.
