@@ -62,31 +62,40 @@ def head_of(name):
     return ' '.join(words)
 
 
-def functions(name):
-    """The public functions of a crate: name, words, names of clauses."""
+def functions_in(path):
+    """The public functions of a file: name, words, names of clauses."""
     found = []
-    for path in sources(name):
-        words, clauses, current = [], [], None
-        for line in read(path).splitlines():
-            text = line.strip()
-            opened = re.match(r'(    )?pub (?:const )?fn (\w+)', line)
-            if opened:
-                current = (opened[2], ' '.join(words), [])
-                found.append(current)
-                words = []
-            elif text.startswith('///'):
-                words.append(text[3:].strip() or ' ')
-            elif text.startswith('#['):
-                pass
-            elif current and re.match(r'ensures\b', text):
-                clause = re.match(r'ensures (\w+) \{', text)
-                if clause:
-                    current[2].append(clause[1])
-            elif text in ('{', '{}') or text.endswith('{') and not text.startswith(('ensures', 'requires', 'ghost')):
-                current, words = None, []
-            elif text and not text.startswith(('ghost', '//', 'requires', 'ensures', '×', '→', ')', '(')):
-                words = []
+    words, clauses, current = [], [], None
+    for line in read(path).splitlines():
+        text = line.strip()
+        opened = re.match(r'(    )?pub (?:const )?fn (\w+)', line)
+        if opened:
+            current = (opened[2], ' '.join(words), [])
+            found.append(current)
+            words = []
+        elif text.startswith('///'):
+            words.append(text[3:].strip() or ' ')
+        elif text.startswith('#['):
+            pass
+        elif current and re.match(r'ensures\b', text):
+            clause = re.match(r'ensures (\w+) \{', text)
+            if clause:
+                current[2].append(clause[1])
+        elif text in ('{', '{}') or text.endswith('{') and not text.startswith(('ensures', 'requires', 'ghost')):
+            current, words = None, []
+        elif text and not text.startswith(('ghost', '//', 'requires', 'ensures', '×', '→', ')', '(')):
+            words = []
     return found
+
+
+def functions(name):
+    """Those of a crate."""
+    return [it for path in sources(name) for it in functions_in(path)]
+
+
+def words_of(path):
+    """The `//!` lines of a file, which may say what all of its laws ask."""
+    return ' '.join(line[3:].strip() for line in read(path).splitlines() if line.startswith('//!'))
 
 
 def edits(name):
@@ -204,9 +213,13 @@ def check():
 def tell(names):
     for name in names:
         print(f'{name}: {head_of(name)}')
-        for function, words, clauses in functions(name):
-            print(f'\n  {function}' + (f' [{", ".join(clauses)}]' if clauses else ''))
-            print('    ' + re.sub(r'\s{2,}', '\n    ', words.strip()))
+        for path in sources(name):
+            found = functions_in(path)
+            if found and os.path.basename(path) not in ('lib.rt', 'main.rt'):
+                print(f'\n  {os.path.basename(path)}: {words_of(path)}')
+            for function, words, clauses in found:
+                print(f'\n  {function}' + (f' [{", ".join(clauses)}]' if clauses else ''))
+                print('    ' + re.sub(r'\s{2,}', '\n    ', words.strip()))
         print()
 
 

@@ -6,7 +6,9 @@ ghost use Rattle.law_hearing.specs.Received.{NextNotesAreReceived};
 /// sender has no number for a gift that it asks for: where the next word was not drawn before, and where a note that tells
 /// what a gift is, or what a name settled to, tells something new.
 ///
-/// So no news of an honest vat leads back to a gift that the receiver has.
+/// That the receiver knows no gift under the next word, and the sender has no number for the gift, is asked of the sight and not
+/// shown. No vat of the script may be told twice that it knows a vat, or that it knows itself, and each
+/// notice stands behind a cut of the same two vats.
 pub fn next_notes_are_received()
     ensures { NextNotesAreReceived }
 {}

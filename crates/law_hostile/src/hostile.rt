@@ -1,4 +1,6 @@
 //! What holds in every world that is reached, whichever vats are hostile.
+//! All but the laws on settlings and notices that stay, and the rows, ask that no vat of the script is told twice that it knows
+//! a vat, or that it knows itself.
 
 ghost use Rattle.law_hostile.specs.Hostile.{NamesAreKnown};
 ghost use Rattle.law_hostile.specs.Hostile.{NotesNameWhatWasMade};

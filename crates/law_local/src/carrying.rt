@@ -1,4 +1,6 @@
 //! The carry of a frame.
+//! No vat of the script may be told twice that it knows a vat, or that it knows itself, and each notice
+//! stands behind a cut of the same two vats.
 
 ghost use Rattle.law_local.specs.Carrying.{CarriesMirror};
 

@@ -1,4 +1,6 @@
 //! What a vat hears by its own numbers in a frame that is carried.
+//! No vat of the script may be told twice that it knows a vat, or that it knows itself, and each notice
+//! stands behind a cut of the same two vats.
 
 ghost use Rattle.law_local.specs.Hearing.{FramesAreHeardByNumbers};
 

@@ -44,6 +44,8 @@ pub fn writings_mirror()
 
 /// In every world of every run each vat has put what the law on what a step puts asks for: it is in its place and knows true hosts, no note names or
 /// asks for a message as a reference, and each says what the answer that it asks for is called.
+///
+/// No vat of the script may be told twice that it knows a vat, or that it knows itself.
 pub fn each_puts_so()
     ensures { EachPutsSo }
 {}

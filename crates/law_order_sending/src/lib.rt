@@ -43,6 +43,8 @@ pub fn earlier_states_agree()
 /// In every run, as a step of a vat begins, the vat can pass what it has in hand to each other vat: what leads on leads over
 /// links that are there, or to vats that are not; no vat knows a gift under a word that was not drawn; and each name of its
 /// own that waits is unknown to the other vat, or unsettled there, or broken.
+///
+/// No vat of the script may be told twice that it knows a vat, or that it knows itself.
 pub fn vats_can_pass()
     ensures { VatsCanPass }
 {}

@@ -1,4 +1,4 @@
-//! What a vat has for its peers, and what it writes and hears by that, are what the machine's run in numbers has.
+//! What a vat has for its peers stays in order, and what it writes by that are the frames of the machine's run in numbers.
 #![tactic(auto)]
 
 pub mod laws;

@@ -62,7 +62,8 @@ pub fn gifts_come_new()
 {}
 
 /// So the notes of a run bring what is new, as `names_are_known_once` asks of them, where the gifts of
-/// each note that arrives stand apart: of all other names `law_reference` says it of every run.
+/// each note that arrives stand apart: of all other names `notes_bring_new_but_gifts` says it of every run.
+/// No vat of the script may be told twice that it knows a vat, or that it knows itself.
 pub fn notes_bring_new_where_gifts_stand_apart()
     ensures { NewWhereApart }
 {}

@@ -5,7 +5,8 @@ ghost use Rattle.law_reference.specs.Waits.{CycleTestsSuffice, ListTestsSuffice,
 /// Waits and views end: from each name one comes, by no more waits and views than there are names
 /// known, to a name that neither waits on another nor is viewed. So no chain of them has a ring.
 ///
-/// It is said of each vat, in every world of a run, that knows no name twice.
+/// It is said of each vat, in every world of a run, that knows no name twice. No vat of the script may be told twice that it
+/// knows a vat, or that it knows itself.
 pub fn waits_end()
     ensures { WaitsEndInRuns }
 {}
@@ -13,6 +14,7 @@ pub fn waits_end()
 /// They end in every vat after any of the opening turns, and after all of them and any entries of a
 /// schedule by which each note that arrives brings each name once at most, and none that is claimed
 /// at the receiver or that one of the two has not numbered yet: there each vat knows each name once.
+/// No vat of the script may be told twice that it knows a vat, or that it knows itself.
 pub fn waits_end_where_notes_bring_new()
     ensures { WaitsEndWhereNotesBringNew }
 {}

@@ -1,4 +1,6 @@
 //! What each step of the run in numbers keeps, where that run mirrors the machine's.
+//! No vat of the script may be told twice that it knows a vat, or that it knows itself; but for
+//! runs_are_shown_steadily each notice stands behind a cut of the same two vats.
 
 ghost use Rattle.law_steady.specs.Statements.{EachAsksOnce, LawfulRunsAreSteady, RunsAreShownSteadily, RunsAreSteady, RunsAreSteadyWhereTheyAskAnew};
 

@@ -1,4 +1,5 @@
 //! The lines of a run can be told step by step, before what follows is known.
+//! No vat of the script may be told twice that it knows a vat, or that it knows itself.
 
 ghost use Rattle.law_stops.specs.Lines.{LinesAreShownSoFar, OpeningTurnsShowLinesSoFar, RunsShowLinesSoFar, TextsAreWrittenSoFar};
 

@@ -1,5 +1,7 @@
 //! A step that stops in the one machine stops so in the numbers of the vat whose step it is. With the laws of
 //! the steps that go on (`law_frame`) each step of a run has its counterpart in numbers, the last one too.
+//! No vat of the script may be told twice that it knows a vat, or that it knows itself; but for opening turns
+//! each notice stands behind a cut of the same two vats. stops_are_of_vats asks neither.
 
 ghost use Rattle.law_stops.specs.Stops.{StopsByNumbers, StopsAreOfVats, StopsAreTakenInNumbers, StopsInNumbersStop, StoppedRunsByNumbers, OpeningStopsInNumbersStop, OpeningTurnsStopByNumbers};
 

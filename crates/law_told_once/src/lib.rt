@@ -1,4 +1,4 @@
-//! What notes tell for good they tell once: where a name settled, and what a gift is.
+//! Where a name settled notes tell once, and what they tell of a name or a gift did not settle where they go, but to a broken reference.
 #![tactic(auto)]
 
 ghost use Rattle.law_told_once.specs.New.{NewsIsNew};

@@ -1,4 +1,4 @@
-//! That the lines of every run use only what is known by the lines.
+//! Messages are taken and carried in every run with what its lines say they were sent with.
 #![tactic(auto)]
 
 ghost use Rattle.law_uses.specs.Made.{ThingsAreMadeOnceInRuns};
