@@ -6,6 +6,5 @@ pub mod Telling
 pub mod Beside
 pub mod Homes
 pub mod TrueNotes
-pub mod Wholes
 pub mod Asked
 pub mod Views

@@ -7,7 +7,7 @@ use Rattle.def_machine.specs.State.{Standing, Unsettled, WaitsOn, Viewed, Settle
 use Rattle.def_machine.specs.Refs as refs
 use Rattle.def_machine.specs.Refs.{Mine, Away}
 use Rattle.def_run.specs.World.{Script, names}
-use Rattle.law_order.specs.Ways.{Lane, Place, Nowhere, Free, End, Mid, Queue, Held, Way}
+use Rattle.law_order.specs.Ways.{Place, Nowhere, End, Queue, Held, Way}
 use Rattle.law_order.specs.Places.{aimed, by_host, by_follow, of_name, leads_in}
 use Rattle.law_order.specs.Worlds.{IsWaiting, IsObject, IsFixed}
 use Rattle.law_order.specs.Settle.{aimed_at}
@@ -40,17 +40,9 @@ module _ (v : ℕ) (n : Name) (e : Place) where
   unfolding told_by
   tells_held u q m = refl
 
-  pub tells_mid : (l : Lane) (b : _) (m : Name) → told_by v n e (Mid l b m) ≡ Mid l b m
-  unfolding told_by
-  tells_mid l b m = refl
-
   pub tells_nowhere : told_by v n e Nowhere ≡ Nowhere
   unfolding told_by
   tells_nowhere = refl
-
-  pub tells_free : told_by v n e Free ≡ Free
-  unfolding told_by
-  tells_free = refl
 
 abbrev IsRef : Value Name → Type 0
 IsRef (Ref n) = Unit {0}
@@ -307,11 +299,6 @@ module _ (script : Script) (honest : ℕ → Bool) (v h : ℕ) (s t : Vat Name) 
   unfolding leads_in refs.follow_at
   leads_on (Ref m) = name_on m (refs.entry_of K s.known m) (refs.entry_of K t.known m) refl (paired m (is_name m n)) (is_object m)
   leads_on other = data_on other (λ i. i) refl
-
-  -- a name to which y leads, or y itself, leads to where y leads
-  pub told_leads : (d : ℕ) → refs.follow_at K (suc d) t.known (Ref n) ≡ y
-  unfolding refs.follow_at
-  told_leads d = ap (λ q. refs.led K (λ z. refs.follow_at K d t.known z) n q) stands ∙ led_on (λ z. refs.follow_at K d t.known z) g.only.after.standing g.only.leads ∙ g.ended d
 
 -- ---- another vat
 

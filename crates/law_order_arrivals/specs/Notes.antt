@@ -1,11 +1,10 @@
 -- What notes tell of names is so at their senders, and what is ahead as a vat is told by them.
-use Rattle.std.specs.Prelude.{◌≡◌, ℕ, Bool, true, List, [], ◌∷◌, Some, slice_get, ◌⊎◌}
+use Rattle.std.specs.Prelude.{◌≡◌, ℕ, Bool, true, List, Some, slice_get, ◌⊎◌}
 use Rattle.def_machine.specs.Values.{Value, Ref, Name, host_of}
-use Rattle.def_machine.specs.State.{Passed, Plain, Note, Deliver, Open, Ask, SettledTo, Elsewhere, Shorten, Vat}
-use Rattle.def_run.specs.World.{Script, Link, World}
+use Rattle.def_machine.specs.State.{Vat}
+use Rattle.def_run.specs.World.{Script, World}
 use Rattle.law_order.specs.Ways.{Queue, Way, Item, Place, Nowhere, End, Mid, Doom}
 use Rattle.law_order.specs.Turns.{Within, Comes}
-use Rattle.law_order.specs.Places.{leads}
 use Rattle.law_order.specs.Worlds.{IsObject}
 use Rattle.law_order.specs.Settle.{aimed_at}
 use Rattle.law_order.specs.Steps.{WaysAmid, LeadsAmid}
@@ -13,33 +12,9 @@ use Rattle.law_order_arrivals.specs.Tellings.{IsTidy, IsToldOf, KeepsTold, Keeps
 
 -- ---- what notes tell is so
 
--- an object of vat a in its queue, or nowhere: where a name leads at a that settled there to an object of a, or to data
-abbrev pub EndsAt : ℕ → Passed Name → Place → Type 0
-EndsAt a (Plain (Ref o)) c = IsObject o × (host_of o ≡ a) × (c ≡ End (Queue a) o)
-EndsAt a y c = c ≡ Nowhere
-
 -- over the link from a to h on an object, or nowhere: where a name leads at a that settled there to an object of h
 abbrev pub EndsOver : ℕ → ℕ → Place → Type 0
 EndsOver a h c = ((o : Name) × (c ≡ End (Way a h) o)) ⊎ (c ≡ Nowhere)
-
-module _ (script : Script) (honest : ℕ → Bool) (w : World) where
-  -- What a note from vat a tells of a name is so at that vat.
-  abbrev pub IsTrueOf : ℕ → Note Name → Type 0
-  IsTrueOf a (SettledTo n y) = EndsAt a y (leads script honest w.vats w.links a (Ref n))
-  IsTrueOf a (Elsewhere n h) = EndsOver a h (leads script honest w.vats w.links a (Ref n))
-  IsTrueOf a (Deliver m n verb ys) = Unit {0}
-  IsTrueOf a (Open i n) = Unit {0}
-  IsTrueOf a (Ask p i n) = Unit {0}
-  IsTrueOf a (Shorten n c i) = Unit {0}
-
-  abbrev pub AreTrueOf : ℕ → List (Note Name) → Type 0
-  AreTrueOf a [] = Unit {0}
-  AreTrueOf a (n ∷ ns) = IsTrueOf a n × AreTrueOf a ns
-
-  -- so it is with all notes under way from honest vats
-  abbrev pub NotesAreTrue : (honest : ℕ → Bool) → List Link → Type 0
-  NotesAreTrue honest [] = Unit {0}
-  NotesAreTrue honest (l ∷ ls) = (honest l.from ≡ true → AreTrueOf l.from l.notes) × NotesAreTrue honest ls
 
 -- ---- laws
 

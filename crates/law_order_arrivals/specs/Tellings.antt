@@ -166,8 +166,3 @@ ToldPassingsKeep = (script : Script) (honest : ℕ → Bool) (w : World) (v h : 
     → Reroutes (WaysAmid script honest w v s) (WaysAmid script honest w v t) (End (Way v h) n) (aimed_at script v t y)
     → ((m : Name) → host_of m ≡ v → Follows (WaysAmid script honest w v s) (LeadsAmid script honest w v s v (Ref m)) (End (Way v h) n) → Follows (WaysAmid script honest w v t) (LeadsAmid script honest w v s v (Ref m)) (aimed_at script v t y))
     → KeepsPassings script honest w v s t
-
--- opens the definitions of this file
-unfoldable pub opened_tellings : Unit {0}
-unfolding owned told_by
-opened_tellings = tt

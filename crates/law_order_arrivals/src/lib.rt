@@ -4,4 +4,3 @@
 pub mod example;
 pub mod tell;
 pub mod view;
-pub mod whole;

@@ -3,7 +3,6 @@ pub mod Kept
 pub mod Lines
 pub mod Links
 pub mod Lost
-pub mod News
 pub mod PassWalk
 pub mod Passed
 pub mod ReactStep

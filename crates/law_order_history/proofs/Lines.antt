@@ -10,11 +10,6 @@ use Rattle.law_order_history.specs.Lines.{counts, AllQuiet, with_first, sends_it
 
 -- ---- members of lists
 
-pub among_left : {A : Type 0} (x : A) (xs ys : List A) → IsAmong x xs → IsAmong x (xs ++ ys)
-among_left x [] ys h = absurd h
-among_left x (z ∷ xs) ys (inl e) = inl e
-among_left x (z ∷ xs) ys (inr h) = inr (among_left x xs ys h)
-
 pub among_either : {A : Type 0} (x : A) (xs ys : List A) → IsAmong x (xs ++ ys) → IsAmong x xs ⊎ IsAmong x ys
 among_either x [] ys h = inr h
 among_either x (z ∷ xs) ys (inl e) = inl (inl e)
@@ -102,11 +97,6 @@ unfolding reached
 reached_more m es o fs h = reached_append m [] [] es (with_first o fs) ∙ reached_first m es (reached_by m [] [] es) o fs h
 
 -- ---- comings
-
--- the first that is told
-first_told : Option Coming → Option Coming → Option Coming
-first_told (Some d) o = Some d
-first_told None o = o
 
 told_first : (o p : Option Coming) (c : Coming) → elim o [ Some d ↦ Some d | None ↦ p ] ≡ Some c → (o ≡ Some c) ⊎ ((o ≡ None) × (p ≡ Some c))
 told_first (Some d) p c h = inl h

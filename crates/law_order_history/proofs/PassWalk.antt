@@ -1,10 +1,9 @@
 -- The walk over what passes as the arguments of a message: whatever is kept as single names pass is kept as they all do, and what is said of each name that passes is said of each in them.
 use Rattle.std.proofs.Common.{◌≡◌, ℕ, zero, suc, ◌-◌, Bool, true, false, List, [], ◌∷◌, Option, Some, None, refl, sym, subst, ◌∙◌, inl, inr, codes, nat_le}
-use Rattle.def_machine.specs.Values.{Words, Value, Null, Prim, Broken, Items, Ref, Name, Gift, Naming}
+use Rattle.def_machine.specs.Values.{Words, Value, Null, Broken, Items, Ref, Name, Gift, Naming}
 use Rattle.def_machine.specs.State.{Passed, Passeds, Plain, AGift, Many, NoMore, More, Vat, Done, Gives, Act, ◌>>=◌, ◌>>◌, and_then, give, look, spend, spent}
 use Rattle.def_machine.specs.Native.{list_at}
 use Rattle.def_machine.specs.Refs as refs
-use Rattle.def_machine.specs.Refs.{Place, Near, Mine, Away}
 use Rattle.def_run.specs.World.{Script, Event, World, names}
 use Rattle.law_name.specs.Names.{IsAmong}
 use Rattle.law_order.specs.Steps.{IsHeld}

@@ -4,7 +4,7 @@ use Rattle.std.proofs.lemmas.Bool.{eq-eqb}
 use Rattle.std.proofs.lemmas.List.{append-nil, append_assoc}
 use Rattle.std.specs.Prelude.{slice_get}
 use Rattle.def_machine.specs.Values.{Value, Null, Flag, Number, Letter, Text, Prim, Broken, Items, Ref, Name, Object, Gift, Naming, host_of, key}
-use Rattle.def_machine.specs.State.{Known, Standing, Settled, Put, Passed, Passeds, Plain, AGift, Many, NoMore, More, Open, ToTell, Vat, Done, Gives, Act, ◌>>=◌, ◌>>◌, and_then, give, look, spend, spent, draw, draws, drawn_at, send_out, alter}
+use Rattle.def_machine.specs.State.{Known, Standing, Settled, Put, Passed, Passeds, Plain, AGift, Open, ToTell, Vat, Act, ◌>>=◌, ◌>>◌, and_then, give, draw, draws, drawn_at, send_out, alter}
 use Rattle.def_machine.specs.State as state
 use Rattle.def_machine.specs.Refs as refs
 use Rattle.def_machine.specs.Refs.{Place, Near, Mine, Away}
@@ -26,7 +26,7 @@ use Rattle.law_order.proofs.Brought.{over_link, passed_home_is_behind, passed_na
 use Rattle.law_order.proofs.Given.{passed_gift_is_behind}
 use Rattle.law_order_history.specs.Passings.{OnGives, IsThere, IsNoVat, CanPass, IsOpenOrLost, BringsBehind, CameAs, AllCame, ArgumentsPassBehind}
 use Rattle.law_order_history.proofs.PassWalk as walk
-use Rattle.law_order_history.proofs.PassWalk.{bind_gives, map_gives, IsFlat, LeafOf, IsPassing}
+use Rattle.law_order_history.proofs.PassWalk.{map_gives, IsFlat, LeafOf, IsPassing}
 use Rattle.law_order_history.proofs.Lost.{broken_leads, cut_leads, nobody_leads}
 use Rattle.law_order_history.proofs.Refs.{other_put, PlaceOf, own_object, own_name, of_other, place_is, leads_again}
 

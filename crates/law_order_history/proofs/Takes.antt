@@ -43,17 +43,6 @@ untaken_is_after a b (e ∷ es) h = go (takes_it a e) (object_takes_it b e) (unt
     go false true f k = absurd (cc)
     go false false f k = f k
 
--- An object took it, and not too early: so the other was taken.
-pub after_was_taken : (a b : Name) (es : List Event) → was_taken_by_object b es ≡ true → taken_after a b es ≡ true → was_taken a es ≡ true
-unfolding was_taken_by_object taken_after was_taken
-after_was_taken a b [] h k = h
-after_was_taken a b (e ∷ es) h k = go (takes_it a e) (object_takes_it b e) (after_was_taken a b es) h k
-  where
-    go : (s t : Bool) → (was_taken_by_object b es ≡ true → taken_after a b es ≡ true → was_taken a es ≡ true) → (t || was_taken_by_object b es) ≡ true → elim s [ true ↦ true | false ↦ not t && taken_after a b es ] ≡ true → (s || was_taken a es) ≡ true
-    go true t f i j = refl
-    go false true f i j = absurd (cc)
-    go false false f i j = f i j
-
 -- More lines: the first was taken before them, or in them none is taken too early.
 pub after_more : (a b : Name) (es fs : List Event) → taken_after a b es ≡ true → (was_taken a es ≡ true) ⊎ (taken_after a b fs ≡ true) → taken_after a b (es ++ fs) ≡ true
 unfolding taken_after was_taken

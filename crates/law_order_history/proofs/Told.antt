@@ -2,7 +2,7 @@
 use Rattle.std.proofs.Common.{List, [], ◌++◌, refl, sym, ◌∙◌, append_assoc}
 use Rattle.std.proofs.lemmas.List.{append-nil}
 use Rattle.def_run.specs.World as world
-use Rattle.def_run.specs.World.{Script, Event, World, Goes}
+use Rattle.def_run.specs.World.{Script, Event, World}
 use Rattle.law_order_history.specs.Told.{IsOfRun, opened, IsTold}
 
 begins_run : (script : Script) → IsOfRun script (world.begins script)

@@ -2,7 +2,6 @@
 #![tactic(auto)]
 
 ghost use Rattle.law_order_history.specs.Laws.{SmallStepsKeep, TalesAreOrdered};
-ghost use Rattle.law_order_history.specs.News.{NewMessagesStay};
 ghost use Rattle.law_order_history.specs.Passings.{ArgumentsPassBehind};
 ghost use Rattle.law_order_history.specs.Reactions.{ReactionsAreSmallSteps};
 ghost use Rattle.law_order_history.specs.Sends.{SendsAreSmallSteps};
@@ -51,10 +50,4 @@ pub fn takes_are_small_steps()
 /// It asks that the vat is ready, and that the history tells of no send of the message that the vat numbers next.
 pub fn reactions_are_small_steps()
     ensures { ReactionsAreSmallSteps }
-{}
-
-/// The messages that a vat numbers next stay new to the history: as lines are told that do not count, as the vat sends the first
-/// of them, from the next number on, and as another message is taken.
-pub fn new_messages_stay()
-    ensures { NewMessagesStay }
 {}

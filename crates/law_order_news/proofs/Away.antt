@@ -1,26 +1,18 @@
--- A name of another vat settles, and those that wait for it settle in order: so order is kept through the whole settling.
+-- A name of another vat settles: what settled stays as it is, and what nothing waits for settles alone.
 use Rattle.std.proofs.Common.{◌≡◌, ℕ, suc, Bool, List, [], ◌∷◌, ◌++◌, Option, Some, None, length, refl, sym, ap, subst, ◌∙◌}
 use Rattle.def_machine.specs.Values.{Value, Name, Naming}
-use Rattle.def_machine.specs.State.{Message, Known, Standing, Unsettled, Settled, Settle, Settles, Vat, Done, changed, changed_to, unless_settled}
+use Rattle.def_machine.specs.State.{Message, Known, Standing, Unsettled, Settled, Settle, Settles, Vat, changed, changed_to, unless_settled}
 use Rattle.def_machine.specs.State as state
 use Rattle.def_machine.specs.Refs as refs
 use Rattle.def_machine.specs.Refs.{entry_of}
 use Rattle.def_run.specs.World.{Script, World, names}
-use Rattle.law_order.specs.Ways.{Held, Item, Mid, Ways}
 use Rattle.law_order.specs.Worlds.{IfGives, FollowsEnd}
 use Rattle.law_order.specs.Settle.{settled_to}
 use Rattle.law_order.specs.Settlings.{with_line}
-use Rattle.law_order.specs.Steps.{WaysAmid, LeadsAmid, IsSentOn, still_held, sent_there, now_lost, KeepsOrder, StaysInOrder}
-use Rattle.law_order.proofs.Adds.{adds_nothing, adds_message}
 use Rattle.law_order.proofs.Entries.{Differs, as_it_was, changes, differs, same_length}
-use Rattle.law_order.proofs.Messages.{behind_then}
-use Rattle.law_order.proofs.Remaining.{order_then}
-use Rattle.law_order.proofs.Sends.{entry_changed, if_map, chain}
-use Rattle.law_order.proofs.Whole.{kept_adds}
+use Rattle.law_order.proofs.Sends.{entry_changed, chain}
 use Rattle.law_order_arrivals.specs.Tellings.{StandsSo, IsTold}
-use Rattle.law_order_arrivals.specs.Notes.{KeepsAll}
-use Rattle.law_order_arrivals.specs.Wholes.{KeepsOwnOrder, IsIdle}
-use Rattle.law_order_arrivals.proofs.Tidy.{owned_held}
+use Rattle.law_order_arrivals.specs.Wholes.{IsIdle}
 
 module _ (script : Script) (v : ℕ) (s : Vat Name) (n : Name) (y : Value Name) (k : Known Name) (known : entry_of (names script v) s.known n ≡ Some k) (waits : k.standing ≡ Unsettled) (empty : k.held ≡ []) where
   abbrev N : Naming Name Name
@@ -71,84 +63,6 @@ module _ (script : Script) (honest : ℕ → Bool) (w : World) (v : ℕ) where
   abbrev K : Naming Name Name
   K = names script v
 
-  abbrev W : Vat Name → Ways
-  W s = WaysAmid script honest w v s
-
-  abbrev Kept : Vat Name → Vat Name → Type 0
-  Kept s t = StaysInOrder script honest w v s t
-
-  module _ (s t u : Vat Name) (first : KeepsAll script honest w v s t) (last : KeepsOrder script honest w v t u) where
-    held_after : (m p : Name) (b : List Item) (n : Name) → IsSentOn script honest w v t u m p b n → IsSentOn script honest w v s u m p b n
-    held_after m p b n (still_held i) = still_held i
-    held_after m p b n (sent_there {l = l} {a = a} {o = o} c j k) = sent_there c j (behind_then (W s) (W t) (W u) (Mid (Held v p) b n) (Mid (Held v p) b n) (Mid l a o) (first.1 (Held v p) b n (λ i h. owned_held v p i.aim)) k)
-    held_after m p b n (now_lost i) = now_lost i
-
-    pub told_then : KeepsOwnOrder script honest w v s u
-    told_then = record {
-      references = λ k x. behind_then (W s) (W t) (W u) (LeadsAmid script honest w v s k x) (LeadsAmid script honest w v t k x) (LeadsAmid script honest w v u k x) (first.0.references k x) (last.references k x);
-      passings = λ l b m i. behind_then (W s) (W t) (W u) (Mid l b m) (Mid l b m) (Mid l b m) (first.1 l b m i) (last.places l b m);
-      apart = λ m l b n i h. last.apart m l b n i (first.0.stands m l b n h);
-      held = λ m p b n h. held_after m p b n (last.held m p b n (first.0.stands m (Held v p) b n h));
-    }
-
-  kept_self : (s : Vat Name) → Kept s s
-  kept_self s = kept_adds script honest w v s s (adds_nothing K s s refl refl refl refl refl refl, refl, refl, refl)
-
-  from_there : {A : Type 0} (s t : Vat Name) (d : Done Name A) → Kept s t → IfGives (λ u. Kept t u) d → IfGives (λ u. Kept s u) d
-  from_there s t d g h = if_map (λ u. Kept t u) (λ u. Kept s u) (λ u i. order_then script honest w v s t u g i) d h
-
-  -- the reactions are queued
-  reacts : (ms : List (Message Name)) (s : Vat Name) → IfGives (λ t. Kept s t) (state.each state.enqueue ms s)
-  unfolding state.each state.◌>>◌ state.and_then state.give state.enqueue
-  reacts [] s = kept_self s
-  reacts (m ∷ ms) s = let t : Vat Name = record s { queue = s.queue ++ m ∷ [] } in
-      from_there s t (state.each state.enqueue ms t) (kept_adds script honest w v s t (adds_message K s m, refl, refl, refl)) (reacts ms t)
-
-  module _ (s : Vat Name) (n : Name) (y : Value Name) (k : Known Name) (idle : IsIdle script honest w v k) (d : ℕ) where
-    abbrev Settler : Name → Value Name → state.Act Name (Unit {0})
-    Settler q z = refs.settle_at K d q z
-
-    abbrev Told : Vat Name
-    Told = settled_to K (with_line s (Settles n y)) n y
-
-    module _ (first : KeepsAll script honest w v s Told) (waiters : IfGives (λ t. Kept Told t) (state.each (λ q. Settler q y) k.waiting Told)) where
-      abbrev Ended : Vat Name → Type 0
-      Ended u = KeepsOwnOrder script honest w v s u
-
-      abbrev Rest : Vat Name → Done Name (Unit {0})
-      Rest t = state.and_then (state.each (λ q. Settler q y) k.waiting t) (λ a. λ u. state.and_then (state.each state.enqueue k.reactions u) (λ b. state.each (refs.inform K n) k.told))
-
-      none_held : IfGives (λ t. t ≡ Told) (state.each (refs.send_on K (λ q z. Settler q z)) k.held Told)
-      unfolding state.each state.give
-      none_held = subst (λ ms. IfGives (λ t. t ≡ Told) (state.each (refs.send_on K (λ q z. Settler q z)) ms Told)) (sym idle.1) refl
-
-      none_told : (u : Vat Name) → Kept Told u → IfGives (λ t. Kept Told t) (state.each (refs.inform K n) k.told u)
-      unfolding state.each state.give
-      none_told u g = subst (λ hs. IfGives (λ t. Kept Told t) (state.each (refs.inform K n) hs u)) (sym idle.2) g
-
-      rest : IfGives (λ t. Kept Told t) (Rest Told)
-      rest = chain (λ t. Kept Told t) (λ t. Kept Told t) (state.each (λ q. Settler q y) k.waiting Told) (λ u. state.and_then (state.each state.enqueue k.reactions u) (λ b. state.each (refs.inform K n) k.told)) waiters
-          (λ u g. chain (λ t. Kept Told t) (λ t. Kept Told t) (state.each state.enqueue k.reactions u) (state.each (refs.inform K n) k.told) (from_there Told u (state.each state.enqueue k.reactions u) g (reacts k.reactions u)) (λ t i. none_told t i))
-
-      rest_kept : (t : Vat Name) → t ≡ Told → IfGives Ended (Rest t)
-      rest_kept t e = subst (λ q. IfGives Ended (Rest q)) (sym e) (if_map (λ u. Kept Told u) Ended (λ u g. told_then s Told u first g.1) (Rest Told) rest)
-
-      known_kept : IfGives Ended (refs.settle_known K (λ q z. Settler q z) n y k s)
-      unfolding refs.settle_known state.◌>>◌ state.and_then state.tell state.alter
-      known_kept = chain (λ t. t ≡ Told) Ended (state.each (refs.send_on K (λ q z. Settler q z)) k.held Told) (λ t. Rest t) none_held (λ t e. rest_kept t e)
-
-      entry_kept : entry_of K s.known n ≡ Some k → IfGives Ended (refs.settle_entry K (λ q z. Settler q z) n y (entry_of K s.known n) s)
-      unfolding refs.settle_entry refs.settle_standing
-      entry_kept e = subst (λ o. IfGives Ended (refs.settle_entry K (λ q z. Settler q z) n y o s)) (sym e) (subst (λ q. IfGives Ended (refs.settle_standing K (λ z a. Settler z a) n y k q s)) (sym idle.0) known_kept)
-
-  -- so order is kept as such a name settles to what x is
-  pub settling_kept : (s : Vat Name) (n : Name) (x : Value Name) (k : Known Name) (idle : IsIdle script honest w v k) → entry_of K s.known n ≡ Some k
-      → let y = refs.target_of K s n x in let t = settled_to K (with_line s (Settles n y)) n y in
-      KeepsAll script honest w v s t → IfGives (λ u. Kept t u) (state.each (λ q. refs.settle_at K (suc (length s.known)) q y) k.waiting t)
-      → IfGives (λ u. KeepsOwnOrder script honest w v s u) (refs.settle K n x s)
-  unfolding refs.settle refs.settle_at refs.settle_one state.◌>>=◌ state.and_then state.look
-  settling_kept s n x k idle e first waiters = entry_kept s n (refs.target_of K s n x) k idle (suc (length s.known)) first waiters e
-
   -- ---- where nothing waits for it
 
   quiet_reacts : (ms : List (Message Name)) (s : Vat Name) → IfGives (λ t. t.known ≡ s.known) (state.each state.enqueue ms s)
@@ -193,9 +107,6 @@ module _ (script : Script) (honest : ℕ → Bool) (w : World) (v : ℕ) where
     alone_entry : entry_of K s.known n ≡ Some k → IfGives Same (refs.settle_entry K (λ q z. At q z) n y (entry_of K s.known n) s)
     unfolding refs.settle_entry refs.settle_standing
     alone_entry e = subst (λ o. IfGives Same (refs.settle_entry K (λ q z. At q z) n y o s)) (sym e) (subst (λ q. IfGives Same (refs.settle_standing K (λ z a. At z a) n y k q s)) (sym idle.0) alone_known)
-
-    pub alone_waiters : IfGives (λ t. Kept Ends t) (state.each (λ q. At q y) k.waiting Ends)
-    alone_waiters = if_map (λ t. t ≡ Ends) (λ t. Kept Ends t) (λ t e. subst (λ z. Kept Ends z) (sym e) (kept_self Ends)) (state.each (λ q. At q y) k.waiting Ends) alone_waits
 
   -- nothing else that is known changes
   pub settles_alone : (s : Vat Name) (n : Name) (x : Value Name) (k : Known Name) → IsIdle script honest w v k → k.waiting ≡ [] → entry_of K s.known n ≡ Some k

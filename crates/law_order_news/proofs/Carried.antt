@@ -1,24 +1,18 @@
 -- A note is carried in a run: where the step comes to, and what is to be shown of its receiver.
-use Rattle.std.proofs.Common.{◌≡◌, ℕ, zero, Bool, List, [], ◌∷◌, ◌++◌, Some, sym, ap, subst, ◌∙◌}
+use Rattle.std.proofs.Common.{◌≡◌, ℕ, zero, Bool, List, [], ◌∷◌, ◌++◌, Some, ap, ◌∙◌}
 use Rattle.std.specs.Prelude.{slice_get}
 use Rattle.def_machine.specs.Values.{Name, Naming}
 use Rattle.def_machine.specs.State.{Note, Vat, Done, Gives}
 use Rattle.def_run.specs.World.{Script, Carry, Entry, Event, World, Goes, begins, open_from, steps_from, step, names, readied}
 use Rattle.law_name.specs.Runs.{KnowsOnce}
 use Rattle.law_order.specs.Places.{delivered}
-use Rattle.law_order.specs.Steps.{Grown}
 use Rattle.law_order.specs.Worlds.{FollowsEnd}
 use Rattle.law_order.specs.Arrivals.{IsSilent}
 use Rattle.law_order.proofs.Sends.{get_put}
-use Rattle.law_order_arrivals.specs.Wholes.{KeepsOwnOrder}
 use Rattle.law_order_runs.proofs.Beginnings.{vats_are_ready}
 use Rattle.law_order_runs.proofs.CarryRuns.{next_step}
 use Rattle.law_order_asks.specs.Asks.{Bears}
 use Rattle.law_order_asks.proofs.Steps as steps
-use Rattle.law_order_news.specs.News.{NewsKeep}
-use Rattle.law_order_news.proofs.Own.{grown_own}
-use Rattle.law_order_news.proofs.Steps.{keeps}
-use Rattle.law_order_news.proofs.Tidiness.{stands_own}
 
 module _ (script : Script) (once : KnowsOnce script) (w x y : World) (es : List Entry) (k a b : ℕ) (m : Note Name) (h : Bears x a b m) (silent : IsSilent m) (bare : (ns : List (Note Name)) → delivered (m ∷ ns) ≡ delivered ns)
     (o : open_from script zero script.vats (begins script) ≡ Goes w) (e : steps_from script es k w ≡ Goes x) (f : steps_from script (es ++ Carry a b ∷ []) k w ≡ Goes y) (honest : ℕ → Bool) where
@@ -37,10 +31,6 @@ module _ (script : Script) (once : KnowsOnce script) (w x y : World) (es : List 
 
   abbrev T : Vat Name
   T = came.0
-
-  -- order is kept from where it grew to
-  pub kept : (s : Vat Name) → Grown script honest x b (readied x h.vat) s → KeepsOwnOrder script honest x b s T → NewsKeep script honest x y b
-  kept s grown g = subst (λ z. NewsKeep script honest x z b) (sym came.3) (keeps script honest x a b m h silent bare T (grown_own script honest x b (readied x h.vat) s T grown g) (stands_own script once w x es k o e honest) came.1)
 
   -- the vat ends ready, so it follows all to an end
   pub ended : FollowsEnd K T

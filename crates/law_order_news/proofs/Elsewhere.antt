@@ -27,7 +27,6 @@ use Rattle.law_order.specs.Worlds.{IfGives, IsObject, FollowsEnd}
 use Rattle.law_order.specs.Places.{delivered, opened_there, leads, leads_at, amid}
 use Rattle.law_order.proofs.Below.{key_is_new}
 use Rattle.law_order.proofs.News.{came_ends}
-use Rattle.law_order.proofs.Remaining.{kept_grown}
 use Rattle.law_order.proofs.Sends.{some_same}
 use Rattle.law_order_arrivals.specs.Tellings.{IsToldOf, IsTidy, IsNoteFor}
 use Rattle.law_order_arrivals.specs.Notes.{EndsOver}
@@ -37,7 +36,7 @@ use Rattle.law_order_arrivals.proofs.Views.{elsewhere_arrivals_keep}
 use Rattle.law_order_runs.proofs.Beginnings.{none_found}
 use Rattle.law_order_runs.proofs.ToldRuns.{NoteTrue, elsewhere_is_true}
 use Rattle.law_order_asks.proofs.Steps as steps
-use Rattle.law_order_news.specs.News.{NewsKeep, BearsElsewhere}
+use Rattle.law_order_news.specs.News.{BearsElsewhere}
 use Rattle.law_order_news.proofs.Tidiness.{own_came, hosts_came, objects_unknown, tidy}
 use Rattle.law_order_news.proofs.Teller as teller
 use Rattle.law_order_news.proofs.Teller.{elsewhere}
@@ -46,7 +45,7 @@ use Rattle.law_order_news.proofs.Own.{none_opened, settled_same}
 use Rattle.law_order_news.proofs.Learnt.{Learnt, learns, stands}
 use Rattle.law_order_news.proofs.Seeing.{Saw, views, told, view_ends}
 use Rattle.law_order_news.proofs.Far.{far_ends}
-use Rattle.law_order_news.proofs.Stale.{own_order, asks, stale_grown}
+use Rattle.law_order_news.proofs.Stale.{asks, stale_grown}
 
 -- ---- the note arrives
 
@@ -95,9 +94,6 @@ module _ (script : Script) (once : KnowsOnce script) (knows : KnowsVats script) 
 
   abbrev T : Vat Name
   T = came.0
-
-  pub kept : KeepsOwnOrder script honest x b S T → NewsKeep script honest x y b
-  kept g = carried.kept script once w x y es k a b Tells h.borne tt bare o e f honest S L.grown g
 
   pub ended : FollowsEnd K T
   ended = carried.ended script once w x y es k a b Tells h.borne tt bare o e f honest
@@ -232,12 +228,6 @@ module _ (script : Script) (once : KnowsOnce script) (knows : KnowsVats script) 
       pub third_own : KeepsOwnOrder script honest x b S T
       third_own = subst (λ d. IfGives (λ u. KeepsOwnOrder script honest x b S u) d) (sym arrival ∙ came.2) (elsewhere_arrivals_keep script honest x b a c a Was S n L.entry h.borne.there can_view)
 
-      pub third_keeps : NewsKeep script honest x y b
-      third_keeps = kept third_own
-
     -- a name that was broken stays so
     pub third_grown : (p : Words) → L.entry.standing ≡ Settled (Broken p) → Grown script honest x b S T
     third_grown p broken = subst (λ t. Grown script honest x b S t) (sym saw.1) (stale_grown script honest x b a c S n saw.0 L.entry L.found (Broken p) broken L.ready)
-
-    pub third_stale : (p : Words) → L.entry.standing ≡ Settled (Broken p) → NewsKeep script honest x y b
-    third_stale p broken = kept (own_order script honest x b S T (kept_grown script honest x b S T (third_grown p broken)))

@@ -1,8 +1,8 @@
--- A note that a name settled elsewhere is carried in a run, and order is kept.
-use Rattle.std.proofs.Common.{◌≡◌, ℕ, zero, Bool, true, false, List, [], ◌∷◌, ◌++◌, Some, refl, sym, ap, subst, ◌∙◌, ◌⊎◌, inl, inr, eqb-true, eq-eqb}
-use Rattle.std.specs.Prelude.{codes, ◌==◌, if◌then◌else◌}
-use Rattle.def_machine.specs.Values.{Words, Value, Broken, Name, Naming, host_of}
-use Rattle.def_machine.specs.State.{Known, Elsewhere, Unsettled, Settled, Settles, Put, Vat, is_in}
+-- A note that a name settled elsewhere is carried in a run, whose object's vat the receiver noticed: the name breaks.
+use Rattle.std.proofs.Common.{◌≡◌, ℕ, zero, Bool, true, List, [], ◌∷◌, ◌++◌, Some, refl, sym, ap, subst, ◌∙◌, inl}
+use Rattle.std.specs.Prelude.{codes, if◌then◌else◌}
+use Rattle.def_machine.specs.Values.{Value, Broken, Name, Naming, host_of}
+use Rattle.def_machine.specs.State.{Known, Elsewhere, Unsettled, Settles, Put, Vat, is_in}
 use Rattle.def_machine.specs.State as state
 use Rattle.def_machine.specs.Refs as refs
 use Rattle.def_machine.specs.Refs.{entry_of}
@@ -20,10 +20,9 @@ use Rattle.law_order.specs.Settle.{aimed_at, settled_to}
 use Rattle.law_order.specs.Settlings.{with_line}
 use Rattle.law_order_arrivals.specs.Tellings.{IsToldOf, IsTidy, IsNoteFor}
 use Rattle.law_order_arrivals.specs.Notes.{KeepsAll}
-use Rattle.law_order_arrivals.specs.Wholes.{KeepsOwnOrder}
 use Rattle.law_order_arrivals.proofs.TrueNotes.{ended_names_keep}
 use Rattle.law_order_runs.proofs.Truths.{data_self}
-use Rattle.law_order_news.specs.News.{NewsKeep, WaitersGo, BearsElsewhere, ElsewhereCarriesKeepInRuns}
+use Rattle.law_order_news.specs.News.{WaitersGo, BearsElsewhere}
 use Rattle.law_order_news.proofs.Tidiness.{tidy}
 use Rattle.law_order_news.proofs.Teller as teller
 use Rattle.law_order_news.proofs.Teller.{elsewhere}
@@ -31,7 +30,6 @@ use Rattle.law_order_news.proofs.Learnt.{Learnt}
 use Rattle.law_order_news.proofs.Away.{told_settled}
 use Rattle.law_order_news.proofs.Resting as resting
 use Rattle.law_order_news.proofs.Elsewhere as far
-use Rattle.law_order_news.proofs.HomeRuns as near
 
 module _ (script : Script) (once : KnowsOnce script) (knows : KnowsVats script) (w x y : World) (es : List Entry) (k a b : ℕ) (n : Name) (follow : NoticesFollowCuts es)
     (o : open_from script zero script.vats (begins script) ≡ Goes w) (e : steps_from script es k w ≡ Goes x) (f : steps_from script (es ++ Carry a b ∷ []) k w ≡ Goes y) (honest : ℕ → Bool) where
@@ -51,9 +49,6 @@ module _ (script : Script) (once : KnowsOnce script) (knows : KnowsVats script) 
     abbrev T : Vat Name
     T = (far.came script once knows w x y es k a b c n follow o e f honest h).0
 
-    abbrev Ordered : Vat Name → Type 0
-    Ordered u = KeepsOwnOrder script honest x b S u
-
     -- ---- the receiver noticed that vat, and the name breaks
 
     module _ (gone : is_in c S.noticed ≡ true) where
@@ -69,10 +64,6 @@ module _ (script : Script) (once : KnowsOnce script) (knows : KnowsVats script) 
 
       empty : (j : Known Name) → entry_of K h.borne.vat.known n ≡ Some j → (j.held ≡ []) × (j.told ≡ [])
       empty j i = teller.empty script once w x es k o e a b n (Elsewhere n c) elsewhere h.borne j i
-
-      gone_stale : (p : Words) → L.entry.standing ≡ Settled (Broken p) → NewsKeep script honest x y b
-      gone_stale p broken = far.kept script once knows w x y es k a b c n follow o e f honest h
-          (resting.rests script once w x es k follow o e honest b h.borne.vat h.borne.there n away S L empty Problem tt tt tt T ends (Broken p) broken)
 
       module _ (unsettled : L.entry.standing ≡ Unsettled) where
         abbrev Then : Vat Name
@@ -105,45 +96,3 @@ module _ (script : Script) (once : KnowsOnce script) (knows : KnowsVats script) 
 
         pub gone_first : KeepsAll script honest x b S Then
         gone_first = ended_names_keep script honest x b a h.borne.vat S Then n Problem h.borne.there all_tidy told nowhere
-
-        pub gone_keeps : NewsKeep script honest x y b
-        gone_keeps = far.kept script once knows w x y es k a b c n follow o e f honest h
-            (resting.settles script once w x es k follow o e honest b h.borne.vat h.borne.there n away S L empty Problem tt tt tt T ends ended goes unsettled gone_first)
-
-      pub gone_so : NewsKeep script honest x y b
-      gone_so = go (far.standing script once knows w x y es k a b c n follow o e f honest h)
-        where
-          go : (L.entry.standing ≡ Unsettled) ⊎ ((p : Words) × (L.entry.standing ≡ Settled (Broken p))) → NewsKeep script honest x y b
-          go (inl i) = gone_keeps i
-          go (inr i) = gone_stale i.0 i.1
-
-    third_so : (c ≡ b → ⊥) → is_in c S.noticed ≡ false → NewsKeep script honest x y b
-    third_so third live = go (far.standing script once knows w x y es k a b c n follow o e f honest h)
-      where
-        go : (L.entry.standing ≡ Unsettled) ⊎ ((p : Words) × (L.entry.standing ≡ Settled (Broken p))) → NewsKeep script honest x y b
-        go (inl i) = far.third_keeps script once knows w x y es k a b c n follow o e f honest h third live i
-        go (inr i) = far.third_stale script once knows w x y es k a b c n follow o e f honest h third live i.0 i.1
-
-  home_so : (h : BearsElsewhere script honest x a b n b) → is_in b (S b h).noticed ≡ false → NewsKeep script honest x y b
-  home_so h live = go (far.standing script once knows w x y es k a b b n follow o e f honest h)
-    where
-      go : ((L b h).entry.standing ≡ Unsettled) ⊎ ((p : Words) × ((L b h).entry.standing ≡ Settled (Broken p))) → NewsKeep script honest x y b
-      go (inl i) = near.home_keeps script once knows w x y es k a b n follow o e f honest h live i
-      go (inr i) = near.home_stale script once knows w x y es k a b n follow o e f honest h live i.0 i.1
-
-  at_home : (c : ℕ) (h : BearsElsewhere script honest x a b n c) → b ≡ c → is_in c (S c h).noticed ≡ false → NewsKeep script honest x y b
-  at_home c h same = subst (λ z. (g : BearsElsewhere script honest x a b n z) → is_in z (S z g).noticed ≡ false → NewsKeep script honest x y b) same home_so h
-
-  false_true : false ≡ true → ⊥
-  false_true e = cc
-
-  pub keeps_elsewhere : (c : ℕ) → BearsElsewhere script honest x a b n c → NewsKeep script honest x y b
-  keeps_elsewhere c h = go (is_in c (S c h).noticed) refl (b == c) refl
-    where
-      go : (q : Bool) → is_in c (S c h).noticed ≡ q → (r : Bool) → (b == c) ≡ r → NewsKeep script honest x y b
-      go true i r j = gone_so c h i
-      go false i true j = at_home c h (eqb-true b c j) i
-      go false i false j = third_so c h (λ z. false_true (sym j ∙ eq-eqb b c (sym z))) i
-
-pub elsewhere_carries_keep_in_runs : ElsewhereCarriesKeepInRuns
-elsewhere_carries_keep_in_runs script once knows w x y es k a b c n follow o e f honest h = keeps_elsewhere script once knows w x y es k a b n follow o e f honest c h

@@ -1,4 +1,4 @@
--- A note that a name settled to an object of its receiver is carried in a run.
+-- A note that a name settled to an object of its receiver is carried in a run: the name comes to have a gift as its view.
 use Rattle.std.proofs.Common.{◌≡◌, ℕ, zero, Bool, true, false, List, [], ◌∷◌, ◌++◌, Option, Some, None, refl, sym, ap, subst, ◌∙◌, inl, eqb-true}
 use Rattle.std.specs.Prelude.{codes, ◌==◌, if◌then◌else◌}
 use Rattle.def_machine.specs.Values.{Broken, Ref, Words, Name, Naming, host_of, word_of}
@@ -22,18 +22,17 @@ use Rattle.law_order.specs.Places.{opened_there, leads, leads_at, amid}
 use Rattle.law_order.proofs.Below.{key_is_new}
 use Rattle.law_order.proofs.Coming.{old_entry}
 use Rattle.law_order.proofs.News.{came_ends, grown_then}
-use Rattle.law_order.proofs.Remaining.{kept_grown}
 use Rattle.law_order_arrivals.specs.Tellings.{IsToldOf, IsTidy, IsNoteFor}
 use Rattle.law_order_arrivals.specs.Notes.{EndsOver}
 use Rattle.law_order_arrivals.specs.Views.{view_word, view_key, view_name}
 use Rattle.law_order_arrivals.specs.Wholes.{KeepsOwnOrder}
-use Rattle.law_order_news.specs.News.{NewsKeep, BearsElsewhere}
+use Rattle.law_order_news.specs.News.{BearsElsewhere}
 use Rattle.law_order_news.proofs.Tidiness.{own_came, hosts_came, tidy}
 use Rattle.law_order_news.proofs.Teller as teller
 use Rattle.law_order_news.proofs.Teller.{elsewhere}
 use Rattle.law_order_news.proofs.Learnt.{Learnt}
 use Rattle.law_order_news.proofs.Far.{far_ends}
-use Rattle.law_order_news.proofs.Stale.{own_order, stale}
+use Rattle.law_order_news.proofs.Stale.{stale}
 use Rattle.law_order_news.proofs.Home as home
 use Rattle.law_order_news.proofs.Seeing as seeing
 use Rattle.law_order_news.proofs.Elsewhere as far
@@ -129,9 +128,6 @@ module _ (script : Script) (once : KnowsOnce script) (knows : KnowsVats script) 
     own_then : KeepsOwnOrder script honest x b A T → KeepsOwnOrder script honest x b S T
     own_then g = grown_own script honest x b S A T had_grown g
 
-    keeps : KeepsOwnOrder script honest x b S T → NewsKeep script honest x y b
-    keeps g = far.kept script once knows w x y es k a b b n follow o e f honest h g
-
     module _ (unsettled : L.entry.standing ≡ Unsettled) where
       pub seen_told : IsToldOf script b a A (home.Saw script b a S n) n (Ref Q)
       seen_told = record {
@@ -154,14 +150,8 @@ module _ (script : Script) (once : KnowsOnce script) (knows : KnowsVats script) 
       home_own = own_then (subst (λ t. KeepsOwnOrder script honest x b A t) (sym saw.1) (home.seen_keeps script honest x b a Was S n h.borne.there saw.0 L.ready L.entry L.found unsettled
           (teller.back_open script once w x es k o e a b n (Elsewhere n b) elsewhere h.borne honest h.sender h.receiver) live new_here shut asked_tidy seen_told so))
 
-      pub home_keeps : NewsKeep script honest x y b
-      home_keeps = keeps home_own
-
     -- a name that was broken stays so
     pub home_grown : (p : Words) → L.entry.standing ≡ Settled (Broken p) → Grown script honest x b S T
     home_grown p broken =
         let r = home.had script honest x b a Was S n h.borne.there saw.0 L.ready L.ready in
         grown_then script honest x b S A T had_grown (subst (λ t. Grown script honest x b A t) (sym saw.1) (stale script honest x b A n Q L.entry (old_entry K S.known (begun Q b) L.entry n L.found) (Broken p) broken r.0).1)
-
-    pub home_stale : (p : Words) → L.entry.standing ≡ Settled (Broken p) → NewsKeep script honest x y b
-    home_stale p broken = keeps (own_order script honest x b S T (kept_grown script honest x b S T (home_grown p broken)))

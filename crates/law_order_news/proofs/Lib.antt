@@ -1,5 +1,4 @@
 pub mod Own
-pub mod Steps
 pub mod Tidiness
 pub mod Carried
 pub mod Learnt
@@ -17,4 +16,3 @@ pub mod ElsewhereRuns
 pub mod SettledRuns
 pub mod Opens
 pub mod Opening
-pub mod OpenRuns

@@ -1,16 +1,14 @@
 -- A note that opens a gift arrives: what waited for the gift goes where the note's name leads.
-use Rattle.std.proofs.Common.{◌≡◌, ℕ, Bool, true, false, List, [], ◌∷◌, refl, sym, ap, subst, ◌∙◌, ◌⊎◌, inl, inr}
-use Rattle.std.proofs.lemmas.List.{append-nil}
+use Rattle.std.proofs.Common.{◌≡◌, ℕ, Bool, true, false, [], refl, sym, ap, subst, ◌∙◌, ◌⊎◌, inl, inr}
 use Rattle.def_machine.specs.Values.{Ref, Name, Gift}
 use Rattle.def_machine.specs.State.{Note, Open, Vat, with_opened}
-use Rattle.def_machine.specs.Refs as refs
 use Rattle.def_run.specs.World as world
 use Rattle.def_run.specs.World.{Script, Link, World, names}
-use Rattle.law_order.specs.Ways.{Lane, Queue, Held, Way, IsOneWay, Place, Free, Mid, Ways}
+use Rattle.law_order.specs.Ways.{Lane, Held, Way, IsOneWay, Place, Free, Mid, Ways}
 use Rattle.law_order.specs.Changes.{Grows}
-use Rattle.law_order.specs.Messages.{More, StaysBehind}
+use Rattle.law_order.specs.Messages.{StaysBehind}
 use Rattle.law_order.specs.Turns.{stays_so, IsTurned}
-use Rattle.law_order.specs.Places.{queued, held_in, delivered, gift_place, leads_in, ways, amid}
+use Rattle.law_order.specs.Places.{gift_place, leads_in, ways, amid}
 use Rattle.law_order.specs.Settle.{led_to, onward_to}
 use Rattle.law_order.specs.Steps.{Grown}
 use Rattle.law_order.specs.Arrivals.{IsOpenWay, IsShut, IsLedTo}
@@ -19,7 +17,6 @@ use Rattle.law_order.proofs.Changes.{growing_keeps}
 use Rattle.law_order.proofs.Messages.{behind_then}
 use Rattle.law_order.proofs.Named.{Test, test_self, test_is}
 use Rattle.law_order.proofs.Opened.{opened_gifts_turn}
-use Rattle.law_order.proofs.Standing.{more_then, queue_more, held_more, way_more}
 use Rattle.law_order.proofs.Turned.{turning_keeps}
 use Rattle.law_order_asks.specs.Asks.{Bears}
 use Rattle.law_order_asks.proofs.Steps as steps
@@ -93,10 +90,6 @@ module _ (script : Script) (honest : ℕ → Bool) (x : World) (a b i : ℕ) (n 
     turned = subst (λ z. gift_place script honest b i (amid b s z).links ≡ Mid (Way a b) [] n → IsTurned (ways script honest (amid b s z)) Led) (steps.same script honest x a b Opens h)
         (λ p. opened_gifts_turn script honest Bare a b h.vat s i n h.there way shut p Led is_led) place
 
-    bare : (ns : List (Note Name)) → delivered (Opens ∷ ns) ≡ delivered ns
-    unfolding delivered
-    bare ns = refl
-
     -- the vat comes to t, where the gift leads there, and else the ways only grow
     module _ (t : Vat Name) (grown : Grown script honest Bare b Opened t) (leads_there : (m : Name) → (steps.End script honest x a b Opens h t).onward (Held b G) m ≡ There) where
       abbrev Then : Ways
@@ -116,11 +109,3 @@ module _ (script : Script) (honest : ℕ → Bool) (x : World) (a b i : ℕ) (n 
 
       pub opens_keep : (c : Place) → StaysBehind From Then c c
       opens_keep c = behind_then From Led Then c c c (turning_keeps From Led turned c c stays_so) (growing_keeps Led Then grows c)
-
-      same_lanes : (l : Lane) → More (steps.End script honest x a b Opens h s) To l
-      same_lanes (Queue u) = queue_more script honest Bare b s Opened u (λ e. ([], sym (append-nil (queued s.queue))))
-      same_lanes (Held u m) = held_more script honest Bare b s Opened u m (λ e. ([], sym (append-nil (held_in m (refs.entry_of (names script b) s.known m)))))
-      same_lanes (Way c d) = way_more script honest Bare b s Opened [] (sym (append-nil s.outbox)) c d
-
-      pub opens_more : (l : Lane) → More From Then l
-      opens_more l = more_then From To Then l (more_then From (steps.End script honest x a b Opens h s) To l (steps.leave_more script honest x a b Opens h bare s l) (same_lanes l)) (grown.more l)

@@ -1,8 +1,8 @@
--- A name of another vat settles at a vat that is told of it: order is kept where the name leads on in order, and those that wait for it settle.
-use Rattle.std.proofs.Common.{◌≡◌, ℕ, zero, suc, Bool, List, [], Some, length, refl, sym, ap, subst, ◌∙◌, ◌⊎◌, inl, inr}
+-- A name of another vat settles at a vat that is told of it: the vat follows all that it knows to an end.
+use Rattle.std.proofs.Common.{◌≡◌, ℕ, zero, Bool, List, [], Some, refl, sym, ap, subst, ◌⊎◌, inl, inr}
 use Rattle.std.specs.Prelude.{slice_get}
 use Rattle.def_machine.specs.Values.{Value, Items, Name, Naming, host_of}
-use Rattle.def_machine.specs.State.{Known, Unsettled, Settled, Settles, Vat, Gives, begun, each}
+use Rattle.def_machine.specs.State.{Known, Unsettled, Settles, Vat, Gives, begun}
 use Rattle.def_machine.specs.Refs as refs
 use Rattle.def_machine.specs.Refs.{entry_of}
 use Rattle.def_run.specs.World.{Script, Entry, World, Goes, begins, open_from, steps_from, names, readied}
@@ -11,17 +11,12 @@ use Rattle.law_fate.specs.Lasting.{NoPromise}
 use Rattle.law_reference.specs.Cuts.{NoticesFollowCuts}
 use Rattle.law_order.specs.Settle.{settled_to}
 use Rattle.law_order.specs.Settlings.{with_line}
-use Rattle.law_order.specs.Steps.{StaysInOrder}
 use Rattle.law_order.specs.Worlds.{IfGives, FollowsEnd}
-use Rattle.law_order.proofs.Adds.{adds_nothing}
-use Rattle.law_order.proofs.Whole.{kept_adds}
-use Rattle.law_order_arrivals.specs.Notes.{KeepsAll}
-use Rattle.law_order_arrivals.specs.Wholes.{KeepsOwnOrder, IsIdle}
+use Rattle.law_order_arrivals.specs.Wholes.{IsIdle}
 use Rattle.law_order_steady.proofs.Facts.{IsClear}
 use Rattle.law_order_news.specs.News.{IsNoItems, WaitersGo}
 use Rattle.law_order_news.proofs.Learnt.{Learnt}
-use Rattle.law_order_news.proofs.Away.{settling_kept, settles_alone, alone_waiters, settled_rests, ends_known}
-use Rattle.law_order_news.proofs.Stale.{own_order}
+use Rattle.law_order_news.proofs.Away.{settles_alone, ends_known}
 use Rattle.law_order_news.proofs.Waiters as waiters
 
 pub target_same : (K : Naming Name Name) (s : Vat Name) (n : Name) (v : Value Name) → IsNoItems v → refs.target_of K s n v ≡ v
@@ -39,11 +34,6 @@ module _ (script : Script) (once : KnowsOnce script) (w x : World) (es : List En
   abbrev pub Then : Vat Name
   Then = settled_to K (with_line s (Settles n v)) n v
 
-  -- what was settled stays so
-  pub rests : (z : Value Name) → l.entry.standing ≡ Settled z → KeepsOwnOrder script honest x b s t
-  rests z settled = subst (λ d. IfGives (λ u. KeepsOwnOrder script honest x b s u) d) (sym (settled_rests script honest x b s n v z l.entry l.found settled) ∙ ends)
-      (own_order script honest x b s s (kept_adds script honest x b s s (adds_nothing K s s refl refl refl refl refl refl, refl, refl, refl)).1)
-
   bare_by : ((entry_of K was.known n ≡ Some l.entry) × (s ≡ readied x was)) ⊎ (l.entry ≡ begun n (host_of n)) → (l.entry.held ≡ []) × (l.entry.told ≡ [])
   unfolding begun
   bare_by (inl i) = empty l.entry i.0
@@ -56,35 +46,20 @@ module _ (script : Script) (once : KnowsOnce script) (w x : World) (es : List En
     idle : IsIdle script honest x b l.entry
     idle = (unsettled, bare.0, bare.1)
 
-    abbrev GoesOn : Vat Name → Type 0
-    GoesOn u = let z = settled_to K (with_line u (Settles n v)) n v in FollowsEnd K z × IfGives (λ q. StaysInOrder script honest x b z q) (each (λ q. refs.settle_at K (suc (length u.known)) q v) l.entry.waiting z)
-
     -- nothing waits for it
-    alone : l.entry.waiting ≡ [] → GoesOn s
-    alone none = (
-      ends_known K t Then (subst (λ d. IfGives (λ (u : Vat Name). u.known ≡ Then.known) d) ends (subst (λ z. IfGives (λ (u : Vat Name). u.known ≡ (let q = settled_to K (with_line s (Settles n z)) n z in q.known)) (refs.settle K n v s)) (target_same K s n v single) (settles_alone script honest x b s n v l.entry idle none l.found))) ended,
-      alone_waiters script honest x b s n v l.entry idle none (suc (length s.known)),
-    )
+    alone : l.entry.waiting ≡ [] → FollowsEnd K Then
+    alone none = ends_known K t Then (subst (λ d. IfGives (λ (u : Vat Name). u.known ≡ Then.known) d) ends (subst (λ z. IfGives (λ (u : Vat Name). u.known ≡ (let q = settled_to K (with_line s (Settles n z)) n z in q.known)) (refs.settle K n v s)) (target_same K s n v single) (settles_alone script honest x b s n v l.entry idle none l.found))) ended
 
     -- or those that wait settle in order
-    in_order : entry_of K was.known n ≡ Some l.entry → s ≡ readied x was → WaitersGo script honest b was n → GoesOn s
+    in_order : entry_of K was.known n ≡ Some l.entry → s ≡ readied x was → WaitersGo script honest b was n → FollowsEnd K Then
     unfolding readied
-    in_order i same (inl all) = subst GoesOn (sym same) (waiters.follows script once w x es k follow o e honest all b was there n away l.entry i unsettled bare.0 v lasts clear, waiters.settle_in_order script once w x es k follow o e honest all b was there n away l.entry i unsettled bare.0 v lasts clear)
+    in_order i same (inl all) = subst (λ u. FollowsEnd K (settled_to K (with_line u (Settles n v)) n v)) (sym same) (waiters.follows script once w x es k follow o e honest all b was there n away l.entry i unsettled bare.0 v lasts clear)
     in_order i same (inr none) = alone (none l.entry i)
 
-    goes_by : ((entry_of K was.known n ≡ Some l.entry) × (s ≡ readied x was)) ⊎ (l.entry ≡ begun n (host_of n)) → GoesOn s
+    goes_by : ((entry_of K was.known n ≡ Some l.entry) × (s ≡ readied x was)) ⊎ (l.entry ≡ begun n (host_of n)) → FollowsEnd K Then
     unfolding begun
     goes_by (inl i) = in_order i.0 i.1 go_on
     goes_by (inr i) = alone (ap (λ (j : Known Name). j.waiting) i)
 
-    goes : GoesOn s
-    goes = goes_by l.stood
-
     pub follows : FollowsEnd K Then
-    follows = goes.0
-
-    abbrev Keeps : Value Name → Type 0
-    Keeps z = let q = settled_to K (with_line s (Settles n z)) n z in KeepsAll script honest x b s q → IfGives (λ u. StaysInOrder script honest x b q u) (each (λ p. refs.settle_at K (suc (length s.known)) p z) l.entry.waiting q) → IfGives (λ u. KeepsOwnOrder script honest x b s u) (refs.settle K n v s)
-
-    pub settles : KeepsAll script honest x b s Then → KeepsOwnOrder script honest x b s t
-    settles first = subst (λ d. IfGives (λ u. KeepsOwnOrder script honest x b s u) d) ends (subst Keeps (target_same K s n v single) (λ g i. settling_kept script honest x b s n v l.entry idle l.found g i) first goes.1)
+    follows = goes_by l.stood

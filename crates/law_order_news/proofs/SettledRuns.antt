@@ -1,8 +1,8 @@
--- A note that tells what a name settled to is carried in a run, and order is kept.
-use Rattle.std.proofs.Common.{◌≡◌, ℕ, zero, Bool, true, false, List, [], ◌∷◌, ◌++◌, Some, None, length, refl, sym, ap, subst, ◌∙◌, ◌⊎◌, inl, inr, eqb-true}
+-- A note that tells what a name settled to is carried in a run: what it tells is so, and the receiver is told so.
+use Rattle.std.proofs.Common.{◌≡◌, ℕ, zero, Bool, true, false, List, [], ◌∷◌, ◌++◌, Some, None, length, refl, sym, ap, subst, ◌∙◌, inl, inr, eqb-true}
 use Rattle.std.specs.Prelude.{◌==◌}
-use Rattle.def_machine.specs.Values.{Words, Value, Broken, Ref, Name, Object, Naming, Own, Foreign, naming, spot_of, host_of}
-use Rattle.def_machine.specs.State.{Known, Note, SettledTo, Passed, Plain, Unsettled, Settled, Settles, Put, Vat, Done, Gives, is_in, ◌>>=◌}
+use Rattle.def_machine.specs.Values.{Value, Ref, Name, Object, Naming, Own, Foreign, naming, spot_of, host_of}
+use Rattle.def_machine.specs.State.{Known, Note, SettledTo, Passed, Plain, Unsettled, Settled, Settles, Vat, Done, Gives, is_in, ◌>>=◌}
 use Rattle.def_machine.specs.State as state
 use Rattle.def_machine.specs.Refs as refs
 use Rattle.def_machine.specs.Refs.{entry_of, standing_of, follow_at}
@@ -19,28 +19,24 @@ use Rattle.law_fate.proofs.RunWell.{runs_stay_well}
 use Rattle.law_reference.specs.Cuts.{NoticesFollowCuts}
 use Rattle.law_reference.proofs.Told.{found_all}
 use Rattle.law_reference.proofs.VatStep.{link_all}
-use Rattle.law_local.proofs.Steps.{put_beside}
-use Rattle.law_order.specs.Ways.{Nowhere, End, Queue}
-use Rattle.law_order.specs.Places.{delivered, aimed, leads, leads_at, leads_in, amid}
+use Rattle.law_order.specs.Ways.{End, Queue}
+use Rattle.law_order.specs.Places.{delivered, aimed, leads_in}
 use Rattle.law_order.specs.Worlds.{IsObject, FollowsEnd}
-use Rattle.law_order.specs.Settle.{IsEnded, IsOwnSpot, aimed_at, settled_to}
+use Rattle.law_order.specs.Settle.{IsEnded, IsOwnSpot, settled_to}
 use Rattle.law_order.specs.Settlings.{with_line}
-use Rattle.law_order.specs.Steps.{LeadsAmid}
 use Rattle.law_order.proofs.Arrived.{learnt_leads}
-use Rattle.law_order_arrivals.specs.Notes.{KeepsAll}
-use Rattle.law_order_arrivals.specs.Tellings.{IsToldOf, IsTidy, IsNoteFor}
-use Rattle.law_order_arrivals.proofs.TrueNotes.{ended_names_keep, settled_names_keep}
+use Rattle.law_order_arrivals.specs.Tellings.{IsToldOf}
 use Rattle.law_order_runs.proofs.Beginnings.{reached_is, each_all, named_object}
 use Rattle.law_order_runs.proofs.ToldRuns.{NoteTrue}
 use Rattle.law_order_runs.proofs.Truths.{data_self, object_self}
 use Rattle.law_order_asks.specs.Asks.{Bears}
 use Rattle.law_order_asks.proofs.Steps as steps
 use Rattle.law_order_steady.proofs.Facts.{ClearSpot, IsClear}
-use Rattle.law_order_news.specs.News.{NewsKeep, BearsSettled, SettledCarriesKeepInRuns}
-use Rattle.law_order_news.proofs.Tidiness.{objects_unknown, tidy}
+use Rattle.law_order_news.specs.News.{BearsSettled}
+use Rattle.law_order_news.proofs.Tidiness.{objects_unknown}
 use Rattle.law_order_news.proofs.Teller as teller
 use Rattle.law_order_news.proofs.Teller.{settled}
-use Rattle.law_order_news.proofs.Learnt.{Learnt, learns, stands}
+use Rattle.law_order_news.proofs.Learnt.{Learnt, learns}
 use Rattle.law_order_news.proofs.Away.{told_settled}
 use Rattle.law_order_news.proofs.Carried as carried
 use Rattle.law_order_news.proofs.Resting as resting
@@ -134,10 +130,6 @@ told_last script w x es k o e a b n y h = (subst (λ ns. AllOf NoteWell ns) h.fi
 
 -- ---- values that are no lists
 
-abbrev IsNoRef : Value Name → Type 0
-IsNoRef (Ref o) = ⊥
-IsNoRef other = Unit {0}
-
 value_learnt : (K : Naming Name Name) (ks : List Name) (v : Value Name) (s : Vat Name) → NoPromise v → arriving.learn_value K (world.read_value ks v).read s ≡ Gives v s
 unfolding world.read_value world.read_name world.is_old arriving.learn_value arriving.learn_name state.◌>>=◌ state.and_then state.give
 value_learnt K ks (Ref (Object w i)) s h = refl
@@ -213,9 +205,6 @@ module _ (script : Script) (once : KnowsOnce script) (w x y : World) (es : List 
   abbrev Then : Vat Name
   Then = settled_to K (with_line S (Settles n v)) n v
 
-  pub all_tidy : IsTidy script honest x b S
-  all_tidy = tidy script once w x es k o e honest b S L.hosts L.ready.ends.objects L.own (subst (λ ps. AllOf (λ (p : Put Name). IsNoteFor p.to p.note) ps) (sym L.empty) tt)
-
   -- ---- what it settled to is clear, and the vat is told so
 
   abbrev ToldRef : Name → Type 0
@@ -230,10 +219,6 @@ module _ (script : Script) (once : KnowsOnce script) (w x y : World) (es : List 
   pub ref_host : (q : Name) → v ≡ Ref q → host_of q ≡ a
   ref_host q i = told_host script once w x es k o e honest a n q (ref_told q i) (ref_object q i)
 
-  ref_leads : (q : Name) → v ≡ Ref q → LeadsAmid script honest x b S a (Ref n) ≡ End (Queue a) q
-  unfolding amid leads leads_at
-  ref_leads q i = let told = ref_told q i in ap (λ z. leads_at script honest a z (Ref n)) (put_beside x.vats b a S (λ g. other (sym g)) ∙ told.1) ∙ told_leads script once w x es k o e honest a n q told (ref_object q i)
-
   clear_by : (z : Value Name) → v ≡ z → IsClear K Was.noticed z
   clear_by (Ref q) i = subst (λ s. ClearSpot Was.noticed s) (sym (spot_far script b a q (ref_object q i) (ref_host q i) other)) unnoticed
   clear_by other i = tt
@@ -246,11 +231,6 @@ module _ (script : Script) (once : KnowsOnce script) (w x y : World) (es : List 
 
   away : host_of n ≡ b → ⊥
   away g = other (sym hosted ∙ g)
-
-  -- it was broken, and stays so
-  stale : (z : Value Name) → L.entry.standing ≡ Settled z → NewsKeep script honest x y b
-  stale z settled_to_z = carried.kept script once w x y es k a b Tells h.borne tt bare o e f honest S L.grown
-      (resting.rests script once w x es k follow o e honest b Was h.borne.there n away S L empty v lasts h.single clear T ends z settled_to_z)
 
   module _ (unsettled : L.entry.standing ≡ Unsettled) where
     ended : FollowsEnd K T
@@ -274,29 +254,3 @@ module _ (script : Script) (once : KnowsOnce script) (w x y : World) (es : List 
       follows = follows;
       ended = ended_by v lasts;
     }
-
-    nowhere : (z : Value Name) → IsNoRef z → aimed_at script b Then z ≡ Nowhere
-    unfolding aimed_at aimed refs.severed refs.place
-    nowhere (Ref q) g = absurd g
-    nowhere other g = refl
-
-    pub first_by : (z : Value Name) → v ≡ z → KeepsAll script honest x b S Then
-    first_by (Ref q) i = subst (λ u. KeepsAll script honest x b S (settled_to K (with_line S (Settles n u)) n u)) (sym i)
-        (settled_names_keep script honest x b a Was S (settled_to K (with_line S (Settles n (Ref q))) n (Ref q)) n q h.borne.there all_tidy
-        (subst (λ u. IsToldOf script b a S (settled_to K (with_line S (Settles n u)) n u) n u) i told) h.receiver h.sender (ref_object q i) (ref_host q i) (ref_leads q i))
-    first_by other i = ended_names_keep script honest x b a Was S Then n v h.borne.there all_tidy told (ap (λ u. aimed_at script b Then u) i ∙ nowhere other tt)
-
-    settles : NewsKeep script honest x y b
-    settles = carried.kept script once w x y es k a b Tells h.borne tt bare o e f honest S L.grown
-        (resting.settles script once w x es k follow o e honest b Was h.borne.there n away S L empty v lasts h.single clear T ends ended h.waiters unsettled (first_by v refl))
-
-  -- the name was unsettled, or broken
-  pub keeps_settled : NewsKeep script honest x y b
-  keeps_settled = go (stands script x honest b Was n S L (teller.new script once w x es k o e a b n Tells settled h.borne follow))
-    where
-      go : (L.entry.standing ≡ Unsettled) ⊎ ((p : Words) × (L.entry.standing ≡ Settled (Broken p))) → NewsKeep script honest x y b
-      go (inl i) = settles i
-      go (inr i) = stale (Broken i.0) i.1
-
-pub settled_carries_keep_in_runs : SettledCarriesKeepInRuns
-settled_carries_keep_in_runs script once w x y es k a b n v follow o e f honest h = keeps_settled script once w x y es k a b n v follow o e f honest h

@@ -4,18 +4,13 @@ use Rattle.def_machine.specs.Values.{Value, Name, Answer, Naming, host_of}
 use Rattle.def_machine.specs.State.{Known, Standing, Settled, Change, Wait, See, Ask, Shorten, Views, Vat, begun, changed, changed_to, unless_settled, drawn_at, with_change}
 use Rattle.def_machine.specs.Refs.{entry_of}
 use Rattle.def_run.specs.World.{Script, World, names}
-use Rattle.law_order.specs.Steps.{Ready, Grown, KeepsOrder, StaysReady}
+use Rattle.law_order.specs.Steps.{Ready, Grown, StaysReady}
 use Rattle.law_order.proofs.Adds.{adds_nothing, adds_note, change_adds, stays_quiet}
 use Rattle.law_order.proofs.Coming.{old_entry}
 use Rattle.law_order.proofs.News.{asked, stays_then}
 use Rattle.law_order.proofs.Sends.{some_same}
 use Rattle.law_order_arrivals.specs.Views.{view_word, view_key, view_name, asked_vat, seen_vat}
-use Rattle.law_order_arrivals.specs.Wholes.{KeepsOwnOrder}
 use Rattle.law_order_carries.proofs.Learning.{come_stays, gift_is_new}
-
--- what keeps order keeps that of what the receiver has
-pub own_order : (script : Script) (honest : ℕ → Bool) (w : World) (v : ℕ) (s t : Vat Name) → KeepsOrder script honest w v s t → KeepsOwnOrder script honest w v s t
-own_order script honest w v s t g = record { references = g.references; passings = λ l b m i. g.places l b m; apart = g.apart; held = g.held }
 
 -- nothing changes what is known of a settled name
 module _ (K : Naming Name Name) (x : Change Name) (n : Name) (k : Known Name) (y : Value Name) (settled : k.standing ≡ Settled y) where

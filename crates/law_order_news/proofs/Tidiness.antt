@@ -15,14 +15,12 @@ use Rattle.law_reference.specs.Notes.{LinkFits, IsBetween}
 use Rattle.law_reference.proofs.Follow.{put_cases}
 use Rattle.law_reference.proofs.NotesRuns.{notes_name_ends}
 use Rattle.law_reference.proofs.VatStep.{with_link_all}
-use Rattle.law_order.specs.Ways.{Lane, Item, IsIn}
-use Rattle.law_order.specs.Places.{ways, ways_of, amid}
+use Rattle.law_order.specs.Places.{amid}
 use Rattle.law_order.specs.Worlds.{IsObject, FollowsEnd}
 use Rattle.law_order.proofs.Coming.{new_entry, old_entry, followed}
 use Rattle.law_order.proofs.Entries.{reference_is}
 use Rattle.law_order.proofs.Sends.{some_same, none_some}
-use Rattle.law_order_arrivals.specs.Tellings.{owned, IsNoteFor, AreNotesFor, LinksBring, HostsAreTold, IsOwnEnd, OwnNamesEnd, IsTidy}
-use Rattle.law_order_arrivals.proofs.Tidy.{items_good}
+use Rattle.law_order_arrivals.specs.Tellings.{IsNoteFor, AreNotesFor, LinksBring, HostsAreTold, IsOwnEnd, OwnNamesEnd, IsTidy}
 use Rattle.law_order_runs.proofs.Beginnings.{vats_are_ready, hosts_are_of_names}
 use Rattle.law_order_runs.proofs.ToldRuns.{NoteTrue}
 use Rattle.law_order_asks.proofs.Wanting.{Asked}
@@ -154,10 +152,6 @@ module _ (script : Script) (once : KnowsOnce script) (w x : World) (es : List En
 
   pub bring : LinksBring honest x.links
   bring = links_bring script x objects_unknown honest x.links ((notes_name_ends script once).1 w x es k o e) ((notes_made script once).1 w x es k o e) (stepped_true script once w x es k o e)
-
-  pub stands_own : (l : Lane) (i : Item) → IsIn i ((ways script honest x).stands l) → owned l i.aim ≡ true
-  unfolding ways ways_of
-  stands_own l i h = items_good script honest x.vats x.links hosts_told bring l i h
 
   -- all is tidy where the vat is, and puts what is its receivers' own
   module _ (v : ℕ) (s : Vat Name) (hosts : HostsAreTold (names script v) s) (objects : (n : Name) → IsObject n → entry_of (names script v) s.known n ≡ None) (own : OwnNamesEnd (names script v) v s) (puts : AllOf (λ (p : Put Name). IsNoteFor p.to p.note) s.outbox) where

@@ -1,27 +1,23 @@
 -- Notes that tell what became of a name are carried by small steps, in every run of a script that is read.
 use Rattle.std.proofs.Common.{◌≡◌, ℕ, Bool, true, List, [], ◌∷◌, refl, sym, subst, ◌∙◌, inl}
-use Rattle.def_machine.specs.Values.{Value, Name}
-use Rattle.def_machine.specs.State.{Passed, Plain, AGift, Note, Elsewhere, SettledTo, Vat, Gives}
+use Rattle.def_machine.specs.Values.{Name}
+use Rattle.def_machine.specs.State.{Elsewhere, Vat, Gives}
 use Rattle.def_run.specs.World.{Script, Carry, Entry, Event, Carried, World, names_of}
 use Rattle.law_name.specs.Runs.{KnowsOnce}
 use Rattle.law_fate.specs.WholeFateRuns.{KnowsVats}
 use Rattle.law_reference.specs.Cuts.{NoticesFollowCuts}
 use Rattle.law_reference.proofs.AskHolds.{notices_front}
 use Rattle.law_order_asks.specs.Asks.{Bears}
-use Rattle.law_order_news.specs.News.{BearsElsewhere, BearsSettled}
-use Rattle.law_order_news.proofs.Carried as carried
+use Rattle.law_order_news.specs.News.{BearsElsewhere}
 use Rattle.law_order_news.proofs.Elsewhere as far
-use Rattle.law_order_news.proofs.SettledRuns as runs
 use Rattle.law_order_history.specs.Lines.{counts, AllQuiet}
 use Rattle.law_order_history.specs.Tells.{Tale}
-use Rattle.law_order_tales.specs.Entries.{GoesBy, CarriesAreTales}
+use Rattle.law_order_tales.specs.Entries.{GoesBy}
 use Rattle.law_order_tales.specs.Middle.{middle}
 use Rattle.law_order_tales.proofs.Arriving.{Start, Arrival, head_of, silent_tale}
-use Rattle.law_order_news_tales.specs.Tales.{BearsPlain, ElsewhereAreTales, SettledAreTales, WaitingOpensAreTales}
+use Rattle.law_order_news_tales.specs.Tales.{ElsewhereAreTales}
 use Rattle.law_order_news_tales.proofs.Elsewhere.{elsewhere_tale}
-use Rattle.law_order_news_tales.proofs.OpenTales.{opens_tale}
 use Rattle.law_order_news_tales.proofs.Told.{gives_same}
-use Rattle.law_order_news_tales.proofs.Settled.{settles_so}
 
 module _ (script : Script) (once : KnowsOnce script) (knows : KnowsVats script) (follow : NoticesFollowCuts script.schedule) (honest : ℕ → Bool) (all : (v : ℕ) → honest v ≡ true) where
   -- so far too each notice stands behind its cut
@@ -51,41 +47,5 @@ module _ (script : Script) (once : KnowsOnce script) (knows : KnowsVats script) 
     elsewhere : Tale script honest x y
     elsewhere = silent_tale script honest x a b (Elsewhere n c) h tt g.number y far_inner g.goes
 
-  settled_quiet : (k a b : ℕ) (n : Name) (z : Passed Name) (bytes : List ℕ) → AllQuiet (Carried k a b (SettledTo n z) bytes ∷ [])
-  unfolding counts
-  settled_quiet k a b n z bytes = (refl, tt)
-
-  module _ (x y : World) (a b : ℕ) (n : Name) (v : Value Name) (g : GoesBy script (Carry a b) x y) (h : BearsPlain script x a b n v) where
-    abbrev Tells : Note Name
-    Tells = SettledTo n (Plain v)
-
-    abbrev Head : List Event
-    Head = head_of script honest x a b Tells h.borne g.number
-
-    abbrev Begins : Vat Name
-    Begins = Start script honest x a b Tells h.borne
-
-    bears_so : BearsSettled script honest x a b n v
-    bears_so = record { borne = h.borne; sender = all a; receiver = all b; single = h.single; waiters = inl all }
-
-    inner : (t : Vat Name) → Arrival script honest x a b Tells h.borne ≡ Gives tt t → Tale script honest (middle x b Head Begins) (middle x b Head t)
-    unfolding names_of bears_so
-    inner t e = let to = carried.came script once g.opened x y g.es 1 a b Tells h.borne tt (runs.bare script once g.opened x y g.es 1 a b n v (so_far (Carry a b) g) g.opens g.before g.after honest bears_so) g.opens g.before g.after honest in
-        subst (λ q. Tale script honest (middle x b Head Begins) (middle x b Head q)) (gives_same to.0 t (sym to.2 ∙ e))
-        (settles_so script once g.opened x y g.es 1 a b n v (so_far (Carry a b) g) g.opens g.before g.after honest all Head bears_so (settled_quiet g.number a b n (Plain v) _) h.waiters)
-
-    settles : Tale script honest x y
-    settles = silent_tale script honest x a b Tells h.borne tt g.number y inner g.goes
-
 pub elsewhere_are_tales : ElsewhereAreTales
 elsewhere_are_tales script once knows follow honest all n c x y a b g h = elsewhere script once knows follow honest all n c x y a b g h
-
-pub settled_are_tales : SettledAreTales
-settled_are_tales script once knows follow honest all x y a b n v g h = settles script once knows follow honest all x y a b n v g h
-
-pub waiting_opens_are_tales : WaitingOpensAreTales
-waiting_opens_are_tales script once knows follow honest all x y a b i n q g h = opens_tale script once g.opened x y g.es 1 a b i n q g.opens g.before g.after honest h g.number g.goes
-
--- no note tells that a name settled by a gift
-pub gifts_are_tales : (script : Script) (honest : ℕ → Bool) (n : Name) (h i : ℕ) → CarriesAreTales script honest (SettledTo n (AGift h i))
-gifts_are_tales script honest n h i x y a b g bears = absurd (runs.told_last script g.opened x g.es 1 g.opens g.before a b n (AGift h i) bears)

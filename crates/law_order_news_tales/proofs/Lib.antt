@@ -7,7 +7,4 @@ pub mod Parts
 pub mod Breaks
 pub mod Told
 pub mod Elsewhere
-pub mod Settled
-pub mod Opened
-pub mod OpenTales
 pub mod Laws

@@ -18,9 +18,6 @@ use Rattle.law_order_tales.specs.Middle.{middle}
 use Rattle.law_order_news_tales.proofs.First.{first_small}
 use Rattle.law_order_news_tales.proofs.Parts.{Parts, settle_parts, alone_is}
 
-some_same : (j k : Known Name) → Some j ≡ Some k → j ≡ k
-some_same j k e = cc
-
 pub gives_same : (s t : Vat Name) → ◌≡◌ {A = Done Name (Unit {0})} (Gives tt s) (Gives tt t) → s ≡ t
 gives_same s t e = cc
 

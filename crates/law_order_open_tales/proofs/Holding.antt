@@ -1,4 +1,5 @@
 -- What a vat is asked to hold for a settling, as it is about to open a gift: it holds what it held as its step began, and names that just came to be known hold nothing.
+use Rattle.law_connected.specs.Known as connected
 use Rattle.std.proofs.Common.{◌≡◌, ℕ, zero, Bool, true, false, List, [], ◌∷◌, ◌++◌, Option, Some, None, refl, sym, ap, subst, ◌∙◌, ◌⊎◌, inl, inr}
 use Rattle.std.specs.Prelude.{slice_get}
 use Rattle.def_machine.specs.Values.{Value, Ref, Name, Naming}
@@ -6,11 +7,10 @@ use Rattle.def_machine.specs.State.{Message, Known, Vat, begun}
 use Rattle.def_machine.specs.Refs as refs
 use Rattle.def_machine.specs.Refs.{entry_of, standing_of}
 use Rattle.def_run.specs.World as world
-use Rattle.def_run.specs.World.{Script, Entry, Carry, Event, World, names, readied}
+use Rattle.def_run.specs.World.{Script, Entry, Event, World, names, readied}
 use Rattle.law_machine.specs.Laws.{SettledStays}
 use Rattle.law_name.specs.Names.{AllOf, IsAmong, HostIsTrue}
 use Rattle.law_name.specs.Runs.{KnowsOnce}
-use Rattle.law_connected.specs.Known as connected
 use Rattle.law_order.specs.Order.{comes}
 use Rattle.law_order.specs.Steps.{Ready, IsHeld}
 use Rattle.law_order.specs.Worlds.{IsKnown}
@@ -31,24 +31,12 @@ use Rattle.law_order_settling.specs.Holding.{Holds, HeldCame, Came}
 use Rattle.law_order_tales.specs.Entries.{GoesBy}
 use Rattle.law_order_tales.specs.Middle.{middle, IsQuietLine}
 use Rattle.law_order_open_tales.proofs.Grown.{Stands}
+use Rattle.law_order_steady.proofs.Wells.{entry_among}
 
-among_known : {A : Type 0} (z : A) (zs : List A) → IsAmong z zs → connected.IsAmong z zs
-among_known z [] i = i
-among_known z (u ∷ us) (inl e) = inl e
-among_known z (u ∷ us) (inr i) = inr (among_known z us i)
-
--- what is found is among what is known
-found_among : (K : Naming Name Name) (ks : List (Known Name)) (n : Name) (k : Known Name) → entry_of K ks n ≡ Some k → IsAmong k ks
-unfolding entry_of
-found_among K [] n k e = absurd (let j : ◌≡◌ {A = Option (Known Name)} None (Some k) = e in cc)
-found_among K (j ∷ ks) n k e = go (K.same j.name n) e (λ f. found_among K ks n k f)
-  where
-    one : Some j ≡ Some k → k ≡ j
-    one f = cc
-
-    go : (c : Bool) → ◌≡◌ {A = Option (Known Name)} (elim c [ true ↦ Some j | false ↦ entry_of K ks n ]) (Some k) → (entry_of K ks n ≡ Some k → IsAmong k ks) → IsAmong k (j ∷ ks)
-    go true f r = inl (one f)
-    go false f r = inr (r f)
+turned : {A : Type 0} (x : A) (xs : List A) → IsAmong x xs → connected.IsAmong x xs
+turned x [] i = i
+turned x (y ∷ xs) (inl e) = inl e
+turned x (y ∷ xs) (inr i) = inr (turned x xs i)
 
 module _ (script : Script) (once : KnowsOnce script) (honest : ℕ → Bool) (everyone : (u : ℕ) → honest u ≡ true) (x y : World) (of_run : IsOfRun script x) (en : Entry) (g : GoesBy script en x y) (b : ℕ) (was : Vat Name) (there : slice_get x.vats b ≡ Some was) (head : List Event) (silent : AllQuiet head)
     (u : Vat Name) (entries : (m : Name) → Stands script honest x b head m (entry_of (names script b) was.known m) (entry_of (names script b) u.known m)) (happened : u.happened ≡ []) (lists : u.lists ≡ was.lists) (drawn : u.drawn ≡ x.drawn) (hosts : AllOf HostIsTrue u.known) (ready : Ready script honest x b u) where
@@ -120,7 +108,7 @@ module _ (script : Script) (once : KnowsOnce script) (honest : ℕ → Bool) (ev
     where
       go : (entry_of K u.known n ≡ entry_of K was.known n) ⊎ ((h : ℕ) × (entry_of K was.known n ≡ None) × (entry_of K u.known n ≡ Some (begun n h))) → was_sent m.id (middle x b head u).history ≡ false
       go (inl i) = middle_unsent x b head u m.id silent (subst (λ es. AllOf IsQuietLine es) (sym happened) tt)
-          (reacting.unsent script g.opened x g.es 1 g.opens g.before b was there m (k, found_among K was.known n k (sym i ∙ e), a))
+          (reacting.unsent script g.opened x g.es 1 g.opens g.before b was there m (k, entry_among K was.known n k (sym i ∙ e), a))
       go (inr i) = absurd (no_reactions n i.0 m (subst (λ (j : Known Name). IsAmong m j.reactions) (some_known k (begun n i.0) (sym e ∙ i.2)) a))
 
   pub holds : Holds script honest x b head u
@@ -150,7 +138,7 @@ module _ (script : Script) (once : KnowsOnce script) (honest : ℕ → Bool) (ev
   members k vs e = all_held vs (rest.members b was there k vs (ap (λ ls. slice_get ls k) (sym lists) ∙ e))
 
   came_so : (n : Name) (k : Known Name) → entry_of K was.known n ≡ Some k → (m : Message Name) → IsAmong m k.held → CameSo script honest x b head (readied x (record was { queue = was.queue })) m
-  came_so n k e m a = held_came_so script honest x around b was there k (among_known k was.known (found_among K was.known n k e)) m (among_known m k.held a) head was.queue
+  came_so n k e m a = held_came_so script honest x around b was there k (turned k was.known (entry_among K was.known n k e)) m (turned m k.held a) head was.queue
 
   at_once : (m : Message Name) → CameSo script honest x b head (readied x (record was { queue = was.queue })) m → Came script honest x b head u m
   unfolding readied

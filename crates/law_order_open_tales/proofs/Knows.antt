@@ -9,7 +9,7 @@ use Rattle.def_machine.specs.Refs as refs
 use Rattle.def_machine.specs.Refs.{entry_of}
 use Rattle.def_run.specs.Draws.{draw_word}
 use Rattle.def_run.specs.World as world
-use Rattle.def_run.specs.World.{Script, Entry, Carry, Event, World, Goes, names, names_of, read_note, readied}
+use Rattle.def_run.specs.World.{Script, Carry, Event, World, names, names_of, read_note, readied}
 use Rattle.law_name.specs.Names.{AllOf, IsEventual, IsKnownIn, IsHad, IsMade, WasMade, GiftOk, NoteOk, names_in}
 use Rattle.law_name.specs.Runs.{KnowsOnce}
 use Rattle.law_name.proofs.Laws.{names_known, notes_made}

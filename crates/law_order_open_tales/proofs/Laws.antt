@@ -1,12 +1,12 @@
 -- A note that opens a gift is carried by small steps, in every run of a script that is read.
 use Rattle.std.proofs.Common.{◌≡◌, ℕ, zero, suc, Bool, true, false, List, [], ◌∷◌, ◌++◌, Some, refl, sym, ap, subst, ◌∙◌, ◌⊎◌, inl, inr, ◌&&◌, ◌||◌}
 use Rattle.std.specs.Prelude.{slice_get}
-use Rattle.def_machine.specs.Values.{Value, Broken, Words, Name, Gift, Ref, Naming, same_name}
+use Rattle.def_machine.specs.Values.{Broken, Words, Name, Gift, Ref, Naming, same_name}
 use Rattle.def_machine.specs.State.{Unsettled, Settled, Open, GiftEntry, Vat, Done, Gives, with_opened}
 use Rattle.def_machine.specs.Refs as refs
 use Rattle.def_machine.specs.Refs.{entry_of, standing_of}
 use Rattle.def_run.specs.World as world
-use Rattle.def_run.specs.World.{Script, Carry, Entry, Event, Carried, World, Goes, names, names_of, read_note, readied, step_number}
+use Rattle.def_run.specs.World.{Script, Carry, Event, Carried, World, names, names_of, read_note, readied, step_number}
 use Rattle.law_run.proofs.Honest.{honest_reached}
 use Rattle.law_name.specs.Names.{AllOf, IsAmong, HostIsTrue}
 use Rattle.law_name.specs.Runs.{KnowsOnce}
@@ -37,10 +37,8 @@ use Rattle.law_order_tales.specs.Middle.{middle}
 use Rattle.law_order_tales.proofs.Arriving.{Bare, Arrival, ended_is, step_is}
 use Rattle.law_order_tales.proofs.Begun.{begin_small, ended, end_small}
 use Rattle.law_order_sending.proofs.Around.{stands_in}
-use Rattle.law_order_settling.specs.Holding.{Holds, HeldCame}
+use Rattle.law_order_settling.specs.Holding.{Holds, HeldCame, VatsAreSound}
 use Rattle.law_order_settling.proofs.Acts.{tale_then}
-use Rattle.law_order_settling.proofs.FarTold.{FarIsTold, far_is_told}
-use Rattle.law_order_settling.proofs.Settling.{IsList}
 use Rattle.law_order_settling.proofs.Sound.{vats_are_sound}
 use Rattle.law_order_open_tales.specs.Tales.{OpensAreTales}
 use Rattle.law_order_open_tales.proofs.Grown.{Stands}
@@ -161,14 +159,14 @@ module _ (script : Script) (once : KnowsOnce script) (follow : NoticesFollowCuts
   unfolding standing_of refs.standing_in
   entry_stood = sym (ap (λ z. refs.standing_in z) its.known.1)
 
-  far : (v : Value Name) → FarIsTold script honest x b Head (IsList v) Was h.there
-  far v = far_is_told script honest x b Head (IsList v) Was h.there all (vats_are_sound script x (stands_in script once x of_run))
+  sound : VatsAreSound script x
+  sound = vats_are_sound script x (stands_in script once x of_run)
 
   gift_tale : (t : Vat Name) → refs.resolve K G (Ref n) Opened ≡ Gives tt t → Tale script honest (At S) (At t)
   gift_tale t e = go calm
     where
       go : (standing_of K Was.known G ≡ Unsettled) ⊎ ((p : Words) × (standing_of K Was.known G ≡ Settled (Broken p))) → Tale script honest (At S) (At t)
-      go (inl f) = resolved_tale script honest all x a b i n h Head S empty first its.entry its.kept its.named its.known.0 its.known.1 (entry_stood ∙ stood ∙ f) its.learnt (of_all []) (λ z. 0) its.steady far holds came t e
+      go (inl f) = resolved_tale script honest all x a b i n h Head S empty first its.entry its.kept its.named its.known.0 its.known.1 (entry_stood ∙ stood ∙ f) its.learnt (of_all []) (λ z. 0) its.steady sound holds came t e
       go (inr f) = rested_tale script honest all x a b i n h Head S empty first its.entry its.kept its.named its.known.0 its.known.1 (Broken f.0) (entry_stood ∙ stood ∙ f.1) t e
 
   inner : (t : Vat Name) → Arrival script honest x a b (Open i n) h ≡ Gives tt t → Tale script honest (At Start) (At t)

@@ -31,11 +31,11 @@ use Rattle.law_order_steady.proofs.Viewed.{target_ref, no_name_target}
 use Rattle.law_order_steady.proofs.Wells.{all_led, clear_plain, here}
 use Rattle.law_order_history.specs.Tells.{Tale}
 use Rattle.law_order_tales.specs.Middle.{middle}
-use Rattle.law_order_settling.specs.Holding.{Holds, HeldCame}
+use Rattle.law_order_settling.specs.Holding.{Holds, HeldCame, VatsAreSound}
 use Rattle.law_order_settling.proofs.Acts.{Told, later_by}
 use Rattle.law_order_settling.proofs.Frames.{changed_frame, less_mild}
 use Rattle.law_order_settling.proofs.Later.{Later, holds_on, held_came}
-use Rattle.law_order_settling.proofs.Settling.{IsList, FarIsTold, settlings}
+use Rattle.law_order_settling.proofs.Settling.{IsList, settlings}
 use Rattle.law_order_settling.proofs.Waiting.{WaitsElse, follow_same, follows_same}
 use Rattle.law_order_settling.proofs.Walk.{IsObjectValue}
 use Rattle.law_order_open_tales.proofs.Settles.{twice, target_same, settles_same}
@@ -268,7 +268,7 @@ module _ (script : Script) (honest : ℕ → Bool) (all : (u : ℕ) → honest u
 
       -- ---- so it settles by small steps
 
-      module _ (head : List Event) (far : FarIsTold script honest w b head (IsList y) r at) (holds : Holds script honest w b head Opened) (came : HeldCame script honest w b head Opened) where
+      module _ (head : List Event) (sound : VatsAreSound script w) (holds : Holds script honest w b head Opened) (came : HeldCame script honest w b head Opened) where
         later : Later script honest w b head ⊥ Opened Just
         later = later_by script honest w b head ⊥ Opened Just [] (sym (append-nil s.happened)) tt opened_ready stay (less_mild script b (WaitOn n) tt G Opened Just refl)
             (λ l v k f. sym (follow_same script honest b G Opened Just else_so v) ∙ f) (changed_frame K (WaitOn n) G Opened Just refl refl refl)
@@ -279,5 +279,5 @@ module _ (script : Script) (honest : ℕ → Bool) (all : (u : ℕ) → honest u
         pub settled_tale : (t : Vat Name) → refs.settle K G y Opened ≡ Gives tt t → Tale script honest (middle w b head Just) (middle w b head t)
         settled_tale t e = let run : refs.settle_at K (suc (suc (length Just.known))) G y Just ≡ Gives tt t = settles_same K Opened G g found unsettled_yet n found_now else_so.names_known (λ v. follow_same script honest b G Opened Just else_so v) y ∙ e in
             let told : Told script honest w b head (IsList y) Just t = subst (λ d. IfGives (λ u. Told script honest w b head (IsList y) Just u) d) run
-            (settlings script honest w b head (IsList y) r at far y (clear_plain script honest all w b r at s.noticed y clear) (λ l. l) (apart y) (suc (suc (length Just.known))) G Just
+            (settlings script honest w b head (IsList y) r at all sound y (clear_plain script honest all w b r at s.noticed y clear) (λ l. l) (apart y) (suc (suc (length Just.known))) G Just
             (led_just (suc (length Just.known)) few) (holds_on script honest w b head ⊥ Opened Just later holds) (λ q. held_came script honest w b head ⊥ Opened Just later (λ l. l) came)) in told.tale

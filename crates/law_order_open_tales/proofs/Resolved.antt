@@ -34,9 +34,8 @@ use Rattle.law_order_steady.proofs.Facts as facts
 use Rattle.law_order_steady.proofs.Steady.{Steady}
 use Rattle.law_order_history.specs.Tells.{Tale}
 use Rattle.law_order_tales.specs.Middle.{middle}
-use Rattle.law_order_settling.specs.Holding.{Holds, HeldCame}
+use Rattle.law_order_settling.specs.Holding.{Holds, HeldCame, VatsAreSound}
 use Rattle.law_order_settling.proofs.Acts.{tale_then}
-use Rattle.law_order_settling.proofs.Settling.{IsList, FarIsTold}
 use Rattle.law_order_open_tales.proofs.Led.{settled_tale}
 use Rattle.law_order_open_tales.proofs.Opening.{opens_tale}
 use Rattle.law_order_open_tales.proofs.Waits as waits
@@ -158,10 +157,10 @@ module _ (script : Script) (honest : ℕ → Bool) (all : (u : ℕ) → honest u
 
   -- ---- whatever the name leads to
 
-  module _ (far : (v : Value Name) → FarIsTold script honest x b head (IsList v) h.vat h.there) (holds : Holds script honest x b head Opened) (came : HeldCame script honest x b head Opened) where
+  module _ (sound : VatsAreSound script x) (holds : Holds script honest x b head Opened) (came : HeldCame script honest x b head Opened) where
     settles_tale : (v : Value Name) → NoPromise v → IsClear K s.noticed v → ((q : Name) → v ≡ Ref q → refs.follow K s (Ref n) ≡ Ref q) → (t : Vat Name) → refs.settle K G v Opened ≡ Gives tt t → Tale script honest (At s) (At t)
     settles_tale v last clear leads t e = tale_then script honest (At s) (At Just) (At t) to_just
-        (settled_tale script honest all x b h.vat h.there s a i entry kept named g found unsettled_yet n c o steady v last clear learnt leads head (far v) holds came t e)
+        (settled_tale script honest all x b h.vat h.there s a i entry kept named g found unsettled_yet n c o steady v last clear learnt leads head sound holds came t e)
 
     abbrev Y : Value Name
     Y = refs.follow K s (Ref n)

@@ -1,8 +1,8 @@
 -- In every run the first note of a link that bears a message names nothing that its receiver makes as it takes it, and its receiver is ready.
 use Rattle.std.proofs.Common.{◌≡◌, ℕ, zero, suc, ◌+◌, ◌≤◌, Bool, true, false, List, ◌∷◌, refl, sym, ap, subst, ◌∙◌, ◌⊎◌, inl, inr, arith}
-use Rattle.def_machine.specs.Values.{Words, Value, Ref, Name, Answer, Sent, Msg, Naming}
+use Rattle.def_machine.specs.Values.{Words, Value, Ref, Name, Answer, Sent, Msg}
 use Rattle.def_machine.specs.State.{Passed, Passeds, Plain, AGift, Many, NoMore, More, Delivery, Note, Deliver, Vat}
-use Rattle.def_run.specs.World.{Script, Entry, World, Goes, begins, open_from, steps_from, names, read_passed}
+use Rattle.def_run.specs.World.{Script, Entry, World, Goes, begins, open_from, steps_from, read_passed}
 use Rattle.law_run.proofs.Honest.{honest_reached}
 use Rattle.law_name.specs.Names.{AllOf, IsAmong, IsKnownIn, IsMade, IsMessageMade, WasMade, ValueOk, PassedOk, PassedsOk, NoteOk, KnownOk, messages_of, promises_of, names_in}
 use Rattle.law_name.specs.Runs.{KnowsOnce}
@@ -24,9 +24,6 @@ not_both c e f = cc
 
 module _ (script : Script) (once : KnowsOnce script) (w x : World) (es : List Entry) (k : ℕ) (o : open_from script zero script.vats (begins script) ≡ Goes w) (e : steps_from script es k w ≡ Goes x)
     (honest : ℕ → Bool) (a b : ℕ) (d : Delivery Name) (n : Name) (verb : Words) (ys : Passeds Name) (c : BearsMessage script honest x a b d n verb ys) where
-  abbrev K : Naming Name Name
-  K = names script b
-
   abbrev D : Note Name
   D = Deliver d n verb ys
 

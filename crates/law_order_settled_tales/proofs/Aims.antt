@@ -3,7 +3,7 @@ use Rattle.std.proofs.Common.{◌≡◌, ℕ, false, List, refl, sym, ap, subst,
 use Rattle.def_machine.specs.Values.{Value, Ref, Name, Naming, Foreign}
 use Rattle.def_machine.specs.State.{Known, Vat, is_in}
 use Rattle.def_machine.specs.Refs as refs
-use Rattle.def_machine.specs.Refs.{Place, Away, entry_of, follow_at}
+use Rattle.def_machine.specs.Refs.{follow_at}
 use Rattle.def_run.specs.World.{Script, names}
 use Rattle.law_fate.specs.Lasting.{NoPromise}
 use Rattle.law_order.specs.Ways.{Way, Nowhere, End}

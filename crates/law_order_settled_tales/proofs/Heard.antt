@@ -2,9 +2,9 @@
 use Rattle.std.proofs.Common.{◌≡◌, ℕ, suc, Bool, true, false, List, [], ◌∷◌, Some, refl, sym, ap, subst, ◌∙◌, eqb-true}
 use Rattle.std.specs.Prelude.{slice_get, ◌==◌, ◌&&◌}
 use Rattle.def_machine.specs.Values.{Value, Items, Ref, Name, Naming, same_name, host_of}
-use Rattle.def_machine.specs.State.{Known, Standing, Settle, Settled, Settles, Message, Vat}
+use Rattle.def_machine.specs.State.{Standing, Settle, Settled, Settles, Vat}
 use Rattle.def_machine.specs.Refs as refs
-use Rattle.def_machine.specs.Refs.{entry_of, standing_of}
+use Rattle.def_machine.specs.Refs.{standing_of}
 use Rattle.def_run.specs.World.{Script, Event, World, names, events_of}
 use Rattle.law_order.specs.Ways.{Way, Place, Nowhere, End}
 use Rattle.law_order.specs.Places.{amid}

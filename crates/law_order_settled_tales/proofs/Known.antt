@@ -1,7 +1,7 @@
 -- In a run, as a vat has learnt what a note tells of a name that settled: what is asked of it for settlings by small steps holds.
-use Rattle.std.proofs.Common.{◌≡◌, ℕ, zero, suc, Bool, true, false, List, [], ◌∷◌, ◌++◌, Option, Some, None, length, refl, sym, ap, subst, ◌∙◌, ◌⊎◌, inl, inr, arith}
+use Rattle.std.proofs.Common.{◌≡◌, ℕ, zero, suc, Bool, true, false, List, [], ◌∷◌, ◌++◌, Some, None, length, refl, sym, ap, subst, ◌∙◌, ◌⊎◌, inl, inr, arith}
 use Rattle.def_machine.specs.Values.{Words, Value, Broken, Ref, Name, Naming, host_of}
-use Rattle.def_machine.specs.State.{Message, Standing, Unsettled, WaitsOn, Viewed, Settled, Known, Passed, Plain, Note, SettledTo, Put, Vat, Done, Gives, ◌>>=◌, and_then, give, is_in}
+use Rattle.def_machine.specs.State.{Message, Standing, Unsettled, Viewed, Settled, Known, Passed, Note, SettledTo, Put, Vat, Gives, is_in}
 use Rattle.def_machine.specs.Refs as refs
 use Rattle.def_machine.specs.Refs.{entry_of, standing_of, follow_at}
 use Rattle.def_machine.specs.Arrive as arriving
@@ -41,10 +41,10 @@ use Rattle.law_order_message_tales.proofs.Calm.{Calm, StandsOr}
 use Rattle.law_order_message_tales.proofs.Reaching.{IsAtRest}
 use Rattle.law_order_message_tales.proofs.Rests.{rests}
 use Rattle.law_order_settling.specs.Holding.{Holds}
-use Rattle.law_order_settled_tales.proofs.Begins.{found_among}
 use Rattle.law_order_settled_tales.proofs.Entries.{Learns, IsAsIn, as_was, bare}
 use Rattle.law_order_settled_tales.proofs.Learnt as learnt
 use Rattle.law_order_settled_tales.proofs.Settles.{HasLearnt}
+use Rattle.law_order_steady.proofs.Wells.{entry_among}
 
 none_each : {A : Type 0} (P : Type 0) (xs : List A) → (P → ⊥) → Each (λ (y : A). P) xs → xs ≡ []
 none_each P [] f h = refl
@@ -59,9 +59,6 @@ silent_for b other h = tt
 all_for : (ps : List (Put Name)) → AllOf (λ (p : Put Name). IsSilent p.note) ps → AllOf (λ (p : Put Name). IsNoteFor p.to p.note) ps
 all_for [] h = tt
 all_for (p ∷ ps) h = (silent_for p.to p.note h.0, all_for ps h.1)
-
-none_some : (k : Known Name) → ◌≡◌ {A = Option (Known Name)} None (Some k) → ⊥
-none_some k e = cc
 
 -- ---- where a vat's own names end
 
@@ -140,7 +137,7 @@ module _ (script : Script) (once : KnowsOnce script) (w x : World) (es : List En
   quiet = subst (λ ls. AllOf IsQuietLine ls) (sym calm.happened) calm.quiet
 
   never_sent : (q : Name) (k : Known Name) → entry_of K Was.known q ≡ Some k → (u : Message Name) → IsAmong u k.reactions → was_sent u.id (middle x b head s).history ≡ false
-  never_sent q k f u g = middle_unsent x b head s u.id silent quiet (unsent script w x es i o e b Was h.there u (k, found_among script b Was.known q k f, g))
+  never_sent q k f u g = middle_unsent x b head s u.id silent quiet (unsent script w x es i o e b Was h.there u (k, entry_among K Was.known q k f, g))
 
   unsent_by : (q : Name) (k : Known Name) → IsAsIn script b Start q k → (u : Message Name) → IsAmong u k.reactions → was_sent u.id (middle x b head s).history ≡ false
   unfolding readied
@@ -195,7 +192,7 @@ module _ (script : Script) (once : KnowsOnce script) (w x : World) (es : List En
   sleeps_by : IsAsIn script b Start n entry.0 → (q : Name) → IsAmong q entry.0.waiting → IsWaitOf n (standing_of K s.known q)
   unfolding readied
   sleeps_by (as_was j f c d) q g = still_waits q (subst (λ u. IsWaitOf u (standing_of K Was.known q)) (entry_name script b Was.known n j f)
-      ((waiters_wait_in_runs script once).1 w x es i follow o e b Was h.there j q (found_among script b Was.known n j f) (subst (λ qs. IsAmong q qs) c g))) (calm.standing q)
+      ((waiters_wait_in_runs script once).1 w x es i follow o e b Was h.there j q (entry_among K Was.known n j f) (subst (λ qs. IsAmong q qs) c g))) (calm.standing q)
   sleeps_by (bare c d) q g = absurd (subst (λ qs. IsAmong q qs) c g)
 
   noticed : s.noticed ≡ Was.noticed

@@ -9,7 +9,7 @@ use Rattle.def_machine.specs.Refs.{entry_of}
 use Rattle.def_machine.specs.Arrive as arriving
 use Rattle.def_machine.specs.Arrive.{Old, New}
 use Rattle.def_run.specs.World as world
-use Rattle.def_run.specs.World.{Script, Carry, Entry, Event, Carried, World, names, names_of, readied}
+use Rattle.def_run.specs.World.{Script, Carry, Event, Carried, World, names, names_of}
 use Rattle.law_name.specs.Names.{names_in}
 use Rattle.law_name.specs.Runs.{KnowsOnce}
 use Rattle.law_name.proofs.SameNames.{new_unknown}
@@ -34,9 +34,7 @@ use Rattle.law_order_tales.specs.Middle.{middle}
 use Rattle.law_order_tales.proofs.Arriving.{Start, Arrival, head_of, silent_tale}
 use Rattle.law_order_news_tales.proofs.Parts.{gave}
 use Rattle.law_order_settling.specs.Holding.{HeldCame, VatsAreSound}
-use Rattle.law_order_settling.proofs.Settling.{IsList, FarIsTold}
 use Rattle.law_order_settling.proofs.Walk.{IsObjectValue}
-use Rattle.law_order_settling.proofs.FarTold.{far_is_told}
 use Rattle.law_order_settling.proofs.Sound.{vats_are_sound}
 use Rattle.law_order_runs.proofs.ToldRuns.{NoteTrue}
 use Rattle.law_order_runs.proofs.Truths.{object_self}
@@ -146,9 +144,6 @@ module _ (script : Script) (once : KnowsOnce script) (vats : KnowsVats script) (
     sound : VatsAreSound script x
     sound = vats_are_sound script x (let z = rests script once honest all x of_run in z.stands)
 
-    far : (q : Value Name) → FarIsTold script honest x b Head (IsList q) h.vat h.there
-    far q = far_is_told script honest x b Head (IsList q) h.vat h.there all sound
-
     -- ---- to data
 
     no_object : (q : Value Name) → IsData q → IsObjectValue q → ⊥
@@ -158,7 +153,7 @@ module _ (script : Script) (once : KnowsOnce script) (vats : KnowsVats script) (
     to_data : (q : Value Name) → IsData q → refs.target_of K s n v ≡ q → l.entry.standing ≡ Unsettled → M
     to_data q d same unsettled = let u : Vat Name = settles.Then script honest all x b a h.vat h.there Head n Hosted Other Plainly s l q (data_lasts q d) (data_clear K s.noticed q d) in
         settles.settles_tale script honest all x b a h.vat h.there Head n Hosted Other Plainly s l q (data_lasts q d) (data_clear K s.noticed q d) unsettled (λ i. data_ended script b i u.known q d) (nowhere (data_nowhere script b u q d))
-        (λ told. ended_names_keep script honest x b a h.vat s u n q h.there l.tidy told (data_nowhere script b u q d)) (far q) (inr (λ i. absurd (no_object q d i))) t v same settled
+        (λ told. ended_names_keep script honest x b a h.vat s u n q h.there l.tidy told (data_nowhere script b u q d)) sound (inr (λ i. absurd (no_object q d i))) t v same settled
 
     -- ---- to an object of the vat that tells it
 
@@ -208,7 +203,7 @@ module _ (script : Script) (once : KnowsOnce script) (vats : KnowsVats script) (
           settles.settles_tale script honest all x b a h.vat h.there Head n Hosted Other Plainly s l (Ref q) (subst PassedLast is lasts) clear unsettled
           (λ i. object_self script b i u.known q (settles.unknown script honest all x b a h.vat h.there Head n Hosted Other Plainly s l (Ref q) (subst PassedLast is lasts) clear unsettled q object))
           (there q (object_out script b a u q abroad l.unnoticed))
-          (λ k. settled_names_keep script honest x b a h.vat s u n q h.there l.tidy k (all b) (all a) object host leads_home) (far (Ref q)) (came_by l.was_known) t v (subst (λ c. refs.target_of K s n c ≡ Ref q) (sym value) (target_same K s n (Ref q) tt)) settled
+          (λ k. settled_names_keep script honest x b a h.vat s u n q h.there l.tidy k (all b) (all a) object host leads_home) sound (came_by l.was_known) t v (subst (λ c. refs.target_of K s n c ≡ Ref q) (sym value) (target_same K s n (Ref q) tt)) settled
 
     -- ---- whatever was told
 

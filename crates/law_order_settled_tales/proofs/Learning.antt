@@ -1,10 +1,9 @@
 -- A vat learns the name of a note that tells to what it settled, and then what it settled to: it stays steady, and no message moves.
 use Rattle.std.proofs.Common.{◌≡◌, ℕ, ◌+◌, ◌≤◌, Bool, true, false, List, [], ◌∷◌, ap, ◌∙◌, arith, if◌then◌else◌}
-use Rattle.std.specs.Prelude.{slice_get, codes}
+use Rattle.std.specs.Prelude.{codes}
 use Rattle.def_machine.specs.Values.{Value, Ref, Broken, Name, Promise, Naming, IsLearnt, IsGift}
 use Rattle.def_machine.specs.State.{Standing, Settled, Passed, Passeds, Plain, AGift, Many, NoMore, More, Ask, ListCame, Vat, Gives, Act, ◌>>=◌, and_then, give, new_list, send_out}
 use Rattle.def_machine.specs.Refs as refs
-use Rattle.def_machine.specs.Refs.{entry_of, standing_of}
 use Rattle.def_machine.specs.Arrive as arriving
 use Rattle.def_machine.specs.Arrive.{Incoming, Old, New}
 use Rattle.def_run.specs.Draws.{draw_word}
@@ -15,7 +14,6 @@ use Rattle.law_fate.specs.Sound.{Sound, HostComes, PassedHosts}
 use Rattle.law_fate.specs.Lasting.{ComesAsNoObject, PassedComes}
 use Rattle.law_order.proofs.Moves.{Keeps, keeps_give, keeps_look, keeps_tell}
 use Rattle.law_order_steady.proofs.Staying as staying
-use Rattle.law_order_steady.proofs.Staying.{moves}
 use Rattle.law_order_steady.proofs.Steady.{Steady, GoodAt, IsAside, carried, done_at, after_at, light_at, claims_on, At}
 use Rattle.law_order_waits.proofs.Arriving as arrive_costs
 use Rattle.law_order_waits.proofs.Costs as costs

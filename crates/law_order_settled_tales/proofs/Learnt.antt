@@ -5,7 +5,7 @@ use Rattle.def_machine.specs.State.{Passed, Passeds, Plain, AGift, Many, NoMore,
 use Rattle.def_machine.specs.Arrive as arriving
 use Rattle.def_machine.specs.Arrive.{Incoming}
 use Rattle.def_run.specs.World as world
-use Rattle.def_run.specs.World.{Script, Carry, Entry, Event, Link, World, Goes, begins, open_from, steps_from, step, names, readied, read_passed}
+use Rattle.def_run.specs.World.{Script, Carry, Entry, Link, World, Goes, begins, open_from, steps_from, step, names, readied, read_passed}
 use Rattle.law_name.specs.Names.{AllOf, IsMade, WasMade, ValueOk, PassedOk, PassedsOk, NoteOk, KnownOk, messages_of, promises_of, names_in}
 use Rattle.law_name.specs.Runs.{KnowsOnce}
 use Rattle.law_name.proofs.Laws.{names_made, notes_made}

@@ -19,9 +19,9 @@ use Rattle.law_order_steady.proofs.Facts.{IsClear}
 use Rattle.law_order_steady.proofs.Steady.{Steady}
 use Rattle.law_order_history.specs.Tells.{SmallStep, Tale, over, then_on}
 use Rattle.law_order_tales.specs.Middle.{middle}
-use Rattle.law_order_settling.specs.Holding.{Holds, HeldCame}
+use Rattle.law_order_settling.specs.Holding.{Holds, HeldCame, VatsAreSound}
 use Rattle.law_order_settling.proofs.Later.{Later}
-use Rattle.law_order_settling.proofs.Settling.{IsList, FarIsTold}
+use Rattle.law_order_settling.proofs.Settling.{IsList}
 use Rattle.law_order_settling.proofs.Walk.{IsObjectValue}
 use Rattle.law_order_news_tales.proofs.First.{first_small}
 use Rattle.law_order_news_tales.proofs.Parts.{settle_parts}
@@ -65,7 +65,7 @@ module _ (script : Script) (honest : ℕ → Bool) (all : (h : ℕ) → honest h
       unknown unsettled q i = let r = waits.ready_then script honest all x b was there head n away s l.steady l.entry l.found unsettled l.bare.0 l.sleeps y last in r.ends.objects q i
 
       module _ (unsettled : l.entry.standing ≡ Unsettled) (ended : (d : ℕ) → follow_at K d Then.known y ≡ y) (out : GoesOut b a (aimed_at script b Then y)) (keeps : IsToldOf script b a s Then n y → KeepsAll script honest x b s Then)
-          (far : FarIsTold script honest x b head (IsList y) was there) (came : (l.entry.waiting ≡ []) ⊎ (IsObjectValue y → HeldCame script honest x b head s)) where
+          (sound : VatsAreSound script x) (came : (l.entry.waiting ≡ []) ⊎ (IsObjectValue y → HeldCame script honest x b head s)) where
         ready_then : Ready script honest x b Then
         ready_then = waits.ready_then script honest all x b was there head n away s l.steady l.entry l.found unsettled l.bare.0 l.sleeps y last
 
@@ -88,7 +88,7 @@ module _ (script : Script) (honest : ℕ → Bool) (all : (h : ℕ) → honest h
         first = first_small script honest all x b a was there head n s l.entry l.found unsettled l.bare.0 y last l.tidy told (keeps told)
 
         pub settles_tale : (t : Vat Name) (z : Value Name) → refs.target_of K s n z ≡ y → refs.settle K n z s ≡ Gives tt t → Tale script honest (At s) (At t)
-        settles_tale t z same ends = then_on first (waits.rest_tale script honest all x b was there head n away s l.steady l.entry l.found unsettled l.bare.0 l.sleeps y last clear far l.holds came later t
+        settles_tale t z same ends = then_on first (waits.rest_tale script honest all x b was there head n away s l.steady l.entry l.found unsettled l.bare.0 l.sleeps y last clear sound l.holds came later t
             (settle_parts K s n y l.entry t l.bare.0 l.bare.1 l.found unsettled z same ends))
 
     -- what was settled stays so

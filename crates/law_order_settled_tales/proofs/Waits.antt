@@ -1,5 +1,5 @@
 -- A name of another vat settles at a steady vat that is told so: those that wait for it settle by small steps, and what reacts on it is queued.
-use Rattle.std.proofs.Common.{◌≡◌, ℕ, suc, ◌+◌, ◌*◌, ◌≤◌, Bool, true, List, [], ◌∷◌, Some, length, refl, sym, subst, ◌⊎◌, inl, inr, arith}
+use Rattle.std.proofs.Common.{◌≡◌, ℕ, suc, ◌+◌, ◌*◌, ◌≤◌, Bool, true, List, [], Some, length, sym, subst, ◌⊎◌, inl, inr, arith}
 use Rattle.std.specs.Prelude.{slice_get}
 use Rattle.def_machine.specs.Values.{Value, Name, Naming, host_of}
 use Rattle.def_machine.specs.State.{Known, Unsettled, Settled, Settle, Settles, Vat, Gives, changed, with_change}
@@ -30,20 +30,17 @@ use Rattle.law_order_steady.proofs.Facts.{IsClear}
 use Rattle.law_order_steady.proofs.Steady.{Steady, less, then_steady}
 use Rattle.law_order_history.specs.Tells.{Tale}
 use Rattle.law_order_tales.specs.Middle.{middle}
-use Rattle.law_order_settling.specs.Holding.{Holds, HeldCame}
+use Rattle.law_order_settling.specs.Holding.{Holds, HeldCame, VatsAreSound}
 use Rattle.law_order_settling.proofs.Acts.{Told, told_self, told_then}
 use Rattle.law_order_settling.proofs.Later.{Later, unsent_on, holds_on, held_came}
-use Rattle.law_order_settling.proofs.Settling.{IsList, FarIsTold, waits_tale}
+use Rattle.law_order_settling.proofs.Settling.{IsList, waits_tale}
 use Rattle.law_order_settling.proofs.Walk.{IsObjectValue, Unsent, among_all, reacts}
 use Rattle.law_order_news_tales.proofs.Told.{gives_same}
 use Rattle.law_order_news_tales.proofs.Parts.{Parts}
+use Rattle.law_order_steady.proofs.Wells as wells
 
 still_open : IsOpen {N = Name} Unsettled
 still_open y e = cc
-
-all_by : (P : Name → Type 0) (qs : List Name) → ((q : Name) → IsAmong q qs → P q) → AllOf P qs
-all_by P [] f = tt
-all_by P (q ∷ qs) f = (f q (inl refl), all_by P qs (λ r i. f r (inr i)))
 
 given : {A : Type 0} (P : Vat Name → Type 0) (d : state.Done Name A) (a : A) (t : Vat Name) → d ≡ Gives a t → IfGives P d → P t
 given P d a t e h = subst (λ z. IfGives P z) e h
@@ -83,7 +80,7 @@ module _ (script : Script) (honest : ℕ → Bool) (all : (h : ℕ) → honest h
       go (changes g i a c) = let z = change_settles y g in subst (λ o. IsWaitOf n (refs.standing_in o)) (sym c) (subst (λ t. IsWaitOf n t) (sym z.1) tt)
 
   asleep : AllOf (λ (q : Name). IsWaitOf n (standing_of K Then.known q)) j.waiting
-  asleep = all_by (λ q. IsWaitOf n (standing_of K Then.known q)) j.waiting (λ q i. wait_then q (sleeps q i))
+  asleep = wells.among_all (λ q. IsWaitOf n (standing_of K Then.known q)) j.waiting (λ q i. wait_then q (sleeps q i))
 
   rests : (g : Known Name) × (entry_of K Then.known n ≡ Some g) × (g.standing ≡ Settled y)
   rests = (changed (Settle y) j, entry_changed K n (Settle y) s.known j found, settled_now script b (with_line s (Settles n y)) n y j found (subst settling.IsOpen (sym waits) tt) empty)
@@ -101,7 +98,7 @@ module _ (script : Script) (honest : ℕ → Bool) (all : (h : ℕ) → honest h
   abbrev To : Vat Name → Vat Name → Type 0
   To t u = Told script honest x b head (IsList y) t u
 
-  module _ (clear : IsClear K s.noticed y) (far : FarIsTold script honest x b head (IsList y) was there) (holds : Holds script honest x b head s) (came : (j.waiting ≡ []) ⊎ (IsObjectValue y → HeldCame script honest x b head s)) (heard : Later script honest x b head (IsList y) s Then) where
+  module _ (clear : IsClear K s.noticed y) (sound : VatsAreSound script x) (holds : Holds script honest x b head s) (came : (j.waiting ≡ []) ⊎ (IsObjectValue y → HeldCame script honest x b head s)) (heard : Later script honest x b head (IsList y) s Then) where
     holds_then : Holds script honest x b head Then
     holds_then = holds_on script honest x b head (IsList y) s Then heard holds
 
@@ -113,7 +110,7 @@ module _ (script : Script) (honest : ℕ → Bool) (all : (h : ℕ) → honest h
       unfolding state.each state.give
       waited_by (inl none) = subst (To Then) (gives_same Then p.between (subst (λ qs. Each qs ≡ Gives tt p.between) none p.waits)) (told_self script honest x b head (IsList y) Then)
       waited_by (inr came_so) = given (To Then) (Each j.waiting) tt p.between p.waits
-          (waits_tale script honest all x b head was there y last far (suc (length s.known)) n (λ m. 0) (λ m. 0) j.waiting Then rests asleep steady_wait few clear holds_then
+          (waits_tale script honest all x b head was there y last sound (suc (length s.known)) n (λ m. 0) (λ m. 0) j.waiting Then rests asleep steady_wait few clear holds_then
           (λ i. held_came script honest x b head (IsList y) s Then heard (apart y i) (came_so i)))
 
       waited : To Then p.between

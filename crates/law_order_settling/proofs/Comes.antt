@@ -99,9 +99,6 @@ module _ (script : Script) (honest : ℕ → Bool) (w : World) (v : ℕ) (s : Va
   abbrev K : Naming Name Name
   K = names script v
 
-  abbrev Came : Vat Name
-  Came = record s { known = s.known ++ begun a g ∷ [] }
-
   length_last : (ks : List (Known Name)) (k : Known Name) → length (ks ++ k ∷ []) ≡ suc (length ks)
   length_last [] k = refl
   length_last (x ∷ ks) k = ap suc (length_last ks k)

@@ -107,9 +107,6 @@ module _ (script : Script) (honest : ℕ → Bool) (w : World) (v h : ℕ) (head
         (given_by (Same script v) q (refs.pass_all K h x.args q) ((same_pass_all script v h x.args).after q))
 
     module _ (ys : Passeds Name) (t : Vat Name) (a : All [] q NoMore ys t × ((i : Told) → All i.0 q coming.args ys t)) (same : Same script v q t) where
-      abbrev Step : S q t
-      Step = a.0.step
-
       grown_all : Grown script honest w v (Full s) (Full t)
       grown_all = grown_then script honest w v (Full s) (Full q) (Full t) begins.grown (grown_seen script honest w v h r at p n k far object plain named hosted rh everyone there number other objects m.id (m ∷ ms) q t a.0.step can)
 

@@ -8,7 +8,7 @@ use Rattle.def_machine.specs.Refs.{entry_of}
 use Rattle.def_run.specs.World.{Script, names}
 use Rattle.law_machine.specs.Steps.{After}
 use Rattle.law_machine.proofs.Walks.{Property, Holds, IsClosed, InRefs, InRefsUnder}
-use Rattle.law_machine.proofs.RefsWalk.{walk_pass_all, walk_pass_on, walk_inform}
+use Rattle.law_machine.proofs.RefsWalk.{walk_pass_all, walk_inform}
 use Rattle.law_name.specs.Names.{IsAmong}
 use Rattle.law_order.specs.Worlds.{IsKnown}
 use Rattle.law_order.proofs.Adding.{follow_alike}
@@ -146,9 +146,6 @@ module _ (K : Naming Name Name) where
 
   pub frame_pass_all : (h : ℕ) (xs : List (Value Name)) (s : Vat Name) → After Frame s (refs.pass_all K h xs s)
   frame_pass_all h xs s = (walk_pass_all FramesBy K closed in_refs in_refs_under h xs).after s
-
-  pub frame_pass_on : (m : Message Name) (h : ℕ) (n : Name) (s : Vat Name) → After Frame s (refs.pass_on K m h n s)
-  frame_pass_on m h n s = (walk_pass_on FramesBy K closed in_refs in_refs_under m h n).after s
 
 -- ---- what is followed, held, and to react
 

@@ -149,10 +149,6 @@ module _ (script : Script) (honest : ℕ → Bool) (w : World) (v h : ℕ) (head
         go (row_same i) = none_came (now ∙ i ∙ row_before a b)
         go (row_more x y i) = came_last x y (now ∙ i ∙ ap (λ js. js ++ item d.message n ∷ []) (row_before a b))
 
-    way_full : (W (Full q)).stands (Way v h) ≡ (W (Full s)).stands (Way v h)
-    unfolding ways ways_of stands_at amid
-    way_full = row_before v h
-
     -- ---- where messages stood
 
     -- behind one less in the lane

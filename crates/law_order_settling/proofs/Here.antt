@@ -3,7 +3,7 @@ use Rattle.std.proofs.Common.{◌≡◌, ℕ, Bool, List, [], ◌∷◌, ◌++�
 use Rattle.std.proofs.lemmas.List.{append-nil}
 use Rattle.std.specs.Prelude.{slice_get}
 use Rattle.def_machine.specs.Values.{Words, Value, Broken, Items, Ref, Name, Naming}
-use Rattle.def_machine.specs.State.{Message, Standing, Settled, Viewed, Settle, Known, Settles, Lost, Vat, Done, WhereSome, with_change}
+use Rattle.def_machine.specs.State.{Message, Standing, Settled, Viewed, Known, Settles, Lost, Vat, Done, WhereSome}
 use Rattle.def_machine.specs.State as state
 use Rattle.def_machine.specs.Refs as refs
 use Rattle.def_machine.specs.Refs.{Settler, Near, Gone, entry_of}

@@ -1,29 +1,23 @@
 -- What is kept of a vat, and of each message that its names hold, as a name of it breaks or is resolved in the middle of a step.
-use Rattle.std.proofs.Common.{◌≡◌, ℕ, ◌+◌, ◌*◌, Bool, true, false, List, ◌++◌, Some, refl, sym, subst}
+use Rattle.std.proofs.Common.{◌≡◌, ℕ, ◌+◌, ◌*◌, Bool, true, List, Some}
 use Rattle.std.specs.Prelude.{slice_get}
 use Rattle.def_machine.specs.Values.{Words, Value, Broken, Name, host_of}
-use Rattle.def_machine.specs.State.{Cell, Thing, Message, Unsettled, Known, Happened, Vat, Gives}
+use Rattle.def_machine.specs.State.{Message, Unsettled, Known, Vat, Gives}
 use Rattle.def_machine.specs.Refs as refs
 use Rattle.def_machine.specs.Refs.{entry_of}
-use Rattle.def_run.specs.World.{Script, Event, World, names, events_of}
+use Rattle.def_run.specs.World.{Script, Event, World, names}
 use Rattle.law_fate.specs.Fate.{one}
-use Rattle.law_name.specs.Names.{IsAmong, AllOf}
+use Rattle.law_name.specs.Names.{IsAmong}
 use Rattle.law_order.specs.Settlings.{IsLoose}
-use Rattle.law_order.specs.Steps.{StaysReady}
-use Rattle.law_order.proofs.Adds.{adds_nothing, stays_quiet}
-use Rattle.law_order_history.specs.Lines.{was_sent}
 use Rattle.law_order_history.specs.Tells.{Tale}
 use Rattle.law_order_steady.proofs.Steady.{Steady}
 use Rattle.law_order_steady.proofs.Wells.{MaySettle}
-use Rattle.law_order_tales.specs.Middle.{middle, IsQuietLine}
-use Rattle.law_order_tales.proofs.Middle.{events_quiet}
+use Rattle.law_order_tales.specs.Middle.{middle}
 use Rattle.law_order_waits.proofs.Classes.{owed_at}
 use Rattle.law_order_waits.proofs.Room.{share}
-use Rattle.law_order_settling.specs.Holding.{Holds, HeldCame}
-use Rattle.law_order_settling.proofs.Acts.{Told, held_back, story_more}
-use Rattle.law_order_settling.proofs.Frames.{same_states}
-use Rattle.law_order_settling.proofs.Later.{Later, as_it_led, holds_by, holds_on, unsent_more}
-use Rattle.law_order_settling.proofs.FarTold.{FarIsTold}
+use Rattle.law_order_settling.specs.Holding.{Holds, HeldCame, VatsAreSound}
+use Rattle.law_order_settling.proofs.Acts.{Told}
+use Rattle.law_order_settling.proofs.Later.{Later, holds_on}
 use Rattle.law_order_settling.proofs.Settling.{IsList, settle_tale}
 use Rattle.law_order_settling.proofs.Resolving.{resolve_tale}
 
@@ -39,14 +33,6 @@ module _ (script : Script) (honest : ℕ → Bool) (w : World) (v : ℕ) (head :
   pub all_held_on : (C : Vat Name → Message Name → Type 0) → StaysSo C → (L : Type 0) (s t : Vat Name) → Later script honest w v head L s t → AllHeld C s → AllHeld C t
   all_held_on C stays L s t g h n k e m i = let j = g.held n k e m i in stays L s t g m (h n j.known j.found m j.among)
 
-  -- Quiet lines, and things, slots and lists, change nothing of that.
-  pub quiet_holds : (s : Vat Name) (fuel acts : ℕ) (more : List (Happened Name)) (things : List (Thing Name)) (slots : List (Cell Name)) (lists : List (List (Value Name))) → AllOf IsQuietLine more → Holds script honest w v head s
-      → Holds script honest w v head (record s { fuel = fuel; happened = s.happened ++ more; activations = acts; things = things; slots = slots; lists = lists })
-  quiet_holds s fuel acts more things slots lists q h = let t : Vat Name = record s { fuel = fuel; happened = s.happened ++ more; activations = acts; things = things; slots = slots; lists = lists } in
-      let stay : StaysReady script honest w v s t = stays_quiet script honest w v s t (adds_nothing (names script v) s t refl refl refl refl refl refl, refl, refl, refl) in
-      holds_by script honest w v head s t (λ r. (stay r).0) (λ x i. as_it_led (held_back script honest w v head ⊥ s t (same_states script v s t refl refl refl).less x i) ((stay h.ready).1.leading v x)) (λ x e. e)
-      (λ n k e m i. subst (λ es. was_sent m.id es ≡ false) (sym (story_more script honest w v head ⊥ s t more refl)) (unsent_more m.id (middle w v head s).history (events_of w.links v more) (h.unsent n k e m i) (events_quiet w.links v more q))) h
-
   -- A tale, to a vat of which what is asked holds.
   abbrev pub ToldTo : (Vat Name → Message Name → Type 0) → Vat Name → Vat Name → Type 0
   ToldTo C s t = Tale script honest (middle w v head s) (middle w v head t) × (Holds script honest w v head t × AllHeld C t)
@@ -54,12 +40,12 @@ module _ (script : Script) (honest : ℕ → Bool) (w : World) (v : ℕ) (head :
   pub told_to : (C : Vat Name → Message Name → Type 0) → StaysSo C → (L : Type 0) (s t : Vat Name) → Holds script honest w v head s → AllHeld C s → Told script honest w v head L s t → ToldTo C s t
   told_to C stays L s t holds held h = (h.tale, (holds_on script honest w v head L s t h.later holds, all_held_on C stays L s t h.later held))
 
-  module _ (all : (h : ℕ) → honest h ≡ true) (r : Vat Name) (at : slice_get w.vats v ≡ Some r) (far : (y : Value Name) → FarIsTold script honest w v head (IsList y) r at) (C : Vat Name → Message Name → Type 0) (stays : StaysSo C) (c o : Name → ℕ) (p : Name) (s t : Vat Name) (holds : Holds script honest w v head s) (held : AllHeld C s) where
+  module _ (all : (h : ℕ) → honest h ≡ true) (r : Vat Name) (at : slice_get w.vats v ≡ Some r) (sound : VatsAreSound script w) (C : Vat Name → Message Name → Type 0) (stays : StaysSo C) (c o : Name → ℕ) (p : Name) (s t : Vat Name) (holds : Holds script honest w v head s) (held : AllHeld C s) where
     -- a name breaks
     pub broken_kept : (x : Words) → MaySettle script honest w v p (Broken x) s → Steady script w v (λ n. share (owed_at v n) (one p n) + c n) o s → refs.settle (names script v) p (Broken x) s ≡ Gives tt t → ToldTo C s t
-    broken_kept x may h e = told_to C stays (IsList (Broken x)) s t holds held (settle_tale script honest all w v head r at (Broken x) tt (far (Broken x)) c o p s t tt h may holds (λ i. absurd i) e).0
+    broken_kept x may h e = told_to C stays (IsList (Broken x)) s t holds held (settle_tale script honest all w v head r at (Broken x) tt sound c o p s t tt h may holds (λ i. absurd i) e).0
 
     -- a name that is the vat's own, of which a resolver is in hand, is resolved
     pub resolved_kept : (x : Value Name) (k : Known Name) → entry_of (names script v) s.known p ≡ Some k → k.standing ≡ Unsettled → host_of p ≡ v → IsLoose script honest w v p s → Steady script w v (λ n. 2 * share (owed_at v n) (one p n) + c n) o s → HeldCame script honest w v head s
         → refs.resolve (names script v) p x s ≡ Gives tt t → ToldTo C s t
-    resolved_kept x k found waits own loose h came e = told_to C stays (IsList (refs.follow (names script v) s x)) s t holds held (resolve_tale script honest all w v head r at far c o p s t k found waits own loose h holds came x e).0
+    resolved_kept x k found waits own loose h came e = told_to C stays (IsList (refs.follow (names script v) s x)) s t holds held (resolve_tale script honest all w v head r at sound c o p s t k found waits own loose h holds came x e).0

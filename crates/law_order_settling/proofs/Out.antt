@@ -5,7 +5,7 @@ use Rattle.def_machine.specs.Values.{Words, Value, Name, Naming, Foreign}
 use Rattle.def_machine.specs.State.{Message, WaitsOn, Known, Passeds, Delivery, Note, Deliver, Posted, Vat}
 use Rattle.def_machine.specs.Refs.{entry_of}
 use Rattle.def_run.specs.World as world
-use Rattle.def_run.specs.World.{Script, Event, Link, World, names, events_of}
+use Rattle.def_run.specs.World.{Script, Link, World, names}
 use Rattle.law_order.specs.Ways.{Lane, Queue, Held, Way, Item, Place, Free, End, Ways, IsIn, IsOneWay, Doom, nowhere, by_end, alike, Ahead, doomed_there, in_end}
 use Rattle.law_order.specs.Places.{item, queued, held_on, held_in, stands_at, ways_of, ways, amid}
 use Rattle.law_order.specs.Settle.{KeepsBy, SentOn}

@@ -8,7 +8,7 @@ use Rattle.def_machine.specs.Refs as refs
 use Rattle.def_machine.specs.Refs.{Place, Near, Mine, Away, Gone, entry_of, standing_of, standing_in}
 use Rattle.def_run.specs.World.{Script, World, names}
 use Rattle.law_name.specs.Names.{IsAmong}
-use Rattle.law_order.specs.Ways.{Held, Way, Item, End, Mid, Ways, IsIn, Doom, by_end, by_mid, alike, Ahead, doomed_there, in_mid, past_mid}
+use Rattle.law_order.specs.Ways.{Held, Way, Item, End, Mid, Ways, IsIn, Doom, by_mid, alike, Ahead, doomed_there, in_mid, past_mid}
 use Rattle.law_order.specs.Ways as lanes
 use Rattle.law_order.specs.Turns.{Within}
 use Rattle.law_order.specs.Places.{item, aimed}

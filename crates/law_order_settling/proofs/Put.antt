@@ -17,9 +17,6 @@ none_some k e = absurd (cc)
 some_is : (j k : Known Name) → Some j ≡ Some k → j ≡ k
 some_is j k e = cc
 
-true_false : {A : Type 0} → true ≡ false → A
-true_false e = absurd (cc)
-
 module _ (script : Script) (v : ℕ) (p : Name) where
   abbrev K : Naming Name Name
   K = names script v
@@ -105,23 +102,3 @@ module _ (script : Script) (v : ℕ) (p : Name) where
         go true false q r i = ap (λ z. elim z [ true ↦ j ∷ with_change K c m ks | false ↦ x ∷ put_known K p j (with_change K c m ks) ]) q ∙ sym (ap (λ z. elim z [ true ↦ changed c j ∷ ks | false ↦ j ∷ with_change K c m ks ]) (not_same j.name m (λ e. f (sym e ∙ named))))
         go false true q r i = ap (λ z. elim z [ true ↦ j ∷ ks | false ↦ changed c x ∷ put_known K p j ks ]) (ap (λ z. K.same z p) (changed_name c x) ∙ q) ∙ sym (ap (λ z. elim z [ true ↦ changed c x ∷ put_known K p j ks | false ↦ x ∷ with_change K c m (put_known K p j ks) ]) r)
         go false false q r i = ap (λ z. elim z [ true ↦ j ∷ with_change K c m ks | false ↦ x ∷ put_known K p j (with_change K c m ks) ]) q ∙ (ap (λ zs. x ∷ zs) i ∙ sym (ap (λ z. elim z [ true ↦ changed c x ∷ put_known K p j ks | false ↦ x ∷ with_change K c m (put_known K p j ks) ]) r))
-
-    -- another is put there instead
-    pub put_twice : (i : Known Name) → i.name ≡ p → (ks : List (Known Name)) → put_known K p j (put_known K p i ks) ≡ put_known K p j ks
-    unfolding put_known
-    put_twice i e [] = refl
-    put_twice i e (x ∷ ks) = go (K.same x.name p) refl (put_twice i e ks)
-      where
-        go : (b : Bool) → K.same x.name p ≡ b → put_known K p j (put_known K p i ks) ≡ put_known K p j ks → put_known K p j (elim b [ true ↦ i ∷ ks | false ↦ x ∷ put_known K p i ks ]) ≡ elim b [ true ↦ j ∷ ks | false ↦ x ∷ put_known K p j ks ]
-        go true q h = ap (λ z. elim z [ true ↦ j ∷ ks | false ↦ i ∷ put_known K p j ks ]) (ap (λ z. K.same z p) (e ∙ sym (name_is x.name p q)) ∙ q)
-        go false q h = ap (λ z. elim z [ true ↦ j ∷ put_known K p i ks | false ↦ x ∷ put_known K p j (put_known K p i ks) ]) q ∙ ap (λ zs. x ∷ zs) h
-
-  -- what is there is put there
-  pub put_self : (ks : List (Known Name)) (k : Known Name) → entry_of K ks p ≡ Some k → put_known K p k ks ≡ ks
-  unfolding entry_of put_known
-  put_self [] k e = none_some k e
-  put_self (x ∷ ks) k e = go (K.same x.name p) e (put_self ks k)
-    where
-      go : (b : Bool) → One b x (entry_of K ks p) ≡ Some k → (entry_of K ks p ≡ Some k → put_known K p k ks ≡ ks) → ◌≡◌ {A = List (Known Name)} (elim b [ true ↦ k ∷ ks | false ↦ x ∷ put_known K p k ks ]) (x ∷ ks)
-      go true e f = ap (λ z. z ∷ ks) (sym (some_is x k e))
-      go false e f = ap (λ zs. x ∷ zs) (f e)

@@ -18,13 +18,12 @@ use Rattle.law_order_steady.proofs.Blocks.{followed_clear, resolved_steady}
 use Rattle.law_order_steady.proofs.Facts.{IsClear}
 use Rattle.law_order_steady.proofs.Steady.{Steady, less}
 use Rattle.law_order_steady.proofs.Wells.{here}
-use Rattle.law_order_settling.specs.Holding.{Holds, HeldCame}
+use Rattle.law_order_settling.specs.Holding.{Holds, HeldCame, VatsAreSound}
 use Rattle.law_order_settling.proofs.Acts.{Told, told_wider}
-use Rattle.law_order_settling.proofs.FarTold.{FarIsTold}
 use Rattle.law_order_settling.proofs.Settling.{IsList, settle_tale}
 use Rattle.law_order_settling.proofs.Waits.{wait_told}
 
-module _ (script : Script) (honest : ℕ → Bool) (all : (h : ℕ) → honest h ≡ true) (w : World) (v : ℕ) (head : List Event) (r : Vat Name) (at : slice_get w.vats v ≡ Some r) (far : (y : Value Name) → FarIsTold script honest w v head (IsList y) r at)
+module _ (script : Script) (honest : ℕ → Bool) (all : (h : ℕ) → honest h ≡ true) (w : World) (v : ℕ) (head : List Event) (r : Vat Name) (at : slice_get w.vats v ≡ Some r) (sound : VatsAreSound script w)
     (c o : Name → ℕ) (p : Name) (s t : Vat Name) (k : Known Name) (found : entry_of (names script v) s.known p ≡ Some k) (waits : k.standing ≡ Unsettled) (own : host_of p ≡ v) (loose : IsLoose script honest w v p s) (h : Steady script w v (λ n. 2 * share (owed_at v n) (one p n) + c n) o s)
     (holds : Holds script honest w v head s) (came : HeldCame script honest w v head s) where
   abbrev N : Naming Name Name
@@ -41,7 +40,7 @@ module _ (script : Script) (honest : ℕ → Bool) (all : (h : ℕ) → honest h
   once_in = less script w v (λ n. 2 * share (owed_at v n) (one p n) + c n) o (λ n. share (owed_at v n) (one p n) + c n) o (λ n. omega arith) (λ n. omega arith) s h
 
   settles_in : (y : Value Name) → NoPromise y → IsClear N s.noticed y → refs.settle N p y s ≡ Gives tt t → Goes (IsList y)
-  settles_in y last clear e = (settle_tale script honest all w v head r at y last (far y) c o p s t clear once_in (here own stood (inl loose)) holds (λ i. came) e).0
+  settles_in y last clear e = (settle_tale script honest all w v head r at y last sound c o p s t clear once_in (here own stood (inl loose)) holds (λ i. came) e).0
 
   module _ (L : Type 0) where
     either_in : (b : Bool) (q : Name) (u : Words) → (if b then refs.settle N p (Broken u) else refs.wait_on N p q) s ≡ Gives tt t → Goes L

@@ -3,7 +3,7 @@ use Rattle.std.proofs.Common.{◌≡◌, ℕ, zero, suc, ◌+◌, ◌*◌, ◌�
 use Rattle.std.proofs.lemmas.List.{append-nil}
 use Rattle.std.specs.Prelude.{slice_get}
 use Rattle.def_machine.specs.Values.{Value, Broken, Items, Ref, Name, Naming, Spot, Own, Foreign, NoObject}
-use Rattle.def_machine.specs.State.{Message, Standing, Unsettled, WaitsOn, Settled, Viewed, Settle, Known, Settles, Vat, Done, Gives, with_change}
+use Rattle.def_machine.specs.State.{Message, Standing, Settled, Viewed, Settle, Known, Settles, Vat, Gives}
 use Rattle.def_machine.specs.State as state
 use Rattle.def_machine.specs.Refs as refs
 use Rattle.def_machine.specs.Refs.{Settler, entry_of, standing_of}
@@ -29,13 +29,13 @@ use Rattle.law_order_waits.proofs.Room.{share}
 use Rattle.law_order_steady.proofs.Facts.{IsClear}
 use Rattle.law_order_steady.proofs.Steady.{Steady}
 use Rattle.law_order_steady.proofs.Wells as wells
-use Rattle.law_order_steady.proofs.Wells.{MaySettle, Led, all_led, clear_plain, settle_keeps}
+use Rattle.law_order_steady.proofs.Wells.{MaySettle, all_led, clear_plain, settle_keeps}
 use Rattle.law_order_tales.specs.Middle.{MovesNone}
-use Rattle.law_order_settling.specs.Holding.{Holds, HeldCame}
+use Rattle.law_order_settling.specs.Holding.{Holds, HeldCame, VatsAreSound}
 use Rattle.law_order_settling.proofs.Acts.{Told, told_self, told_then, line_told, later_by}
 use Rattle.law_order_settling.proofs.Acts as acts
 use Rattle.law_order_settling.proofs.Block.{lists_back}
-pub use Rattle.law_order_settling.proofs.FarTold.{FarIsTold}
+use Rattle.law_order_settling.proofs.FarTold.{far_is_told}
 use Rattle.law_order_settling.proofs.Frames.{changed_frame, less_mild}
 use Rattle.law_order_settling.proofs.Here.{here_told, gone_told, all_lost}
 use Rattle.law_order_settling.proofs.Later.{holds_on}
@@ -60,7 +60,7 @@ module _ (script : Script) (honest : ℕ → Bool) (w : World) (v : ℕ) (head :
   abbrev C : Vat Name → Type 0
   C s = HeldCame script honest w v head s
 
-  module _ (far : FarIsTold script honest w v head L r at) where
+  module _ (all : (u : ℕ) → honest u ≡ true) (sound : VatsAreSound script w) where
     module _ (y : Value Name) (plain : IsPlain K y) (excuse : (j : ℕ) → y ≡ Items j → L) (never : IsObjectValue y → L → ⊥) (R : Name → Vat Name → Type 0) (settle : Settler {N = Name} {W = Name} K) (each_told : (q : Name) (s : Vat Name) → R q s → H s → (IsObjectValue y → C s) → IfGives (λ t. To s t) (settle q y s)) where
       abbrev Then : Vat Name → Name → Vat Name
       Then s p = settled_to K (with_line s (Settles p y)) p y
@@ -87,7 +87,7 @@ module _ (script : Script) (honest : ℕ → Bool) (w : World) (v : ℕ) (head :
           by_spot : (n : Name) → y ≡ Ref n → (c : Spot) → K.spot n ≡ c → IsObjectSpot c → SendsWell script honest w v y R settle k.held (Then s p) → First
           by_spot n e (Own i) f o sends = to_here (subst (λ z. IsHere K z) (sym e) (subst IsOwnSpot (sym f) tt))
           by_spot n e (Foreign a) f o sends = subst (λ z. CanSettle script honest w v z p k s → SendsWell script honest w v z R settle k.held (settled_to K (with_line s (Settles p z)) p z) → (IsObjectValue z → C s)
-              → IfGives (λ t. To s t) (state.each (refs.send_on K settle) k.held (settled_to K (with_line s (Settles p z)) p z))) (sym e) (λ i j c. far R settle p n a k s f found i j holds (c tt)) h sends came
+              → IfGives (λ t. To s t) (state.each (refs.send_on K settle) k.held (settled_to K (with_line s (Settles p z)) p z))) (sym e) (λ i j c. far_is_told script honest w v head L r at all sound R settle p n a k s f found i j holds (c tt)) h sends came
           by_spot n e NoObject f o sends = absurd o
 
           first_by : (z : Value Name) → y ≡ z → IsPlain K z → SendsWell script honest w v y R settle k.held (Then s p) → First
@@ -208,7 +208,7 @@ module _ (script : Script) (honest : ℕ → Bool) (all : (h : ℕ) → honest h
   apart (Items k) i l = i
   apart other i l = l
 
-  module _ (y : Value Name) (last : NoPromise y) (far : FarIsTold script honest w v head (IsList y) r at) where
+  module _ (y : Value Name) (last : NoPromise y) (sound : VatsAreSound script w) where
     abbrev Goes : Vat Name → Vat Name → Type 0
     Goes s t = Told script honest w v head (IsList y) s t
 
@@ -218,7 +218,7 @@ module _ (script : Script) (honest : ℕ → Bool) (all : (h : ℕ) → honest h
     unfolding refs.settle state.◌>>=◌ state.and_then state.look
     settle_tale c o p s t clear h m holds came e = (
       subst (λ z. IfGives (λ u. Goes s u) z) e
-          (settlings script honest w v head (IsList y) r at far y (clear_plain script honest all w v r at s.noticed y clear) (λ l. l) (apart y) (suc (suc (length s.known))) p s
+          (settlings script honest w v head (IsList y) r at all sound y (clear_plain script honest all w v r at s.noticed y clear) (λ l. l) (apart y) (suc (suc (length s.known))) p s
           ((all_led script honest all w v r at (suc (suc (length s.known)))).so y last c o p s clear h (omega arith) m) holds came),
       (settle_keeps script honest all w v r at y last c o p s t clear h m e).1,
     )
@@ -228,5 +228,5 @@ module _ (script : Script) (honest : ℕ → Bool) (all : (h : ℕ) → honest h
         → Steady script w v (λ x. 2 * total (answers x) [] + (share (owed_at v x) (total (λ (q : Name). one q x) qs) + c x)) o u → d ≤ suc (suc (length u.known)) → IsClear N u.noticed y
         → Holds script honest w v head u → (IsObjectValue y → HeldCame script honest w v head u) → IfGives (λ t. Told script honest w v head (IsList y) u t) (state.each (λ q. refs.settle_at N d q y) qs u)
     waits_tale d p c o qs u rests sleep h l clear holds came = walk.waits script honest w v head (IsList y) r at y (apart y) (λ q t. SettlesLed script honest w v y d q t) (λ q x. refs.settle_at N d q x)
-        (λ q s g i f. settlings script honest w v head (IsList y) r at far y (clear_plain script honest all w v r at u.noticed y clear) (λ j. j) (apart y) d q s g i f)
+        (λ q s g i f. settlings script honest w v head (IsList y) r at all sound y (clear_plain script honest all w v r at u.noticed y clear) (λ j. j) (apart y) d q s g i f)
         p qs u (wells.waits_led script honest all w v r at d (all_led script honest all w v r at d) y last p c o qs u rests sleep h l clear) holds came

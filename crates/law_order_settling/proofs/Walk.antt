@@ -1,11 +1,11 @@
 -- A whole settling in the middle of a step, as a tale: block by block, as the machine does it.
 use Rattle.std.proofs.Common.{◌≡◌, ℕ, Bool, false, List, [], ◌∷◌, ◌++◌, Some, refl, inl, inr}
 use Rattle.std.specs.Prelude.{slice_get}
-use Rattle.def_machine.specs.Values.{Value, Ref, Name, Naming, Foreign}
-use Rattle.def_machine.specs.State.{Message, Standing, Settled, Viewed, Settle, Known, Settles, Lost, Vat, Done, WhereSome}
+use Rattle.def_machine.specs.Values.{Value, Ref, Name, Naming}
+use Rattle.def_machine.specs.State.{Message, Known, Settles, Vat, Done}
 use Rattle.def_machine.specs.State as state
 use Rattle.def_machine.specs.Refs as refs
-use Rattle.def_machine.specs.Refs.{Settler, Near, Gone, entry_of, standing_of, standing_in}
+use Rattle.def_machine.specs.Refs.{Settler}
 use Rattle.def_run.specs.World.{Script, Event, World, names}
 use Rattle.law_name.specs.Names.{IsAmong, AllOf}
 use Rattle.law_order.specs.Settle.{settled_to}
@@ -22,11 +22,6 @@ use Rattle.law_order_settling.proofs.Later.{unsent_on, holds_on, held_came}
 abbrev pub IsObjectValue : Value Name → Type 0
 IsObjectValue (Ref n) = Unit {0}
 IsObjectValue other = ⊥
-
--- that is not here
-abbrev pub IsAway : Naming Name Name → Value Name → Type 0
-IsAway K (Ref n) = (h : ℕ) × (K.spot n ≡ Foreign h)
-IsAway K other = ⊥
 
 module _ (script : Script) (honest : ℕ → Bool) (w : World) (v : ℕ) (head : List Event) (L : Type 0) (r : Vat Name) (at : slice_get w.vats v ≡ Some r) where
   abbrev K : Naming Name Name

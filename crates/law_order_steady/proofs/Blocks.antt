@@ -1,17 +1,16 @@
--- A vat stays steady, and order is kept, through each thing that a turn does with references: sends, reactions, new promises, and resolving.
-use Rattle.std.proofs.Common.{◌≡◌, ℕ, zero, suc, ◌+◌, ◌*◌, Bool, true, false, List, [], ◌∷◌, ◌++◌, Option, Some, None, length, refl, sym, ap, subst, ◌∙◌, ◌⊎◌, inl, inr, arith, if◌then◌else◌, ◌==◌}
+-- A vat stays steady through each thing that a turn does with references: sends, reactions, new promises, and resolving; and what is followed to an end is clear.
+use Rattle.std.proofs.Common.{◌≡◌, ℕ, zero, suc, ◌+◌, ◌*◌, Bool, true, false, List, [], ◌∷◌, ◌++◌, Option, Some, None, length, refl, sym, ap, subst, ◌∙◌, ◌⊎◌, inl, inr, arith, ◌==◌}
 use Rattle.std.specs.Prelude.{slice_get, codes}
 use Rattle.def_machine.specs.Values.{Words, Value, Broken, Ref, Name, Object, Promise, Naming, naming, name_of, Spot, Own, Foreign, NoObject, host_of}
-use Rattle.def_machine.specs.State.{Standing, Unsettled, Settled, Known, GiftEntry, Vat, Gives, ◌>>=◌, and_then, look, is_in, begun, new_promise}
+use Rattle.def_machine.specs.State.{Standing, Unsettled, Settled, Known, GiftEntry, Vat, Gives, is_in, begun, new_promise}
 use Rattle.def_machine.specs.Refs as refs
-use Rattle.def_machine.specs.Refs.{Place, Mine, Away, entry_of, standing_of}
+use Rattle.def_machine.specs.Refs.{Mine, Away, entry_of, standing_of}
 use Rattle.def_run.specs.Draws.{draw_word}
 use Rattle.def_run.specs.World as world
 use Rattle.def_run.specs.World.{Script, Link, World, names}
 use Rattle.law_fate.specs.Fate.{one}
-use Rattle.law_fate.specs.Lasting.{NoPromise}
 use Rattle.law_fate.proofs.Light.{come_sound}
-use Rattle.law_fate.proofs.PlacesRefs.{IsEnd, of_end}
+use Rattle.law_fate.proofs.PlacesRefs.{IsEnd}
 use Rattle.law_fate.proofs.PlacesSteps.{global_names}
 use Rattle.law_fate.proofs.RefsLight.{light_resolve, light_send, light_send_only, light_reacts}
 use Rattle.law_reference.specs.Knowing.{Knowing}
@@ -20,10 +19,7 @@ use Rattle.law_reference.proofs.RefsCosts.{free_resolve, free_send, free_send_on
 use Rattle.law_name.proofs.Among.{get_put}
 use Rattle.law_order.specs.Places.{unsettled, released, released_at, onward_at, ways_of, ways, amid}
 use Rattle.law_order.specs.Settlings.{IsLoose}
-use Rattle.law_order.specs.Steps.{StaysInOrder}
 use Rattle.law_order.specs.Ways.{Free}
-use Rattle.law_order.specs.Worlds.{IfGives}
-use Rattle.law_order.proofs.Resolving.{wait_on_keeps}
 use Rattle.law_order_waits.proofs.Classes.{owed_at, fit_at}
 use Rattle.law_order_waits.proofs.Costs as costs
 use Rattle.law_order_waits.proofs.Costs.{one_or}
@@ -35,7 +31,6 @@ use Rattle.law_order_steady.proofs.Facts.{IsClear, ClearSpot}
 use Rattle.law_order_steady.proofs.Sending.{do_promise, send_good, send_only_good, react_good, do_resolve}
 use Rattle.law_order_steady.proofs.Steady.{Steady, At, GoodAt, carried, claims_on, light_at, done_at, after_at, less, IsAside}
 use Rattle.law_order_steady.proofs.Viewed.{severed_name}
-use Rattle.law_order_steady.proofs.Wells.{here, settle_keeps}
 
 module _ (script : Script) (w : World) (v : ℕ) where
   abbrev K : Naming Name Name
@@ -164,39 +159,7 @@ module _ (script : Script) (w : World) (v : ℕ) where
     unfolding refs.follow
     followed_clear s x h = clear_by s (refs.follow_at K (suc (length s.known)) s.known x) (refs.severed K s (refs.follow_at K (suc (length s.known)) s.known x)) refl h
 
-    -- ---- order as a name is resolved
-
-    module _ (c o : Name → ℕ) (p : Name) (s t : Vat Name) (k : Known Name) (found : entry_of K s.known p ≡ Some k) (waits : k.standing ≡ Unsettled) (own : host_of p ≡ v) (loose : IsLoose script honest w v p s) (h : S (λ n. 2 * share (owed_at v n) (one p n) + c n) o s) where
-      stood : standing_of K s.known p ≡ Unsettled
-      unfolding standing_of refs.standing_in
-      stood = ap (λ z. refs.standing_in z) found ∙ waits
-
-      once_in : S (λ n. share (owed_at v n) (one p n) + c n) o s
-      once_in = less script w v (λ n. 2 * share (owed_at v n) (one p n) + c n) o (λ n. share (owed_at v n) (one p n) + c n) o (λ n. omega arith) (λ n. omega arith) s h
-
-      settles_in : (y : Value Name) → NoPromise y → IsClear K s.noticed y → refs.settle K p y s ≡ Gives tt t → StaysInOrder script honest w v s t
-      settles_in y last clear e = (settle_keeps script honest all w v r at y last c o p s t clear once_in (here own stood (inl loose)) e).0
-
-      waits_in : (q : Name) → refs.wait_on K p q s ≡ Gives tt t → StaysInOrder script honest w v s t
-      waits_in q e = subst (λ d. IfGives (λ z. StaysInOrder script honest w v s z) d) e (wait_on_keeps script honest w v s p q k found waits loose)
-
-      either_in : (b : Bool) (q : Name) (u : Words) → (if b then refs.settle K p (Broken u) else refs.wait_on K p q) s ≡ Gives tt t → StaysInOrder script honest w v s t
-      either_in true q u e = settles_in (Broken u) tt tt e
-      either_in false q u e = waits_in q e
-
-      unless_in : (q : Name) → refs.wait_unless_cycle K p q s ≡ Gives tt t → StaysInOrder script honest w v s t
-      unfolding refs.wait_unless_cycle ◌>>=◌ and_then look
-      unless_in q e = either_in (refs.waits_lead K (length s.known) s.known p q) q (codes "cycle") e
-
-      to_in : (y : Value Name) (q : Place Name) → (IsEnd q → NoPromise y × IsClear K s.noticed y) → refs.resolve_to K p y q s ≡ Gives tt t → StaysInOrder script honest w v s t
-      unfolding refs.resolve_to
-      to_in y (Mine q) f e = unless_in q e
-      to_in y (Away g q false) f e = unless_in q e
-      to_in y other f e = let k = f tt in settles_in y k.0 k.1 e
-
-      pub resolved_order : (x : Value Name) → refs.resolve K p x s ≡ Gives tt t → StaysInOrder script honest w v s t
-      unfolding refs.resolve ◌>>=◌ and_then look names
-      resolved_order x e = let y = refs.follow K s x in to_in y (refs.place K s y) (λ i. (of_end (naming (draw_word script.key) v) v (global_names (draw_word script.key) v) s y i, followed_clear s x i)) e
+    -- ---- a promise of the vat's own
 
     -- a promise of the vat's own that waits for nothing leads nowhere yet
     promise_free : (i : ℕ) (vs : List (Vat Name)) (ls : List Link) (gs : List (GiftEntry Name)) → unsettled script honest vs ls v (Promise v i) gs ≡ Free

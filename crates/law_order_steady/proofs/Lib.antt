@@ -2,7 +2,6 @@ pub mod Blocks
 pub mod Deeper
 pub mod Ends
 pub mod Facts
-pub mod Orders
 pub mod Sending
 pub mod Starts
 pub mod Staying

@@ -35,10 +35,7 @@ use Rattle.law_order.specs.Steps.{StaysInOrder}
 use Rattle.law_order.specs.Worlds.{IfGives, IsObject, IsWaiting, StandsAlike, FollowsEnd}
 use Rattle.law_order.proofs.Amid.{entry_self}
 use Rattle.law_order.proofs.Entries.{Differs, as_it_was, changes, differs, same_length}
-use Rattle.law_order.proofs.Adds.{adds_nothing}
-use Rattle.law_order.proofs.Remaining.{order_then}
-use Rattle.law_order.proofs.Sends.{chain, if_map, entry_changed}
-use Rattle.law_order.proofs.Whole.{kept_adds}
+use Rattle.law_order.proofs.Sends.{chain, entry_changed}
 use Rattle.law_order_views.specs.Wholes.{ViewWell, StandsLed, EntryLed, SettlesLed}
 use Rattle.law_order_views.proofs.Quiet.{is_name}
 use Rattle.law_order_views.proofs.Wholes.{led_settlings_keep}
@@ -71,12 +68,12 @@ entry_head : (b : Bool) (j k : Known Name) (ks : List (Known Name)) (o : Option 
 entry_head true j k ks o e f = let same : j ≡ k = cc in inl (sym same)
 entry_head false j k ks o e f = inr (f e)
 
-entry_among : (K : Naming Name Name) (ks : List (Known Name)) (n : Name) (k : Known Name) → entry_of K ks n ≡ Some k → IsAmong k ks
+pub entry_among : (K : Naming Name Name) (ks : List (Known Name)) (n : Name) (k : Known Name) → entry_of K ks n ≡ Some k → IsAmong k ks
 unfolding entry_of
 entry_among K [] n k e = cc
 entry_among K (j ∷ ks) n k e = entry_head (K.same j.name n) j k ks (entry_of K ks n) e (λ i. entry_among K ks n k i)
 
-among_all : {A : Type 0} (P : A → Type 0) (xs : List A) → ((x : A) → IsAmong x xs → P x) → AllOf P xs
+pub among_all : {A : Type 0} (P : A → Type 0) (xs : List A) → ((x : A) → IsAmong x xs → P x) → AllOf P xs
 among_all P [] f = tt
 among_all P (x ∷ xs) f = (f x (inl refl), among_all P xs (λ y a. f y (inr a)))
 
@@ -428,9 +425,6 @@ module _ (script : Script) (honest : ℕ → Bool) (all : (h : ℕ) → honest h
 
     -- ---- what it held is sent on
 
-    abbrev Lose : Message Name → Vat Name → Type 0
-    Lose m u = LosesWell script honest w v y R y m u
-
     module _ (c o : Name → ℕ) (m : Message Name) (ms : List (Message Name)) (qs : List Name) (on_it : HeldWell p m) (u : Vat Name) (rests : Rests u) (h : S (Cost (m ∷ ms) qs c) (Claim (m ∷ ms) o) u) (l : Room d u) (clear : IsClear K u.noticed y) where
       -- with the message itself in hand, and the rest
       one_first : S (λ x. 2 * answers x m + Cost ms qs c x) (λ x. onward v x m.id + Claim ms o x) u
@@ -708,16 +702,3 @@ module _ (script : Script) (honest : ℕ → Bool) (all : (h : ℕ) → honest h
   module _ (d : ℕ) (y : Value Name) (last : NoPromise y) (p : Name) (c o : Name → ℕ) where
     pub ih : Led d
     ih = all_led d
-
-    -- order is kept as they settle
-    pub waits_kept : (qs : List Name) (u : Vat Name) → Rests d ih y last p u → Sleep d ih y last p qs u → S (Cost d ih y last p [] qs c) o u → Room d u → IsClear K u.noticed y
-        → IfGives (λ t. StaysInOrder script honest w v u t × Rests d ih y last p t × S (Cost d ih y last p [] [] c) o t) (each (λ q. refs.settle_at K d q y) qs u)
-    unfolding each give ◌>>◌ total
-    waits_kept [] u rests sleep h l clear = (kept_adds script honest w v u u (adds_nothing K u u refl refl refl refl refl refl, refl, refl, refl), rests, h)
-    waits_kept (q ∷ qs) u rests sleep h l clear = chain (λ t. StaysInOrder script honest w v u t × Rests d ih y last p t × Sleep d ih y last p qs t × S (Cost d ih y last p [] qs c) o t × Room d t × IsClear K t.noticed y)
-        (λ t. StaysInOrder script honest w v u t × Rests d ih y last p t × S (Cost d ih y last p [] [] c) o t) (refs.settle_at K d q y u) (each (λ n. refs.settle_at K d n y) qs)
-        (if_by (λ t. StaysInOrder script honest w v u t × Rests d ih y last p t × Sleep d ih y last p qs t × S (Cost d ih y last p [] qs c) o t × Room d t × IsClear K t.noticed y) (refs.settle_at K d q y u) (λ t e.
-        let first = subst (λ z. IfGives (λ n. StaysInOrder script honest w v u n) z) e (led_settlings_keep script honest w v r y at (clear_plain u.noticed y clear) (honest_to y) d q u (waits_led d ih y last p c o (q ∷ qs) u rests sleep h l clear).0) in
-        let k = waits_next d ih y last p c o q qs u t rests sleep h l clear e in (first, k.0, k.1, k.2, k.3, k.4)))
-        (λ t k. if_map (λ z. StaysInOrder script honest w v t z × Rests d ih y last p z × S (Cost d ih y last p [] [] c) o z) (λ z. StaysInOrder script honest w v u z × Rests d ih y last p z × S (Cost d ih y last p [] [] c) o z)
-        (λ z g. (order_then script honest w v u t z k.0 g.0, g.1, g.2)) (each (λ n. refs.settle_at K d n y) qs t) (waits_kept qs t k.1 k.2 k.3 k.4 k.5))

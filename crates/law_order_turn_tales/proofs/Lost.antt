@@ -30,7 +30,7 @@ use Rattle.law_order_sending.specs.New.{IsBegun}
 use Rattle.law_order_sending.proofs.Sending.{Around}
 use Rattle.law_order_settling.specs.Holding.{Holds}
 use Rattle.law_order_settling.proofs.Kept.{AllHeld, ToldTo, broken_kept}
-use Rattle.law_order_settling.proofs.Settling.{IsList, FarIsTold}
+use Rattle.law_order_settling.proofs.Sound.{vats_are_sound}
 use Rattle.law_order_steady.proofs.Ends.{later_come}
 use Rattle.law_order_steady.proofs.Facts.{ready}
 use Rattle.law_order_steady.proofs.Steady.{Steady, less, lined}
@@ -208,9 +208,8 @@ module _ (script : Script) (honest : ℕ → Bool) (all : (u : ℕ) → honest u
   breaks : refs.send K act x verb args s ≡ Gives b u → refs.settle K Ans (Broken p) Mid ≡ Gives tt u
   breaks e = asking_lost (subst (λ n. Rest (Gone p) n ≡ Gives b u) (let sound = steady.sound in sound.same) (subst (λ z. Rest z s.number ≡ Gives b u) gone (asking_is e)))
 
-  module _ (far : (y : Value Name) → FarIsTold script honest w v head (IsList y) r there) where
-    answer_told : refs.send K act x verb args s ≡ Gives b u → ToldTo script honest w v head C Mid u
-    answer_told e = broken_kept script honest w v head all r there far C (came_stays script honest w v head) c o Ans Mid u mid_holds mid_came p (here own_answer now_unsettled (inr tt)) mid_steady (breaks e)
+  answer_told : refs.send K act x verb args s ≡ Gives b u → ToldTo script honest w v head C Mid u
+  answer_told e = broken_kept script honest w v head all r there (vats_are_sound script w around.stands) C (came_stays script honest w v head) c o Ans Mid u mid_holds mid_came p (here own_answer now_unsettled (inr tt)) mid_steady (breaks e)
 
-    pub asking_gone : refs.send (names script v) act x verb args s ≡ Gives b u → Goes script honest w v head s u × (Holds script honest w v head u × AllHeld script honest w v head (CameSo script honest w v head) u)
-    asking_gone e = let k = answer_told e in (tale_both script honest (middle w v head s) (middle w v head Mid) (middle w v head u) asking_goes k.0, k.1)
+  pub asking_gone : refs.send (names script v) act x verb args s ≡ Gives b u → Goes script honest w v head s u × (Holds script honest w v head u × AllHeld script honest w v head (CameSo script honest w v head) u)
+  asking_gone e = let k = answer_told e in (tale_both script honest (middle w v head s) (middle w v head Mid) (middle w v head u) asking_goes k.0, k.1)

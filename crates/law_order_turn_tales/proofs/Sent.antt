@@ -20,7 +20,6 @@ use Rattle.law_order_sending.specs.Came.{Agrees, CameSo}
 use Rattle.law_order_sending.specs.New.{IsBegun}
 use Rattle.law_order_sending.proofs.Sending.{Around, Having, can_send_asking, can_send_lone}
 use Rattle.law_order_settling.proofs.Kept.{AllHeld}
-use Rattle.law_order_settling.proofs.Settling.{IsList, FarIsTold}
 use Rattle.law_order_steady.proofs.Facts.{ready}
 use Rattle.law_order_steady.proofs.Steady.{Steady, after_at}
 use Rattle.law_order_tales.specs.Middle.{middle}
@@ -86,7 +85,7 @@ module _ (script : Script) (vats : KnowsVats script) (honest : ℕ → Bool) (al
       module _ (verb : Words) (args : List (Value Name)) (oks : Oks s args) where
         -- ---- a send with an answer
 
-        module _ (far : (y : Value Name) → FarIsTold script honest w v head (IsList y) r there) (e : refs.send K act x verb args s ≡ Gives a t) (g : Then t) where
+        module _ (e : refs.send K act x verb args s ≡ Gives a t) (g : Then t) where
           asked : Unsent t → AllHeld script honest w v head C t → A t
           unfolding names
           asked unsent came_so = record {
@@ -105,7 +104,7 @@ module _ (script : Script) (vats : KnowsVats script) (honest : ℕ → Bool) (al
           ask_known = (after_at (Same script v) s (refs.send K act x verb args s) a t e ((same_send script v act x verb args).after s)).1
 
           asks_by : ((p : Words) × (Where ≡ Gone p)) ⊎ ((p : Words) → Where ≡ Gone p → ⊥) → Leads s t × A t
-          asks_by (inl i) = let k = asking_gone script honest all w around v head came r q begins there h c o s sure steady also act x verb args ok oks i.0 i.1 a t far e in let holds = k.1.0 in (k.0, asked holds.unsent k.1.1)
+          asks_by (inl i) = let k = asking_gone script honest all w around v head came r q begins there h c o s sure steady also act x verb args ok oks i.0 i.1 a t e in let holds = k.1.0 in (k.0, asked holds.unsent k.1.1)
           asks_by (inr free) =
               let having = having_now (to_end (refs.send K act x verb args) (λ law. keeps_send K (stays.Stays K) law (stays.stays_under K) act x verb args) s t a e g) in
               let in_hand = hand script honest w around v head came r q begins there h c o s sure steady also x ok in
@@ -178,8 +177,8 @@ module _ (script : Script) (vats : KnowsVats script) (honest : ℕ → Bool) (al
 
   -- ---- as a turn asks it
 
-  pub sent_field : (far : (y : Value Name) → FarIsTold script honest w v head (IsList y) r there) (c o : Name → ℕ) (act : ℕ) (x : Value Name) (verb : Words) (args : List (Value Name)) (s t : Vat Name) (a : Value Name) → Sure s → Ok s x → Oks s args → Steady script w v c o s → refs.send K act x verb args s ≡ Gives a t → Then t → A s → Leads s t × A t
-  sent_field far c o act x verb args s t a sure ok oks steady e g also = asks c o act s t a sure steady also x ok verb args oks far e g
+  pub sent_field : (c o : Name → ℕ) (act : ℕ) (x : Value Name) (verb : Words) (args : List (Value Name)) (s t : Vat Name) (a : Value Name) → Sure s → Ok s x → Oks s args → Steady script w v c o s → refs.send K act x verb args s ≡ Gives a t → Then t → A s → Leads s t × A t
+  sent_field c o act x verb args s t a sure ok oks steady e g also = asks c o act s t a sure steady also x ok verb args oks e g
 
   pub sent_only_field : (c o : Name → ℕ) (act : ℕ) (x : Value Name) (verb : Words) (args : List (Value Name)) (s t : Vat Name) (a : Value Name) → Sure s → Ok s x → Oks s args → Steady script w v c o s → refs.send_only K act x verb args s ≡ Gives a t → Then t → A s → Leads s t × A t
   sent_only_field c o act x verb args s t a sure ok oks steady e g also = lones c o act s t a sure steady also x ok verb args oks e g

@@ -1,7 +1,7 @@
 -- In the middle of a turn, where a message was sent, or an object is to react: what is to react was never sent, and what names hold came as told.
 use Rattle.std.proofs.Common.{◌≡◌, ℕ, zero, Bool, false, List, [], ◌∷◌, ◌++◌, Some, None, length, refl, sym, ap, subst, ◌∙◌, arith}
 use Rattle.std.specs.Prelude.{slice_get}
-use Rattle.def_machine.specs.Values.{Value, Name, Sent, Naming}
+use Rattle.def_machine.specs.Values.{Value, Name, Sent}
 use Rattle.def_machine.specs.State.{Message, Known, Sends, Happened, Vat, Gives, Act}
 use Rattle.def_machine.specs.Refs as refs
 use Rattle.def_run.specs.World as world
@@ -54,12 +54,6 @@ lists_on script v m k s t a e = after_at SameLists s (m s) a t e ((k lists_law (
 
 module _ (script : Script) (honest : ℕ → Bool) (w : World) (around : Around script w) (v : ℕ) (head : List Event) (came : Name → ℕ) (r q : Vat Name) (begins : IsBegun w v head came r q) (there : slice_get w.vats v ≡ Some r) (h : run.Stands script w)
     (c o : Name → ℕ) (s : Vat Name) (sure : Sound (T script w v r there h) s) (steady : Steady script w v c o s) (also : Also script honest w v head came r q s) where
-  abbrev K : Naming Name Name
-  K = names script v
-
-  abbrev Ok : Value Name → Type 0
-  Ok x = ValueOk ((T script w v r there h).ok s) x
-
   abbrev Id : Name
   Id = Sent (record { sender = v; number = s.messages })
 
@@ -68,9 +62,6 @@ module _ (script : Script) (honest : ℕ → Bool) (w : World) (around : Around 
 
   abbrev Story : Vat Name → List Event
   Story t = (middle w v head t).history
-
-  abbrev C : Vat Name → Message Name → Type 0
-  C t m = CameSo script honest w v head t m
 
   ready_now : Ready script honest w v s
   ready_now = ready script w v honest c o s steady

@@ -22,7 +22,7 @@ use Rattle.law_order_sending.specs.New.{IsBegun}
 use Rattle.law_order_sending.proofs.Sending.{Around}
 use Rattle.law_order_settling.proofs.Kept as kept
 use Rattle.law_order_settling.proofs.Kept.{ToldTo}
-use Rattle.law_order_settling.proofs.Settling.{IsList, FarIsTold}
+use Rattle.law_order_settling.proofs.Sound.{vats_are_sound}
 use Rattle.law_order_turn_tales.proofs.Acts.{Goes}
 use Rattle.law_order_turn_tales.proofs.Also as also
 use Rattle.law_order_turn_tales.proofs.Also.{Also, settled_on, draws_on}
@@ -33,7 +33,7 @@ use Rattle.law_order_turn_tales.proofs.Turning.{T}
 use Rattle.law_order_turn_tales.proofs.Views.{views_settled, views_resolved}
 
 module _ (script : Script) (honest : ℕ → Bool) (all : (u : ℕ) → honest u ≡ true) (w : World) (around : Around script w) (v : ℕ) (head : List Event) (came : Name → ℕ) (r q : Vat Name) (begins : IsBegun w v head came r q) (there : slice_get w.vats v ≡ Some r) (h : run.Stands script w)
-    (end : Vat Name) (agrees : Agrees script v end) (far : (y : Value Name) → FarIsTold script honest w v head (IsList y) r there) where
+    (end : Vat Name) (agrees : Agrees script v end) where
   abbrev K : Naming Name Name
   K = names script v
 
@@ -66,7 +66,7 @@ module _ (script : Script) (honest : ℕ → Bool) (all : (u : ℕ) → honest u
       pub broken : MaySettle script honest w v p (Broken x) s → Steady script w v (λ n. share (owed_at v n) (one p n) + c n) o s → Goes script honest w v head s t × M t
       broken may steady =
           let holds = also.holds_of script honest all w around v head came r q begins there h (λ n. share (owed_at v n) (one p n) + c n) o s sure steady more in
-          then_broken (kept.broken_kept script honest w v head all r there far (CameSo script honest w v head) (came_stays script honest w v head) c o p s t holds more.came_so x may steady e)
+          then_broken (kept.broken_kept script honest w v head all r there (vats_are_sound script w around.stands) (CameSo script honest w v head) (came_stays script honest w v head) c o p s t holds more.came_so x may steady e)
 
     module _ (y : Value Name) (e : refs.resolve K p y s ≡ Gives tt t) where
       then_resolved : Told s t → Goes script honest w v head s t × M t
@@ -88,4 +88,4 @@ module _ (script : Script) (honest : ℕ → Bool) (all : (u : ℕ) → honest u
           let now = back (refs.resolve K p y) (keeps_resolve K (stays.Stays K) (stays.stays_kept K) (stays.stays_under K) p y) s t tt e later in
           let holds = also.holds_of script honest all w around v head came r q begins there h (λ n. 2 * share (owed_at v n) (one p n) + c n) o s sure steady more in
           let held = also.came_of script honest all w around v head came r q begins there h (λ n. 2 * share (owed_at v n) (one p n) + c n) o s sure steady more end agrees now in
-          then_resolved (kept.resolved_kept script honest w v head all r there far (CameSo script honest w v head) (came_stays script honest w v head) c o p s t holds more.came_so y k found waits own loose steady held e)
+          then_resolved (kept.resolved_kept script honest w v head all r there (vats_are_sound script w around.stands) (CameSo script honest w v head) (came_stays script honest w v head) c o p s t holds more.came_so y k found waits own loose steady held e)

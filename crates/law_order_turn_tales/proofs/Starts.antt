@@ -1,4 +1,5 @@
 -- What more is kept in the middle of a turn holds as the message is taken, and as an opening turn begins.
+use Rattle.law_connected.specs.Known as connected
 use Rattle.std.proofs.Common.{◌≡◌, ℕ, zero, suc, ◌≤◌, Bool, false, List, [], ◌∷◌, ◌++◌, Some, length, map, refl, sym, subst, inl, inr}
 use Rattle.std.specs.Prelude.{slice_get}
 use Rattle.def_machine.specs.Values.{Name}
@@ -6,8 +7,7 @@ use Rattle.def_machine.specs.State.{Message, Known, Took, Vat, begun}
 use Rattle.def_machine.specs.Refs.{entry_of}
 use Rattle.def_run.specs.Draws.{draw_word}
 use Rattle.def_run.specs.World as world
-use Rattle.def_run.specs.World.{Script, Program, Entry, Event, Opens, Turned, Here, World, Goes, names, readied}
-use Rattle.law_connected.specs.Known as connected
+use Rattle.def_run.specs.World.{Script, Program, Entry, Event, Here, World, Goes, names, readied}
 use Rattle.law_fate.specs.Fate.{one}
 use Rattle.law_name.specs.Names.{AllOf, IsAmong}
 use Rattle.law_name.specs.Runs.{KnowsOnce}
@@ -31,22 +31,12 @@ use Rattle.law_order_turn_tales.proofs.AlsoKept.{sent_both, held_known}
 use Rattle.law_order_turn_tales.proofs.Counted.{quietly_counted}
 use Rattle.law_order_turn_tales.proofs.OpenRuns.{open_head_of}
 use Rattle.law_order_turn_tales.proofs.TurnRuns.{head_of}
-
--- ---- lists
-
-all_here : {A : Type 0} (xs ys : List A) → ((x : A) → IsAmong x ys → IsAmong x xs) → AllOf (λ x. IsAmong x xs) ys
-all_here xs [] f = tt
-all_here xs (y ∷ ys) f = (f y (inl refl), all_here xs ys (λ x a. f x (inr a)))
+use Rattle.law_order_steady.proofs.Wells.{entry_among}
 
 turned : {A : Type 0} (x : A) (xs : List A) → IsAmong x xs → connected.IsAmong x xs
 turned x [] i = i
 turned x (y ∷ xs) (inl e) = inl e
 turned x (y ∷ xs) (inr i) = inr (turned x xs i)
-
--- what is found of a name is among what is known
-found_here : (script : Script) (v : ℕ) (ks : List (Known Name)) (n : Name) (k : Known Name) → entry_of (names script v) ks n ≡ Some k → IsAmong k ks
-unfolding names
-found_here script v ks n k e = found_all (draw_word script.key) v (λ j. IsAmong j ks) ks n k (all_here ks ks (λ x a. a)) e
 
 -- ---- a message is taken
 
@@ -69,12 +59,12 @@ module _ (script : Script) (once : KnowsOnce script) (honest : ℕ → Bool) (w 
   reacting : (p : Name) (k : Known Name) → entry_of (names script v) s.known p ≡ Some k → (a : Message Name) → IsAmong a k.reactions → was_sent a.id (Story Taken) ≡ false
   unfolding readied was_sent sends_it counts
   reacting p k e a i = subst (λ hs. was_sent a.id hs ≡ false) (sym story) (sent_both a.id (Story Start) (Here v (Took s.activations m) ∷ [])
-      (unsent_more a.id (x.history ++ head_of n v) (world.events_of x.links v []) (unsent_more a.id x.history (head_of n v) (unsent script w x es 1 opened steps v s there a (k, found_here script v s.known p k e, i)) (refl, tt)) (events_quiet x.links v [] tt)) refl)
+      (unsent_more a.id (x.history ++ head_of n v) (world.events_of x.links v []) (unsent_more a.id x.history (head_of n v) (unsent script w x es 1 opened steps v s there a (k, entry_among (names script v) s.known p k e, i)) (refl, tt)) (events_quiet x.links v [] tt)) refl)
 
   came : (p : Name) (k : Known Name) → entry_of (names script v) s.known p ≡ Some k → (a : Message Name) → IsAmong a k.held → CameSo script honest x v (head_of n v) Taken a
   unfolding readied
   came p k e a i = came_later script honest x v (head_of n v) Start Taken (Here v (Took s.activations m) ∷ []) story (λ j y f. f) (λ y j. held_known script honest x v (head_of n v) Start Taken (λ z g. g) y j) a
-      (held_came_so script honest x around v s there k (turned k s.known (found_here script v s.known p k e)) a (turned a k.held i) (head_of n v) ms)
+      (held_came_so script honest x around v s there k (turned k s.known (entry_among (names script v) s.known p k e)) a (turned a k.held i) (head_of n v) ms)
 
   pub turn_starts : Also script honest x v (head_of n v) (λ y. one m.id y) s (record s { queue = ms }) (taken_state s.activations m ms (readied x s))
   unfolding readied

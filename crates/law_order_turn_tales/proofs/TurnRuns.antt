@@ -7,7 +7,7 @@ use Rattle.def_machine.specs.Values.{Name, Promise}
 use Rattle.def_machine.specs.State.{Message, Resolver, Took, Vat, Gives, ◌>>=◌, ◌>>◌, and_then, tell, new_activation, WhereSome}
 use Rattle.def_machine.specs.Eval as eval
 use Rattle.def_run.specs.World as world
-use Rattle.def_run.specs.World.{Script, Entry, Event, Turn, Turned, World, Goes, names, readied}
+use Rattle.def_run.specs.World.{Script, Entry, Event, Turned, World, Goes, names, readied}
 use Rattle.law_name.specs.Names.{AllOf, Named, MessageOk, Parts}
 use Rattle.law_name.specs.Runs.{KnowsOnce}
 use Rattle.law_name.proofs.Facts.{Nothing, IsMessage, message_up}

@@ -1,10 +1,10 @@
 -- In every run turns and opening turns are made of small steps.
 use Rattle.std.proofs.Common.{◌≡◌, ℕ, zero, ◌+◌, Bool, true, List, [], ◌∷◌, ◌++◌, Some, length, sym, subst, ◌∙◌, append_assoc, arith}
 use Rattle.std.specs.Prelude.{slice_get}
-use Rattle.def_machine.specs.Values.{Value, Name}
+use Rattle.def_machine.specs.Values.{Name}
 use Rattle.def_machine.specs.State.{Vat}
 use Rattle.def_run.specs.World as world
-use Rattle.def_run.specs.World.{Script, Program, Entry, Turn, Event, World, Goes}
+use Rattle.def_run.specs.World.{Script, Program, Turn, Event, World, Goes}
 use Rattle.law_fate.specs.Fate.{one}
 use Rattle.law_fate.specs.WholeFateRuns.{KnowsVats}
 use Rattle.law_name.proofs.Run.{Stands}
@@ -16,9 +16,6 @@ use Rattle.law_order_sending.proofs.Agree.{worlds_agree}
 use Rattle.law_order_sending.proofs.Around.{around_of}
 use Rattle.law_order_sending.proofs.Counting.{turn_begins, opening_begins}
 use Rattle.law_order_sending.proofs.Sending.{Around}
-use Rattle.law_order_settling.proofs.FarTold.{far_is_told}
-use Rattle.law_order_settling.proofs.Settling.{IsList, FarIsTold}
-use Rattle.law_order_settling.proofs.Sound.{vats_are_sound}
 use Rattle.law_order_tales.specs.Entries.{TurnsAreTales, OpeningsAreTales, OfScripts}
 use Rattle.law_order_turn_tales.proofs.Also.{Also}
 use Rattle.law_order_turn_tales.proofs.AlsoKept.{quietly_also, promised_also}
@@ -35,19 +32,16 @@ use Rattle.law_order_turn_tales.proofs.TurnRuns.{head_of}
 
 module _ (script : Script) (vats : KnowsVats script) (honest : ℕ → Bool) (all : (u : ℕ) → honest u ≡ true) (w : World) (around : Around script w) (v : ℕ) (head : List Event) (came : Name → ℕ) (r q : Vat Name) (begins : IsBegun w v head came r q) (there : slice_get w.vats v ≡ Some r) (h : Stands script w)
     (end : Vat Name) (agrees : Agrees script v end) where
-  away : (y : Value Name) → FarIsTold script honest w v head (IsList y) r there
-  away y = far_is_told script honest w v head (IsList y) r there all (vats_are_sound script w around.stands)
-
   given : Given script honest all w v r there h head end (Also script honest w v head came r q)
   unfolding world.names
   given = record {
     quietly = λ s fuel lines more acts things slots lists e none stay later also. quietly_also script honest w v head came r q s also fuel lines more acts things slots lists e none stay;
     promised = λ c o s sure steady later also. promised_also script honest w v head came r q s also;
-    sent = sent_field script vats honest all w around v head came r q begins there h end agrees away;
+    sent = sent_field script vats honest all w around v head came r q begins there h end agrees;
     sent_only = sent_only_field script vats honest all w around v head came r q begins there h end agrees;
     reacted = reacted_field script vats honest all w around v head came r q begins there h end agrees;
-    broken = λ c o p x s t sure may steady e later more. settled.broken script honest all w around v head came r q begins there h end agrees away c o p s t sure later more x e may steady;
-    resolved = λ c o p y s t k sure ok found waits own loose steady e later more. settled.resolved script honest all w around v head came r q begins there h end agrees away c o p s t sure later more y e k found waits own loose steady;
+    broken = λ c o p x s t sure may steady e later more. settled.broken script honest all w around v head came r q begins there h end agrees c o p s t sure later more x e may steady;
+    resolved = λ c o p y s t k sure ok found waits own loose steady e later more. settled.resolved script honest all w around v head came r q begins there h end agrees c o p s t sure later more y e k found waits own loose steady;
   }
 
 -- ---- in runs

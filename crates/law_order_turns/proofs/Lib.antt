@@ -3,5 +3,4 @@ pub mod Own
 pub mod Resolvers
 pub mod Same
 pub mod TurnRuns
-pub mod Turning
 pub mod Turns

@@ -1,11 +1,9 @@
--- In every run an opening turn keeps order, where all are honest.
+-- As the opening turn of a vat begins in a run, where all are honest, the vat is steady with its root in hand.
 use Rattle.std.proofs.Common.{◌≡◌, ℕ, zero, suc, ◌+◌, ◌*◌, ◌≤◌, Bool, true, false, List, [], ◌∷◌, ◌++◌, Some, length, map, refl, sym, ap, subst, ◌∙◌, inl, inr, arith}
 use Rattle.std.specs.Prelude.{slice_get}
-use Rattle.def_kernel.specs.declared.node.Node.{Node}
 use Rattle.def_machine.specs.Values.{Name, Root, naming}
-use Rattle.def_machine.specs.State.{Binding, Standing, Unsettled, Known, Vat, Resolver, Gives, begun, is_in}
+use Rattle.def_machine.specs.State.{Standing, Unsettled, Known, Vat, begun, is_in}
 use Rattle.def_machine.specs.Refs.{entry_of, standing_of, standing_in}
-use Rattle.def_machine.specs.Eval as eval
 use Rattle.def_run.specs.Draws.{draw_word}
 use Rattle.def_run.specs.World as world
 use Rattle.def_run.specs.World.{Script, Program, World, Goes, names, readied}
@@ -18,7 +16,6 @@ use Rattle.law_reference.specs.NameTableRuns.{allowed}
 use Rattle.law_reference.proofs.Counts.{opened_counted}
 use Rattle.law_reference.proofs.KnownRuns.{begins_bounded, opens_hold}
 use Rattle.law_reference.proofs.ViewsRuns.{views_wait_in_runs}
-use Rattle.law_order.specs.Steps.{StaysInOrder}
 use Rattle.law_order_runs.proofs.Beginnings.{vats_are_ready}
 use Rattle.law_order_waits.specs.Answers.{answered_by, asked_at, waits_at, waitings}
 use Rattle.law_order_waits.proofs.Classes.{owed_at, root_room}
@@ -28,8 +25,6 @@ use Rattle.law_order_waits.proofs.Room as room
 use Rattle.law_order_waits.proofs.Room.{share, share_most, times, spent}
 use Rattle.law_order_steady.proofs.Ends.{ViewsLater}
 use Rattle.law_order_steady.proofs.Steady.{Steady}
-use Rattle.law_order_turns.specs.Turns.{OpeningsStayInOrder}
-use Rattle.law_order_turns.proofs.Turns.{opens}
 
 -- ---- a vat at the start has room for its root
 
@@ -125,13 +120,6 @@ module _ (script : Script) where
     unfolding world.fresh is_in
     no_notice = subst (λ (z : Vat Name). is_in v z.noticed ≡ false) fresh_here refl
 
-    no_thing : (i : ℕ) (p : Name) → slice_get s.things i ≡ Some (Resolver p) → ⊥
-    unfolding world.fresh
-    no_thing i p e = none i (subst (λ (z : Vat Name). slice_get z.things i ≡ Some (Resolver p)) (sym fresh_here) e)
-      where
-        none : (j : ℕ) → slice_get [] j ≡ Some (Resolver p) → ⊥
-        none j f = cc
-
     pub steady : Steady script w v Hand (λ n. 0) (readied w s)
     unfolding readied allowed
     steady = let sound = (opened_counted script ps w opened).sound.vats v s there in record {
@@ -143,10 +131,3 @@ module _ (script : Script) where
       room = room_here;
       single = λ n. let c = claims_of n in omega arith;
     }
-
-    opening_in_order : (honest : ℕ → Bool) (all : (h : ℕ) → honest h ≡ true) (tree : List Node) (depth : ℕ) (given : List (Binding Name)) (t : Vat Name) → eval.opening (names script v) tree depth (Root v) given (readied w s) ≡ Gives tt t → StaysInOrder script honest w v (readied w s) t
-    unfolding readied
-    opening_in_order honest all tree depth given t e = (opens script honest all w v s there (Some (Root v)) tree depth (Root v) given refl (readied w s) t (record { steady = steady; own = λ i p f. absurd (no_thing i p f) }) e).0
-
-pub openings_in_order : OpeningsStayInOrder
-openings_in_order script once ps rest w split opened honest all v later s there tree depth given t e = opening_in_order script once ps rest w split opened v later s there honest all tree depth given t e

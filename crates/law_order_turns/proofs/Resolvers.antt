@@ -1,18 +1,16 @@
 -- In every world of a run each resolver that a vat has is of a promise of the vat's own, which it knows.
-use Rattle.std.proofs.Common.{◌≡◌, ℕ, zero, List, Some, sym, subst}
+use Rattle.std.proofs.Common.{◌≡◌, ℕ, zero, List, Some}
 use Rattle.std.specs.Prelude.{slice_get}
 use Rattle.def_machine.specs.Values.{Name, Promise, Naming, naming, name_of}
 use Rattle.def_machine.specs.State.{Resolver, Vat}
-use Rattle.def_run.specs.Draws.{draw_word}
 use Rattle.def_run.specs.World as world
 use Rattle.def_run.specs.World.{Script, Entry, World, Goes, names}
 use Rattle.law_frozen.specs.Frozen.{IsPromised, ThingWell}
 use Rattle.law_frozen.proofs.RunSound.{WorldSound, begins_sound, opens_sound, steps_sound}
-use Rattle.law_name.specs.Names.{ThingOk, IsHad, IsKnownIn, names_in}
+use Rattle.law_name.specs.Names.{ThingOk, IsHad, names_in}
 use Rattle.law_name.specs.Runs.{KnowsOnce}
 use Rattle.law_name.proofs.Laws.{names_known}
-use Rattle.law_name.proofs.SameNames.{at_all, reference_is, reference_self}
-use Rattle.law_fate.proofs.ViewsEnd.{among_known}
+use Rattle.law_name.proofs.SameNames.{at_all}
 use Rattle.law_order_turns.proofs.Own.{known_promise}
 use Rattle.law_order_turns.proofs.Same.{Has}
 

@@ -1,5 +1,5 @@
 -- What a vat does with references leaves its things, and what it knows stays known.
-use Rattle.std.proofs.Common.{◌≡◌, ℕ, zero, Bool, true, false, List, [], ◌∷◌, ◌++◌, Option, Some, None, length, refl, ap, ◌∙◌}
+use Rattle.std.proofs.Common.{◌≡◌, ℕ, zero, Bool, true, false, List, [], ◌∷◌, ◌++◌, Option, Some, None, length, refl, ◌∙◌}
 use Rattle.std.specs.Prelude.{nat_le}
 use Rattle.def_machine.specs.Values.{Words, Value, Name, Naming, Coming}
 use Rattle.def_machine.specs.State.{Message, Note, Known, Happened, Sends, Reacts, Settles, Change, Settle, Vat, Done, Gives, Throws, Ejects, Stops, Act, ◌>>=◌, and_then, give, stop, look, tell, spend, spent, enqueue, send_out, alter, with_change, changed, come, begun, draw, draws, drawn_at, new_message, new_lone_message}
@@ -8,7 +8,7 @@ use Rattle.def_machine.specs.Refs.{entry_of}
 use Rattle.def_run.specs.World.{Script, names}
 use Rattle.law_machine.specs.Steps.{After}
 use Rattle.law_machine.proofs.Walks.{Property, Holds, IsClosed, InRefs, InRefsUnder, InSettling, InSending, walk_then}
-use Rattle.law_machine.proofs.RefsWalk.{settles_by_lines, walk_settle, walk_resolve, walk_send, walk_send_only, walk_react}
+use Rattle.law_machine.proofs.RefsWalk.{settles_by_lines, walk_send, walk_send_only, walk_react}
 use Rattle.law_order.proofs.Entries.{Differs, as_it_was, changes, differs}
 
 module _ (script : Script) (v : ℕ) where
@@ -102,15 +102,6 @@ module _ (script : Script) (v : ℕ) where
       go true f g = (i, refl)
       go false f g = g f
 
-  pub has_last : (ks : List (Known Name)) (j : Known Name) (n : Name) → K.same j.name n ≡ true → (i : Known Name) × (entry_of K (ks ++ j ∷ []) n ≡ Some i)
-  unfolding entry_of
-  has_last [] j n e = (j, ap (λ b. elim b [ true ↦ Some j | false ↦ None ]) e)
-  has_last (i ∷ ks) j n e = go (K.same i.name n) (has_last ks j n e)
-    where
-      go : (b : Bool) → (h : Known Name) × (entry_of K (ks ++ j ∷ []) n ≡ Some h) → (h : Known Name) × (◌≡◌ {A = Option (Known Name)} (elim b [ true ↦ Some i | false ↦ entry_of K (ks ++ j ∷ []) n ]) (Some h))
-      go true g = (i, refl)
-      go false g = g
-
   comes : (c : Coming Name Name) (h : ℕ) → Holds P (come K c h)
   unfolding come
   comes c h = record { after = λ s. (refl, λ n k. has_more s.known (begun (K.made c (length s.known)) h) n k.0 k.1) }
@@ -136,12 +127,6 @@ module _ (script : Script) (v : ℕ) where
 
   in_sending : InSending P K
   in_sending = record { messages = messages; lone_messages = lone_messages; sends = λ a m. tells (Sends a m); reacts = λ a x o m. tells (Reacts a x o m) }
-
-  pub same_settle : (p : Name) (y : Value Name) → Holds P (refs.settle K p y)
-  same_settle = walk_settle P K closed in_refs in_refs_under in_settling
-
-  pub same_resolve : (p : Name) (y : Value Name) → Holds P (refs.resolve K p y)
-  same_resolve = walk_resolve P K closed in_refs in_refs_under in_settling
 
   pub same_send : (act : ℕ) (x : Value Name) (verb : Words) (args : List (Value Name)) → Holds P (refs.send K act x verb args)
   same_send = walk_send P K closed in_refs in_refs_under in_settling in_sending
