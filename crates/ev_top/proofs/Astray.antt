@@ -14,9 +14,9 @@ use Rattle.ev_script.proofs.Admitted.{read_admitted}
 use Rattle.ev_world.specs.Running.{tree_in}
 use Rattle.law_name.specs.Names.{IsAmong}
 use Rattle.law_never_astray.specs.Formed.{AllOf}
-use Rattle.law_read_scripts.specs.Checked.{IsGiven}
-use Rattle.law_read_scripts.specs.Runs.{AreReadTo}
-use Rattle.law_read_scripts.proofs.NeverAstray.{no_read_script_goes_astray}
+use Rattle.law_read.specs.ReadScripts.Checked.{IsGiven}
+use Rattle.law_read.specs.ReadScripts.Runs.{AreReadTo}
+use Rattle.law_read.proofs.ReadScripts.NeverAstray.{no_read_script_goes_astray}
 use Rattle.ev_top.specs.Headline.{NoRunGoesAstray}
 use Rattle.ev_top.specs.Machine.{greatest_depth}
 use Rattle.ev_top.specs.Programs.{AreRead, IsRead, name_found, name_of, names_for, safe_names}

@@ -6,12 +6,12 @@ use Rattle.def_run.specs.World as machine
 use Rattle.def_run.specs.World.{World, Goes, Stopped}
 use Rattle.def_local.specs.Numbers as numbers
 use Rattle.def_local.specs.Numbers.{Course, Runs, Halts}
-use Rattle.law_local.specs.Mirrors.{RunMirrors}
-use Rattle.law_local.proofs.Texts.{texts_mirror}
+use Rattle.law_local.specs.Local.Mirrors.{RunMirrors}
+use Rattle.law_local.proofs.Local.Texts.{texts_mirror}
 use Rattle.law_peers.specs.Steady.{RunsSteadily}
 use Rattle.law_schedule.specs.Scripts.{tree_at}
-use Rattle.law_read_scripts.specs.Accepted.{MeetsTheLaws}
-use Rattle.law_read_scripts.proofs.Meets.{meets}
+use Rattle.law_read.specs.ReadScripts.Accepted.{MeetsTheLaws}
+use Rattle.law_read.proofs.ReadScripts.Meets.{meets}
 use Rattle.ev_scope.specs.declared.accepted.Scoped.{Scoped}
 use Rattle.ev_script.specs.Rules.{IsAdmitted}
 use Rattle.ev_script.specs.declared.script.Script.{Script}

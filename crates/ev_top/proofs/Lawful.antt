@@ -3,8 +3,8 @@ use Rattle.std.proofs.Common.{◌≡◌, ℕ, List, Option, Some, None, Ok, sym,
 use Rattle.def_run.specs.World as machine
 use Rattle.ev_generate.specs.Generated.{generated}
 use Rattle.ev_script.specs.declared.script.Script.{Script}
-use Rattle.law_read_scripts.proofs.Meets.{accepted}
-use Rattle.law_read_scripts.specs.Accepted.{MeetsTheLaws}
+use Rattle.law_read.proofs.ReadScripts.Meets.{accepted}
+use Rattle.law_read.specs.ReadScripts.Accepted.{MeetsTheLaws}
 use Rattle.ev_top.specs.Causes.{HasScript}
 use Rattle.ev_top.specs.Headline.{IsToRun}
 use Rattle.law_schedule.specs.Scripts.{tree_at}

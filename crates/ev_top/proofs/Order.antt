@@ -7,9 +7,9 @@ use Rattle.ev_script.proofs.Admitted.{read_admitted}
 use Rattle.ev_world.specs.Running.{tree_in}
 use Rattle.law_order.specs.Example as example
 use Rattle.law_order.specs.Order.{Ordered}
-use Rattle.law_ordered.proofs.Ordered.{runs_are_ordered}
-use Rattle.law_read_order.proofs.Kept.{order_kept}
-use Rattle.law_read_scripts.proofs.Meets.{accepted}
+use Rattle.law_ordered.proofs.Whole.Ordered.{runs_are_ordered}
+use Rattle.law_read.proofs.ReadOrder.Kept.{order_kept}
+use Rattle.law_read.proofs.ReadScripts.Meets.{accepted}
 use Rattle.law_schedule.specs.Scripts.{machine_script}
 use Rattle.ev_top.specs.Headline.{HoldsOrder, IsToRun, RunsHoldOrder}
 use Rattle.ev_top.specs.Machine.{greatest_depth}

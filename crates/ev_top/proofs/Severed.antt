@@ -11,7 +11,7 @@ use Rattle.law_run.proofs.BreakRuns.{severings_run}
 use Rattle.law_gift.proofs.Stays.{gifts_run}
 use Rattle.law_gift.proofs.Runs.{rests_in_runs}
 use Rattle.law_gift.proofs.Broken.{breaks_for_good}
-use Rattle.law_read_scripts.specs.Accepted.{MeetsTheLaws}
+use Rattle.law_read.specs.ReadScripts.Accepted.{MeetsTheLaws}
 use Rattle.ev_top.specs.Headline.{GoesOn, NoticesBreakUnopened, SeveredStaysBroken, StaysSevered}
 use Rattle.ev_top.specs.declared.command.Command.{Command}
 use Rattle.ev_top.proofs.Lawful.{lawful}

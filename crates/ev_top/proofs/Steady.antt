@@ -1,11 +1,11 @@
 -- The run of each script that is read, in numbers, is the machine's, and steady.
 use Rattle.def_run.specs.World as machine
 use Rattle.def_local.specs.Numbers as numbers
-use Rattle.law_local.specs.Mirrors.{RunMirrors}
-use Rattle.law_local.proofs.WholeRuns.{whole_runs_mirror}
+use Rattle.law_local.specs.Local.Mirrors.{RunMirrors}
+use Rattle.law_local.proofs.Local.WholeRuns.{whole_runs_mirror}
 use Rattle.law_peers.specs.Steady.{RunsSteadily}
-use Rattle.law_read_scripts.specs.Accepted.{MeetsTheLaws}
-use Rattle.law_steady.proofs.Anew.{lawful_steady}
+use Rattle.law_read.specs.ReadScripts.Accepted.{MeetsTheLaws}
+use Rattle.law_local.proofs.Steady.Anew.{lawful_steady}
 
 pub runs_are_steady : (script : machine.Script) → MeetsTheLaws script → RunsSteadily script
 runs_are_steady script lawful = lawful_steady script (lawful.0, lawful.2) lawful.1

@@ -3,8 +3,8 @@ use Rattle.std.proofs.Common.{ℕ, List, Option, Some, None, Ok, IfSome, sym, su
 use Rattle.def_run.specs.World as machine
 use Rattle.ev_script.proofs.Admitted.{read_admitted}
 use Rattle.ev_world.specs.Running.{tree_in}
-use Rattle.law_read_texts.proofs.ScriptsRead.{texts_of_scripts}
-use Rattle.law_read_uses.proofs.Held.{uses_hold}
+use Rattle.law_read.proofs.ReadTexts.ScriptsRead.{texts_of_scripts}
+use Rattle.law_read.proofs.ReadUses.Held.{uses_hold}
 use Rattle.ev_top.specs.Headline.{HoldsUses, IsToRun, RunsHoldUses}
 use Rattle.ev_top.specs.Machine.{greatest_depth}
 use Rattle.ev_top.specs.declared.command.Command.{Command}

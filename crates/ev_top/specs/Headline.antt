@@ -23,7 +23,7 @@ use Rattle.law_connected.specs.Begotten.{LinesConnected, TakenBegotten}
 use Rattle.law_connected.specs.UseLaws.{RunConnected}
 use Rattle.law_order.specs.Order.{Ordered}
 use Rattle.law_text.specs.Runs.{events_of}
-use Rattle.law_read_texts.specs.Runs.{TellsLowOf, trace_of}
+use Rattle.law_read.specs.ReadTexts.Runs.{TellsLowOf, trace_of}
 use Rattle.ev_scope.specs.declared.accepted.Scoped.{Scoped}
 use Rattle.ev_script.specs.declared.script.Script.{Script}
 use Rattle.law_generated.specs.Accepted.{generated_script}

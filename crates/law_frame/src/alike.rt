@@ -5,10 +5,10 @@
 //! each notice stands behind a cut of the same two vats, and no vat of the script may be told twice that
 //! it knows a vat, or that it knows itself. Each law names what it asks of gifts, if anything.
 
-ghost use Rattle.law_frame.specs.AlikeArrivals.{ArrivalsByNumbersStand};
-ghost use Rattle.law_frame.specs.Positions.{PositionsAreKeptAlike};
-ghost use Rattle.law_frame.specs.Order.{GiftsAreAskedForFirst};
-ghost use Rattle.law_frame.specs.Kinds.{DeliveriesAreReadAlike, OpeningsAreReadAlike, AsksAreReadAlike, SettlingsAreReadAlike, ShorteningsAreReadAlike, NotesAreReadAlike, NewNotesAreReadAlike};
+ghost use Rattle.law_frame.specs.Frame.AlikeArrivals.{ArrivalsByNumbersStand};
+ghost use Rattle.law_frame.specs.Frame.Positions.{PositionsAreKeptAlike};
+ghost use Rattle.law_frame.specs.Frame.Order.{GiftsAreAskedForFirst};
+ghost use Rattle.law_frame.specs.Frame.Kinds.{DeliveriesAreReadAlike, OpeningsAreReadAlike, AsksAreReadAlike, SettlingsAreReadAlike, ShorteningsAreReadAlike, NotesAreReadAlike, NewNotesAreReadAlike};
 
 /// A message is read alike: its target, its arguments from left to right, and what is new among them.
 pub fn deliveries_are_read_alike()

@@ -1,10 +1,10 @@
 //! The numbers of connections, and the frames that are written and read by them.
 
-ghost use Rattle.law_frame.specs.Growing.{NumbersStay};
-ghost use Rattle.law_frame.specs.Reads.{WhatIsWrittenIsRead};
-ghost use Rattle.law_frame.specs.OwnFrames.{FramesAreWrittenByNumbers};
-ghost use Rattle.law_frame.specs.Together.{ReadingsGoTogether, WritingsGoTogether};
-ghost use Rattle.law_frame.specs.Written.{NextFramesAreWritten, NotesHaveTheirFrames};
+ghost use Rattle.law_frame.specs.Frame.Growing.{NumbersStay};
+ghost use Rattle.law_frame.specs.Frame.Reads.{WhatIsWrittenIsRead};
+ghost use Rattle.law_frame.specs.Frame.OwnFrames.{FramesAreWrittenByNumbers};
+ghost use Rattle.law_frame.specs.Frame.Together.{ReadingsGoTogether, WritingsGoTogether};
+ghost use Rattle.law_frame.specs.Frame.Written.{NextFramesAreWritten, NotesHaveTheirFrames};
 
 /// What has a number between two vats keeps it: in each run, from any world on, what a vat exported to another
 /// or asked it for, and what the other exported to it or asked it for as far as that has arrived, grows at the

@@ -3,11 +3,11 @@
 //! script that is read has that, and tells no vat twice that it knows a vat, nor that it knows itself,
 //! which the laws ask as well.
 
-ghost use Rattle.law_frame.specs.Notes.{EveryNoteIsReadAlike, EveryPositionIsKeptAlike, EveryArrivalStands};
-ghost use Rattle.law_frame.specs.Steps.{EntriesByNumbersStand, OpeningTurnsByNumbersStand};
-ghost use Rattle.law_frame.specs.Exports.{PositionsStay, StatesGoOn, OnlyOwnStepsAsk, NoToldAnswerIsAskedFor, NothingToldIsAskedFor, EveryPositionStays, EveryStateGoesOn};
-ghost use Rattle.law_frame.specs.Chain.{EntriesChainOn, OpeningTurnsChainOn, RunsByNumbersStand, RunsAreTakenInNumbers};
-ghost use Rattle.law_frame.specs.States.{EachStateHasNumbers, EntriesAreTakenInNumbers, OpeningTurnsAreTakenInNumbers};
+ghost use Rattle.law_frame.specs.Frame.Notes.{EveryNoteIsReadAlike, EveryPositionIsKeptAlike, EveryArrivalStands};
+ghost use Rattle.law_frame.specs.Frame.Steps.{EntriesByNumbersStand, OpeningTurnsByNumbersStand};
+ghost use Rattle.law_frame.specs.Frame.Exports.{PositionsStay, StatesGoOn, OnlyOwnStepsAsk, NoToldAnswerIsAskedFor, NothingToldIsAskedFor, EveryPositionStays, EveryStateGoesOn};
+ghost use Rattle.law_frame.specs.Frame.Chain.{EntriesChainOn, OpeningTurnsChainOn, RunsByNumbersStand, RunsAreTakenInNumbers};
+ghost use Rattle.law_frame.specs.Frame.States.{EachStateHasNumbers, EntriesAreTakenInNumbers, OpeningTurnsAreTakenInNumbers};
 
 /// The note that stands first on a link that is not cut is read alike: its receiver reads the frame by its
 /// own tables and numbers as the one machine reads the note in names.

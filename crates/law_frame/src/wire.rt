@@ -4,10 +4,10 @@
 //! any entries of a schedule. No vat of the script may be told twice that it knows a vat, or that
 //! it knows itself.
 
-ghost use Rattle.law_frame.specs.Known.{WhatAVatAskedForIsKnown, WhatAVatWasAskedForIsKnown, WhatAVatExportedIsKnown, WhatArrivedIsKnown, NotesHoldNoLists, DrawsAreInOrder, QuestionsAreOfTheirHosts};
-ghost use Rattle.law_frame.specs.Given.{NotesNameWhatWasGiven};
-ghost use Rattle.law_frame.specs.News.{NewsIsReadAlike};
-ghost use Rattle.law_frame.specs.Sources.{NamesComeFromTheirHosts};
+ghost use Rattle.law_frame.specs.Frame.Known.{WhatAVatAskedForIsKnown, WhatAVatWasAskedForIsKnown, WhatAVatExportedIsKnown, WhatArrivedIsKnown, NotesHoldNoLists, DrawsAreInOrder, QuestionsAreOfTheirHosts};
+ghost use Rattle.law_frame.specs.Frame.Given.{NotesNameWhatWasGiven};
+ghost use Rattle.law_frame.specs.Frame.News.{NewsIsReadAlike};
+ghost use Rattle.law_frame.specs.Frame.Sources.{NamesComeFromTheirHosts};
 
 /// A vat knows each answer and each gift for which it ever asked another.
 pub fn what_a_vat_asked_for_is_known()

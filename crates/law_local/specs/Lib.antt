@@ -1,11 +1,2 @@
-pub mod Told
-pub mod Mirrors
-pub mod Statements
-pub mod Writing
-pub mod Naming
-pub mod Steps
-pub mod Runs
-pub mod Hearing
-pub mod Carrying
-pub mod Joined
-pub mod Whole
+pub mod Local
+pub mod Steady

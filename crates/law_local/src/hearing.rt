@@ -2,7 +2,7 @@
 //! No vat of the script may be told twice that it knows a vat, or that it knows itself, and each notice
 //! stands behind a cut of the same two vats.
 
-ghost use Rattle.law_local.specs.Hearing.{FramesAreHeardByNumbers};
+ghost use Rattle.law_local.specs.Local.Hearing.{FramesAreHeardByNumbers};
 
 /// In each world of a run, and of any two vats: where the run in numbers stands for the machine's, the receiver hears the next frame on
 /// a way that is not cut by its own numbers as it reads the note in names.

@@ -1,8 +1,9 @@
-//! The run of a script in each vat's own numbers stands where the machine's run stands.
+//! The run in which each vat names things by its own numbers mirrors the machine's.
 #![tactic(auto)]
 
 pub mod carrying;
 pub mod hearing;
+pub mod laws;
 pub mod parts;
 pub mod told;
 pub mod whole;

@@ -1,8 +1,8 @@
 //! Where the two runs stand for one another: at the start, after a cut and after an idle entry, in the closing list, and in the text.
 
-ghost use Rattle.law_local.specs.Statements.{StatesAreNamed, StartMirrors, CutsMirror, IdlesMirror, ClosingsMirror, TextsMirror};
-ghost use Rattle.law_local.specs.Writing.{EachPutsSo, WritingsMirror};
-ghost use Rattle.law_local.specs.Naming.{NamesMirror};
+ghost use Rattle.law_local.specs.Local.Statements.{StatesAreNamed, StartMirrors, CutsMirror, IdlesMirror, ClosingsMirror, TextsMirror};
+ghost use Rattle.law_local.specs.Local.Writing.{EachPutsSo, WritingsMirror};
+ghost use Rattle.law_local.specs.Local.Naming.{NamesMirror};
 
 /// Where a vat in numbers stands for a vat in names, the state in names is the state in numbers with the name of
 /// each number in its place.

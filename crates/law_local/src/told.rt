@@ -6,7 +6,7 @@
 //! script may be told twice that it knows a vat, or that it knows itself, which the reading of scripts
 //! refuses.
 
-ghost use Rattle.law_local.specs.Told.{EachNewNameIsTold, GiftsAreNamed, GiftsComeAtTheEnd, LinesNameAnswers, MessagesComeInOrder, NotesBringNoOwnPromise, NotesNameWhatTheyAsk, OwnPromisesComeInOrder};
+ghost use Rattle.law_local.specs.Local.Told.{EachNewNameIsTold, GiftsAreNamed, GiftsComeAtTheEnd, LinesNameAnswers, MessagesComeInOrder, NotesBringNoOwnPromise, NotesNameWhatTheyAsk, OwnPromisesComeInOrder};
 
 /// The messages that a vat has had after a step are those that it had before, then the message of the
 /// note that arrived, if one did and carries a message, and then the messages that the vat made, in order.

@@ -2,10 +2,10 @@
 //! and so does the run.
 //!
 //! Of a script they ask that no vat is told twice that it knows a vat, or that it knows itself, and that each notice stands behind a cut of
-//! the same two vats; so it is of every script that is read (`law_read_scripts`).
+//! the same two vats; so it is of every script that is read (`law_read`).
 
-ghost use Rattle.law_local.specs.Whole.{WholeRunsMirror, WholeTextsMirror};
-ghost use Rattle.law_local.specs.Joined.{TurnsMirror, NoticesMirror, OpeningsMirror, OthersMirror, RunsMirrorWhereCarriesDo};
+ghost use Rattle.law_local.specs.Local.Whole.{WholeRunsMirror, WholeTextsMirror};
+ghost use Rattle.law_local.specs.Local.Joined.{TurnsMirror, NoticesMirror, OpeningsMirror, OthersMirror, RunsMirrorWhereCarriesDo};
 
 /// A turn in the run of a script, from all that stands for what it finds, leads where the machine's does: both go on so, both find nothing
 /// to do, or both stop for the same reason.

@@ -1,10 +1,2 @@
-pub mod Befores
-pub mod Laws
-pub mod Lines
-pub mod News
-pub mod Passings
-pub mod Reactions
-pub mod Sends
-pub mod Takes
-pub mod Tells
-pub mod Told
+pub mod History
+pub mod Came

@@ -1,11 +1,14 @@
 //! From the lines of a history to the places of a world.
 #![tactic(auto)]
 
-ghost use Rattle.law_order_history.specs.Laws.{SmallStepsKeep, TalesAreOrdered};
-ghost use Rattle.law_order_history.specs.Passings.{ArgumentsPassBehind};
-ghost use Rattle.law_order_history.specs.Reactions.{ReactionsAreSmallSteps};
-ghost use Rattle.law_order_history.specs.Sends.{SendsAreSmallSteps};
-ghost use Rattle.law_order_history.specs.Takes.{TakesAreSmallSteps};
+ghost use Rattle.law_order_history.specs.Came.Came.{HeldMessagesCame};
+ghost use Rattle.law_order_history.specs.History.Laws.{SmallStepsKeep, TalesAreOrdered};
+ghost use Rattle.law_order_history.specs.History.Passings.{ArgumentsPassBehind};
+ghost use Rattle.law_order_history.specs.History.Reactions.{ReactionsAreSmallSteps};
+ghost use Rattle.law_order_history.specs.History.Sends.{SendsAreSmallSteps};
+ghost use Rattle.law_order_history.specs.History.Takes.{TakesAreSmallSteps};
+
+// History.
 
 /// Where the lines so far say that a message is before a reference or a message, it is ahead of its place or was taken, and no
 /// object took a message too early. This is kept by each small step: one in which at most one line counts, and by which what was
@@ -50,4 +53,12 @@ pub fn takes_are_small_steps()
 /// It asks that the vat is ready, and that the history tells of no send of the message that the vat numbers next.
 pub fn reactions_are_small_steps()
     ensures { ReactionsAreSmallSteps }
+{}
+
+// Came.
+
+/// In every world of a run, each message that a name of a vat holds came to that vat by a line of the history, and its
+/// arguments are those that came by the first such line.
+pub fn held_messages_came()
+    ensures { HeldMessagesCame }
 {}

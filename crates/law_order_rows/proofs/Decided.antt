@@ -6,8 +6,8 @@ use Rattle.def_machine.specs.State.{Deliver, Sends}
 use Rattle.def_run.specs.World.{Event, Here, Carried}
 use Rattle.law_order.specs.Order.{Ordered, reaching, sent_on, taken_on, reaches_on, any_reach, sends_behind, before_from, is_before, taken_after, keeps_order}
 use Rattle.law_order.proofs.Named.{same_is}
-use Rattle.law_order_history.specs.Lines.{sends_it, was_sent}
-use Rattle.law_order_history.proofs.Lines.{before_was_sent, and_first, and_second}
+use Rattle.law_order_history.specs.History.Lines.{sends_it, was_sent}
+use Rattle.law_order_history.proofs.History.Lines.{before_was_sent, and_first, and_second}
 use Rattle.law_order_rows.specs.Decided.{sent_in, in_order, OrderIsDecided}
 
 -- ---- a message that is before another was sent

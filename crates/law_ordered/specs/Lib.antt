@@ -1,1 +1,14 @@
-pub mod Ordered
+pub mod Waits
+pub mod Notices
+pub mod News
+pub mod Tales
+pub mod Sending
+pub mod AskTales
+pub mod MessageTales
+pub mod NoticeTales
+pub mod NewsTales
+pub mod Settling
+pub mod TurnTales
+pub mod SettledTales
+pub mod OpenTales
+pub mod Whole

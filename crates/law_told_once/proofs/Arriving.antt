@@ -15,15 +15,15 @@ use Rattle.law_name.proofs.CareArrive.{fine_break_orphan}
 use Rattle.law_name.proofs.Facts as facts
 use Rattle.law_name.proofs.Among.{all_among}
 use Rattle.law_reference.specs.ListRingless.{IsNamed}
-use Rattle.law_frame.specs.Asked.{told_in}
-use Rattle.law_frame.proofs.Exported.{among_split}
-use Rattle.law_frame.proofs.Grow.{among_right}
+use Rattle.law_frame.specs.Frame.Asked.{told_in}
+use Rattle.law_frame.proofs.Frame.Exported.{among_split}
+use Rattle.law_frame.proofs.Frame.Grow.{among_right}
 use Rattle.law_gift.proofs.Kept.{found_named}
-use Rattle.law_hearing.proofs.Bare.{Bare, Bares, bare_under}
-use Rattle.law_hearing.proofs.Pending.{told_not}
+use Rattle.law_frame.proofs.Heard.Bare.{Bare, Bares, bare_under}
+use Rattle.law_frame.proofs.Heard.Pending.{told_not}
 use Rattle.law_order.proofs.Moves.{Keeps, keeps_bind, keeps_look, keeps_give}
-use Rattle.law_order_cuts.proofs.WholeWalk.{whole_learn_name, having, breaking_orphan}
-use Rattle.law_steady.proofs.Again.{once_both}
+use Rattle.law_order_steps.proofs.Cuts.WholeWalk.{whole_learn_name, having, breaking_orphan}
+use Rattle.law_local.proofs.Steady.Again.{once_both}
 use Rattle.law_told_once.specs.Told.{with_news}
 use Rattle.law_told_once.proofs.Puts.{notes_to, news_to, news_named, all_to}
 use Rattle.law_told_once.proofs.Telling as telling

@@ -22,22 +22,22 @@ use Rattle.law_reference.proofs.LinksCut.{fits_notes}
 use Rattle.law_reference.proofs.Moves.{Moved, Still, Severs, Drops, Steps, Arrives, Does}
 use Rattle.law_reference.proofs.OwnRuns.{begins_own}
 use Rattle.law_reference.proofs.Told.{told_is}
-use Rattle.law_frame.specs.Tables.{arrived}
-use Rattle.law_frame.proofs.LinksGo.{Splits, FoundFrom, Stays, with_link_here, taken_arrived}
-use Rattle.law_frame.proofs.LinksKnown.{at_link}
-use Rattle.law_frame.proofs.Sources.{push_all_goes, take_splits, waiting_logged}
-use Rattle.law_frame.proofs.WireArrivals.{arrived_is}
+use Rattle.law_frame.specs.Frame.Tables.{arrived}
+use Rattle.law_frame.proofs.Frame.LinksGo.{Splits, FoundFrom, Stays, with_link_here, taken_arrived}
+use Rattle.law_frame.proofs.Frame.LinksKnown.{at_link}
+use Rattle.law_frame.proofs.Frame.Sources.{push_all_goes, take_splits, waiting_logged}
+use Rattle.law_frame.proofs.Frame.WireArrivals.{arrived_is}
 use Rattle.law_gift.proofs.Found.{kept_more, calms}
 use Rattle.law_gift.proofs.Keeps.{alone_kept, arrive_kept}
 use Rattle.law_gift.proofs.Kept.{settling, Entry as Fits, Kept}
 use Rattle.law_gift.proofs.Rests as rests
-use Rattle.law_hearing.proofs.Lift.{opened_holds, stepped_holds}
-use Rattle.law_hearing.proofs.Moves.{goes_of}
-use Rattle.law_hearing.proofs.Open.{some_is}
-use Rattle.law_hearing.proofs.Pending.{splits, between}
-use Rattle.law_hearing.proofs.Runs.{opened_worldly, stepped_worldly, opening_pair, entry_pair}
-use Rattle.law_hearing.proofs.Steps.{Worldly, Onward}
-use Rattle.law_steady.proofs.Again.{once_apart}
+use Rattle.law_frame.proofs.Heard.Lift.{opened_holds, stepped_holds}
+use Rattle.law_frame.proofs.Heard.Moves.{goes_of}
+use Rattle.law_frame.proofs.Heard.Open.{some_is}
+use Rattle.law_frame.proofs.Heard.Pending.{splits, between}
+use Rattle.law_frame.proofs.Heard.Runs.{opened_worldly, stepped_worldly, opening_pair, entry_pair}
+use Rattle.law_frame.proofs.Heard.Steps.{Worldly, Onward}
+use Rattle.law_local.proofs.Steady.Again.{once_apart}
 use Rattle.law_told_once.specs.Told.{with_news, news_in, ToldOnce}
 use Rattle.law_told_once.specs.New.{TellsNew, NewsIsNew}
 use Rattle.law_told_once.proofs.Puts.{news_twice}

@@ -25,10 +25,10 @@ use Rattle.law_reference.proofs.NotesLift as lift
 use Rattle.law_reference.proofs.NotesRuns.{OfNotes}
 use Rattle.law_reference.proofs.Told.{told_is}
 use Rattle.law_order.proofs.Sends.{pushed_shut, pushed_open}
-use Rattle.law_order_cuts.specs.Letting.{once}
-use Rattle.law_order_cuts.specs.Opening.{opens, opens_in, opens_put}
-use Rattle.law_order_cuts.proofs.Counts.{sum_of, taken_sum}
-use Rattle.law_order_cuts.proofs.Reached.{each_gift_is_opened_once}
+use Rattle.law_order_steps.specs.Cuts.Letting.{once}
+use Rattle.law_order_steps.specs.Cuts.Opening.{opens, opens_in, opens_put}
+use Rattle.law_order_steps.proofs.Cuts.Counts.{sum_of, taken_sum}
+use Rattle.law_order_steps.proofs.Cuts.Reached.{each_gift_is_opened_once}
 use Rattle.law_gift.proofs.Found.{kept_more, calms}
 use Rattle.law_gift.proofs.Keeps.{alone_kept, arrive_kept}
 use Rattle.law_gift.proofs.Kept.{settling, Kept}

@@ -8,8 +8,8 @@ use Rattle.law_name.specs.Names.{AllOf, IsAmong}
 use Rattle.law_reference.proofs.LinksCut.{fits_pushed}
 use Rattle.law_reference.proofs.AnswerLinks.{AtLink, with_any}
 use Rattle.law_reference.proofs.Follow.{eq_dec}
-use Rattle.law_frame.specs.Asked.{told_in}
-use Rattle.law_hearing.proofs.Questions.{pushed_log}
+use Rattle.law_frame.specs.Frame.Asked.{told_in}
+use Rattle.law_frame.proofs.Heard.Questions.{pushed_log}
 use Rattle.law_told_once.specs.Told.{with_news, news_in}
 
 -- ---- lists of notes

@@ -24,27 +24,27 @@ use Rattle.law_reference.proofs.LinksCut.{fits_notes, fits_severed}
 use Rattle.law_reference.proofs.Moves.{Moved, Still, Severs, Drops, Steps, Arrives, Does}
 use Rattle.law_reference.proofs.NotesLift as lift
 use Rattle.law_reference.proofs.SingleRuns as answers
-use Rattle.law_frame.specs.Asked.{AsksOf, told_in}
-use Rattle.law_frame.specs.Tables.{arrived}
-use Rattle.law_frame.proofs.Exported.{among_split}
-use Rattle.law_frame.proofs.Grow.{questions_twice}
-use Rattle.law_frame.proofs.LinksGo.{Splits, LinkGoes, FoundFrom}
-use Rattle.law_frame.proofs.LinksKnown.{AsksOwn, at_link}
-use Rattle.law_frame.proofs.OrderRuns.{found_all, differ_once}
-use Rattle.law_frame.proofs.SourceLaws.{log_is, asks_in}
-use Rattle.law_frame.proofs.Sources.{waiting_logged}
-use Rattle.law_frame.proofs.WireArrivals.{arrived_is}
-use Rattle.law_frame.proofs.Worlds.{asker}
-use Rattle.law_hearing.proofs.Bare.{Bare}
-use Rattle.law_hearing.proofs.Lift.{opened_holds, stepped_holds}
-use Rattle.law_hearing.proofs.Moves.{goes_of}
-use Rattle.law_hearing.proofs.Open.{some_is}
-use Rattle.law_hearing.proofs.Pending.{Alone, AsksFor, Unheard, sent, splits, stands, wires, told_not}
-use Rattle.law_hearing.proofs.Runs.{opened_worldly, stepped_worldly, opening_pair, entry_pair}
-use Rattle.law_hearing.proofs.Steps.{Worldly, Onward}
-use Rattle.law_steady.proofs.Again.{once_both, once_apart}
-use Rattle.law_steady.proofs.AskOnce.{AllAskedOnce}
-use Rattle.law_steady.proofs.AskSteps.{Known as Asking, asked_on}
+use Rattle.law_frame.specs.Frame.Asked.{AsksOf, told_in}
+use Rattle.law_frame.specs.Frame.Tables.{arrived}
+use Rattle.law_frame.proofs.Frame.Exported.{among_split}
+use Rattle.law_frame.proofs.Frame.Grow.{questions_twice}
+use Rattle.law_frame.proofs.Frame.LinksGo.{Splits, LinkGoes, FoundFrom}
+use Rattle.law_frame.proofs.Frame.LinksKnown.{AsksOwn, at_link}
+use Rattle.law_frame.proofs.Frame.OrderRuns.{found_all, differ_once}
+use Rattle.law_frame.proofs.Frame.SourceLaws.{log_is, asks_in}
+use Rattle.law_frame.proofs.Frame.Sources.{waiting_logged}
+use Rattle.law_frame.proofs.Frame.WireArrivals.{arrived_is}
+use Rattle.law_frame.proofs.Frame.Worlds.{asker}
+use Rattle.law_frame.proofs.Heard.Bare.{Bare}
+use Rattle.law_frame.proofs.Heard.Lift.{opened_holds, stepped_holds}
+use Rattle.law_frame.proofs.Heard.Moves.{goes_of}
+use Rattle.law_frame.proofs.Heard.Open.{some_is}
+use Rattle.law_frame.proofs.Heard.Pending.{Alone, AsksFor, Unheard, sent, splits, stands, wires, told_not}
+use Rattle.law_frame.proofs.Heard.Runs.{opened_worldly, stepped_worldly, opening_pair, entry_pair}
+use Rattle.law_frame.proofs.Heard.Steps.{Worldly, Onward}
+use Rattle.law_local.proofs.Steady.Again.{once_both, once_apart}
+use Rattle.law_local.proofs.Steady.AskOnce.{AllAskedOnce}
+use Rattle.law_local.proofs.Steady.AskSteps.{Known as Asking, asked_on}
 use Rattle.law_told_once.specs.Told.{news_in, ToldOnce, EachIsToldOnce}
 use Rattle.law_told_once.proofs.Puts.{notes_to, news_to, news_twice, news_named, all_to, Logs, push_logs}
 use Rattle.law_told_once.proofs.Telling as telling

@@ -9,11 +9,11 @@ use Rattle.law_machine.specs.Steps.{After}
 use Rattle.law_machine.proofs.StepLaws.{settled_entry, standing_found, entry_append, after_map}
 use Rattle.law_name.specs.Names.{IsAmong, Once}
 use Rattle.law_name.proofs.Facts.{all_end}
-use Rattle.law_frame.proofs.Exported.{among_split}
+use Rattle.law_frame.proofs.Frame.Exported.{among_split}
 use Rattle.law_reference.proofs.Entries.{changed_at}
 use Rattle.law_order.proofs.Moves.{Keeps, IsKept, keeps_bind, keeps_then, keeps_give}
-use Rattle.law_order_cuts.proofs.WholeWalk.{IsWalkedWhole}
-use Rattle.law_steady.proofs.Again.{once_both}
+use Rattle.law_order_steps.proofs.Cuts.WholeWalk.{IsWalkedWhole}
+use Rattle.law_local.proofs.Steady.Again.{once_both}
 use Rattle.law_told_once.specs.Told.{with_news}
 use Rattle.law_told_once.proofs.Puts.{news_to}
 use Rattle.law_told_once.proofs.Telling as telling

@@ -10,8 +10,8 @@ use Rattle.law_name.specs.Names.{AllOf, WasDrawn, Everywhere}
 use Rattle.law_name.proofs.Care.{Sound}
 use Rattle.law_reference.specs.ListRingless.{IsNamed}
 use Rattle.law_reference.proofs.Moves.{IsAlone, Does}
-use Rattle.law_hearing.proofs.Bare.{Bare, Bares}
-use Rattle.law_order_cuts.proofs.WholeWalk.{whole_opening, whole_taking, whole_notice, whole_arrive}
+use Rattle.law_frame.proofs.Heard.Bare.{Bare, Bares}
+use Rattle.law_order_steps.proofs.Cuts.WholeWalk.{whole_opening, whole_taking, whole_notice, whole_arrive}
 use Rattle.law_told_once.proofs.Settling as settling
 use Rattle.law_told_once.proofs.Arriving as arriving
 use Rattle.law_told_once.proofs.Arriving.{given_by, Told, tells_told}

@@ -25,7 +25,7 @@ pub fn news_is_new()
 {}
 
 /// Where a note under way opens a gift, the gift is unsettled at its host: it waits for nothing, has no view, and did not
-/// settle, but to a broken reference. No note came before that opened it (`law_order_cuts::each_gift_is_opened_once`).
+/// settle, but to a broken reference. No note came before that opened it (`law_order_steps::each_gift_is_opened_once`).
 ///
 /// This asks nothing of notices. No vat of the script may be told twice that it knows a vat, or that it knows itself.
 pub fn opened_gifts_are_new()

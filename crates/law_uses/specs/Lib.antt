@@ -1,2 +1,5 @@
-pub mod Messages
-pub mod Made
+pub mod Uses
+pub mod Running
+pub mod ShownApart
+pub mod SettledApart
+pub mod KnownUses

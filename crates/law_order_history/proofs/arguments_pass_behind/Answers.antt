@@ -1,4 +1,4 @@
-use Rattle.law_order_history.proofs.Passed.{arguments_pass_behind}
+use Rattle.law_order_history.proofs.History.Passed.{arguments_pass_behind}
 use Rattle.law_order_history.proofs.arguments_pass_behind.Goals as goal
 
 pub returns : goal.returns

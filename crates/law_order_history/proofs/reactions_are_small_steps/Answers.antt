@@ -1,4 +1,4 @@
-use Rattle.law_order_history.proofs.ReactStep.{reactions_are_small_steps}
+use Rattle.law_order_history.proofs.History.ReactStep.{reactions_are_small_steps}
 use Rattle.law_order_history.proofs.reactions_are_small_steps.Goals as goal
 
 pub returns : goal.returns

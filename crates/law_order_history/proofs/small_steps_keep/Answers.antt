@@ -1,4 +1,4 @@
-use Rattle.law_order_history.proofs.Kept.{small_steps_keep}
+use Rattle.law_order_history.proofs.History.Kept.{small_steps_keep}
 use Rattle.law_order_history.proofs.small_steps_keep.Goals as goal
 
 pub returns : goal.returns

@@ -1,4 +1,4 @@
-use Rattle.law_order_history.proofs.TakeStep.{takes_are_small_steps}
+use Rattle.law_order_history.proofs.History.TakeStep.{takes_are_small_steps}
 use Rattle.law_order_history.proofs.takes_are_small_steps.Goals as goal
 
 pub returns : goal.returns

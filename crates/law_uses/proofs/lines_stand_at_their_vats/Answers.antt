@@ -1,4 +1,4 @@
-use Rattle.law_uses.proofs.Texts.{lines_stand}
+use Rattle.law_uses.proofs.Uses.Texts.{lines_stand}
 use Rattle.law_uses.proofs.lines_stand_at_their_vats.Goals as goal
 
 pub returns : goal.returns

@@ -1,4 +1,4 @@
-use Rattle.law_uses.proofs.Texts.{messages_are_as_sent}
+use Rattle.law_uses.proofs.Uses.Texts.{messages_are_as_sent}
 use Rattle.law_uses.proofs.messages_are_as_sent.Goals as goal
 
 pub returns : goal.returns

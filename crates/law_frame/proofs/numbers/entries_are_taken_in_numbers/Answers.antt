@@ -1,4 +1,4 @@
-use Rattle.law_frame.proofs.States.{entries_taken}
+use Rattle.law_frame.proofs.Frame.States.{entries_taken}
 use Rattle.law_frame.proofs.numbers.entries_are_taken_in_numbers.Goals as goal
 
 pub returns : goal.returns

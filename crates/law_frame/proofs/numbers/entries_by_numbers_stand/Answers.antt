@@ -1,4 +1,4 @@
-use Rattle.law_frame.proofs.Entries.{entries_stand}
+use Rattle.law_frame.proofs.Frame.Entries.{entries_stand}
 use Rattle.law_frame.proofs.numbers.entries_by_numbers_stand.Goals as goal
 
 pub returns : goal.returns

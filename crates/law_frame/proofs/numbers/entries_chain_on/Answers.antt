@@ -1,4 +1,4 @@
-use Rattle.law_frame.proofs.Chain.{entries_chain}
+use Rattle.law_frame.proofs.Frame.Chain.{entries_chain}
 use Rattle.law_frame.proofs.numbers.entries_chain_on.Goals as goal
 
 pub returns : goal.returns

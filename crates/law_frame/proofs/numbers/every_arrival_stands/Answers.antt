@@ -1,4 +1,4 @@
-use Rattle.law_frame.proofs.Notes.{arrivals_stand}
+use Rattle.law_frame.proofs.Frame.Notes.{arrivals_stand}
 use Rattle.law_frame.proofs.numbers.every_arrival_stands.Goals as goal
 
 pub returns : goal.returns

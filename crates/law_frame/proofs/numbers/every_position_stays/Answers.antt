@@ -1,4 +1,4 @@
-use Rattle.law_frame.proofs.Untouched.{every_position}
+use Rattle.law_frame.proofs.Frame.Untouched.{every_position}
 use Rattle.law_frame.proofs.numbers.every_position_stays.Goals as goal
 
 pub returns : goal.returns

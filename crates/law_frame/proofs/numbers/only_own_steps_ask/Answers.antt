@@ -1,4 +1,4 @@
-use Rattle.law_frame.proofs.OwnAsks.{own_steps_ask}
+use Rattle.law_frame.proofs.Frame.OwnAsks.{own_steps_ask}
 use Rattle.law_frame.proofs.numbers.only_own_steps_ask.Goals as goal
 
 pub returns : goal.returns

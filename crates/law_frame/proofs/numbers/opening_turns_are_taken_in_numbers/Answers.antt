@@ -1,4 +1,4 @@
-use Rattle.law_frame.proofs.States.{openings_taken}
+use Rattle.law_frame.proofs.Frame.States.{openings_taken}
 use Rattle.law_frame.proofs.numbers.opening_turns_are_taken_in_numbers.Goals as goal
 
 pub returns : goal.returns

@@ -1,4 +1,4 @@
-use Rattle.law_frame.proofs.Openings.{openings_stand}
+use Rattle.law_frame.proofs.Frame.Openings.{openings_stand}
 use Rattle.law_frame.proofs.numbers.opening_turns_by_numbers_stand.Goals as goal
 
 pub returns : goal.returns

@@ -1,4 +1,4 @@
-use Rattle.law_frame.proofs.Runs.{runs_stand}
+use Rattle.law_frame.proofs.Frame.Runs.{runs_stand}
 use Rattle.law_frame.proofs.numbers.runs_by_numbers_stand.Goals as goal
 
 pub returns : goal.returns

@@ -1,4 +1,4 @@
-use Rattle.law_frame.proofs.WireLaws.{notes_listless}
+use Rattle.law_frame.proofs.Frame.WireLaws.{notes_listless}
 use Rattle.law_frame.proofs.wire.notes_hold_no_lists.Goals as goal
 
 pub returns : goal.returns

@@ -1,4 +1,4 @@
-use Rattle.law_frame.proofs.WireLaws.{questions_hosted}
+use Rattle.law_frame.proofs.Frame.WireLaws.{questions_hosted}
 use Rattle.law_frame.proofs.wire.questions_are_of_their_hosts.Goals as goal
 
 pub returns : goal.returns

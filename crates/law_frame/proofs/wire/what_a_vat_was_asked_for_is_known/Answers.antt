@@ -1,4 +1,4 @@
-use Rattle.law_frame.proofs.WireLaws.{was_asked_known}
+use Rattle.law_frame.proofs.Frame.WireLaws.{was_asked_known}
 use Rattle.law_frame.proofs.wire.what_a_vat_was_asked_for_is_known.Goals as goal
 
 pub returns : goal.returns

@@ -1,4 +1,4 @@
-use Rattle.law_frame.proofs.WireLaws.{arrived_known}
+use Rattle.law_frame.proofs.Frame.WireLaws.{arrived_known}
 use Rattle.law_frame.proofs.wire.what_arrived_is_known.Goals as goal
 
 pub returns : goal.returns

@@ -1,4 +1,4 @@
-use Rattle.law_local.proofs.Carries.{carries_mirror}
+use Rattle.law_local.proofs.Local.Carries.{carries_mirror}
 use Rattle.law_local.proofs.carrying.carries_mirror.Goals as goal
 
 pub returns : goal.returns

@@ -1,4 +1,4 @@
-use Rattle.law_local.proofs.Naming.{names_mirror}
+use Rattle.law_local.proofs.Local.Naming.{names_mirror}
 use Rattle.law_local.proofs.parts.names_mirror.Goals as goal
 
 pub returns : goal.returns

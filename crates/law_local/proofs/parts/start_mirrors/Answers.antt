@@ -1,4 +1,4 @@
-use Rattle.law_local.proofs.Starts.{start_mirrors}
+use Rattle.law_local.proofs.Local.Starts.{start_mirrors}
 use Rattle.law_local.proofs.parts.start_mirrors.Goals as goal
 
 pub returns : goal.returns

@@ -1,4 +1,4 @@
-use Rattle.law_local.proofs.Writing.{writings_mirror}
+use Rattle.law_local.proofs.Local.Writing.{writings_mirror}
 use Rattle.law_local.proofs.parts.writings_mirror.Goals as goal
 
 pub returns : goal.returns

@@ -1,4 +1,4 @@
-use Rattle.law_local.proofs.ToldLaws.{names_told}
+use Rattle.law_local.proofs.Local.ToldLaws.{names_told}
 use Rattle.law_local.proofs.told.each_new_name_is_told.Goals as goal
 
 pub returns : goal.returns

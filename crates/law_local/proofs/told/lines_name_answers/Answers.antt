@@ -1,4 +1,4 @@
-use Rattle.law_local.proofs.ToldLaws.{lines_named}
+use Rattle.law_local.proofs.Local.ToldLaws.{lines_named}
 use Rattle.law_local.proofs.told.lines_name_answers.Goals as goal
 
 pub returns : goal.returns

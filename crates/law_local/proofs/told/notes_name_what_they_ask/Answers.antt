@@ -1,4 +1,4 @@
-use Rattle.law_local.proofs.ToldLaws.{notes_named}
+use Rattle.law_local.proofs.Local.ToldLaws.{notes_named}
 use Rattle.law_local.proofs.told.notes_name_what_they_ask.Goals as goal
 
 pub returns : goal.returns

@@ -1,4 +1,4 @@
-use Rattle.law_local.proofs.JoinedNotices.{notices_so}
+use Rattle.law_local.proofs.Local.JoinedNotices.{notices_so}
 use Rattle.law_local.proofs.whole.notices_mirror.Goals as goal
 
 pub returns : goal.returns

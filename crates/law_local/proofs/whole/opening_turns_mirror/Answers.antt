@@ -1,4 +1,4 @@
-use Rattle.law_local.proofs.JoinedOpenings.{openings_so}
+use Rattle.law_local.proofs.Local.JoinedOpenings.{openings_so}
 use Rattle.law_local.proofs.whole.opening_turns_mirror.Goals as goal
 
 pub returns : goal.returns

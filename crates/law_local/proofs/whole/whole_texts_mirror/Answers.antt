@@ -1,4 +1,4 @@
-use Rattle.law_local.proofs.WholeRuns.{whole_texts_mirror}
+use Rattle.law_local.proofs.Local.WholeRuns.{whole_texts_mirror}
 use Rattle.law_local.proofs.whole.whole_texts_mirror.Goals as goal
 
 pub returns : goal.returns

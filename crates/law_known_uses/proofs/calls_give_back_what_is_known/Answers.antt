@@ -1,5 +1,0 @@
-use Rattle.law_known_uses.proofs.Back.{calls_give_back_what_is_known}
-use Rattle.law_known_uses.proofs.calls_give_back_what_is_known.Goals as goal
-
-pub returns : goal.returns
-returns c = calls_give_back_what_is_known

@@ -1,5 +1,0 @@
-use Rattle.law_known_uses.proofs.Texts.{lines_use_what_is_known}
-use Rattle.law_known_uses.proofs.lines_use_what_is_known.Goals as goal
-
-pub returns : goal.returns
-returns c = lines_use_what_is_known

@@ -1,5 +1,0 @@
-use Rattle.law_known_uses.proofs.Whole.{runs_hold_uses}
-use Rattle.law_known_uses.proofs.runs_hold_uses.Goals as goal
-
-pub returns : goal.returns
-returns c = runs_hold_uses

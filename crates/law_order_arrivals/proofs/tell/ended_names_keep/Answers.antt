@@ -1,5 +1,0 @@
-use Rattle.law_order_arrivals.proofs.TrueNotes.{ended_names_keep}
-use Rattle.law_order_arrivals.proofs.tell.ended_names_keep.Goals as goal
-
-pub returns : goal.returns
-returns c = ended_names_keep

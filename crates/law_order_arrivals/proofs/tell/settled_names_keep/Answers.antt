@@ -1,5 +1,0 @@
-use Rattle.law_order_arrivals.proofs.TrueNotes.{settled_names_keep}
-use Rattle.law_order_arrivals.proofs.tell.settled_names_keep.Goals as goal
-
-pub returns : goal.returns
-returns c = settled_names_keep

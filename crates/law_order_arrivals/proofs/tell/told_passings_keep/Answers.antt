@@ -1,5 +1,0 @@
-use Rattle.law_order_arrivals.proofs.Beside.{told_passings_keep}
-use Rattle.law_order_arrivals.proofs.tell.told_passings_keep.Goals as goal
-
-pub returns : goal.returns
-returns c = told_passings_keep

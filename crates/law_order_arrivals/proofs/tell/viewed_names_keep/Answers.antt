@@ -1,5 +1,0 @@
-use Rattle.law_order_arrivals.proofs.TrueNotes.{viewed_names_keep}
-use Rattle.law_order_arrivals.proofs.tell.viewed_names_keep.Goals as goal
-
-pub returns : goal.returns
-returns c = viewed_names_keep

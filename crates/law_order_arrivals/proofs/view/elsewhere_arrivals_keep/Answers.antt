@@ -1,5 +1,0 @@
-use Rattle.law_order_arrivals.proofs.Views.{elsewhere_arrivals_keep}
-use Rattle.law_order_arrivals.proofs.view.elsewhere_arrivals_keep.Goals as goal
-
-pub returns : goal.returns
-returns c = elsewhere_arrivals_keep

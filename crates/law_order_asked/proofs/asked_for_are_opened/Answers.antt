@@ -1,5 +1,0 @@
-use Rattle.law_order_asked.proofs.Asked.{asked_for_are_opened}
-use Rattle.law_order_asked.proofs.asked_for_are_opened.Goals as goal
-
-pub returns : goal.returns
-returns c = asked_for_are_opened

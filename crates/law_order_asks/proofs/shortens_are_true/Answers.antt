@@ -1,5 +1,0 @@
-use Rattle.law_order_asks.proofs.Wishes.{shortens_are_true}
-use Rattle.law_order_asks.proofs.shortens_are_true.Goals as goal
-
-pub returns : goal.returns
-returns c = shortens_are_true

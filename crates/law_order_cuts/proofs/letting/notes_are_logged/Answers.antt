@@ -1,5 +1,0 @@
-use Rattle.law_order_cuts.proofs.Reached.{notes_are_logged}
-use Rattle.law_order_cuts.proofs.letting.notes_are_logged.Goals as goal
-
-pub returns : goal.returns
-returns c = notes_are_logged

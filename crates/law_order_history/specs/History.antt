@@ -1,0 +1,10 @@
+pub mod Befores
+pub mod Laws
+pub mod Lines
+pub mod News
+pub mod Passings
+pub mod Reactions
+pub mod Sends
+pub mod Takes
+pub mod Tells
+pub mod Told

@@ -1,5 +1,0 @@
-use Rattle.law_order_runs.proofs.ClosedRuns.{links_are_there}
-use Rattle.law_order_runs.proofs.reaching.links_are_there.Goals as goal
-
-pub returns : goal.returns
-returns c = links_are_there

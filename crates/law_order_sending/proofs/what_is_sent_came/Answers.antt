@@ -1,5 +1,0 @@
-use Rattle.law_order_sending.proofs.Came.{what_is_sent_came}
-use Rattle.law_order_sending.proofs.what_is_sent_came.Goals as goal
-
-pub returns : goal.returns
-returns c = what_is_sent_came

@@ -1,5 +1,0 @@
-use Rattle.law_order_tales.proofs.Begun.{beginning_is_small}
-use Rattle.law_order_tales.proofs.beginning_is_small.Goals as goal
-
-pub returns : goal.returns
-returns c = beginning_is_small

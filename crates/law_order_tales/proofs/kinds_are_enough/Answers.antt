@@ -1,5 +1,0 @@
-use Rattle.law_order_tales.proofs.Entries.{kinds_are_enough}
-use Rattle.law_order_tales.proofs.kinds_are_enough.Goals as goal
-
-pub returns : goal.returns
-returns c = kinds_are_enough

@@ -1,5 +1,0 @@
-use Rattle.law_order_tales.proofs.Resting.{resting_is_small}
-use Rattle.law_order_tales.proofs.resting_is_small.Goals as goal
-
-pub returns : goal.returns
-returns c = resting_is_small

@@ -1,5 +1,0 @@
-use Rattle.law_order_tales.proofs.Silent.{silent_leaving_is_small}
-use Rattle.law_order_tales.proofs.silent_leaving_is_small.Goals as goal
-
-pub returns : goal.returns
-returns c = silent_leaving_is_small

@@ -1,0 +1,10 @@
+pub mod Quiet
+pub mod Utf8
+pub mod Tells
+pub mod LinesTell
+pub mod FewFound
+pub mod WholeTexts
+pub mod EventsRead
+pub mod Stops
+pub mod RunsRead
+pub mod ScriptsRead

@@ -1,0 +1,4 @@
+pub mod ReadScripts
+pub mod ReadTexts
+pub mod ReadUses
+pub mod ReadOrder

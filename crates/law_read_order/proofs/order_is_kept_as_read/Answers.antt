@@ -1,5 +1,0 @@
-use Rattle.law_read_order.proofs.Kept.{kept_as_read}
-use Rattle.law_read_order.proofs.order_is_kept_as_read.Goals as goal
-
-pub returns : goal.returns
-returns c = kept_as_read

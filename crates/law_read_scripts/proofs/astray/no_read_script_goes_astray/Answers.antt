@@ -1,5 +1,0 @@
-use Rattle.law_read_scripts.proofs.NeverAstray.{no_read_script_goes_astray}
-use Rattle.law_read_scripts.proofs.astray.no_read_script_goes_astray.Goals as goal
-
-pub returns : goal.returns
-returns c = no_read_script_goes_astray

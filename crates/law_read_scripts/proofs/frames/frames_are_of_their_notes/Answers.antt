@@ -1,5 +1,0 @@
-use Rattle.law_read_scripts.proofs.FramesOfNotes.{frames_are_notes}
-use Rattle.law_read_scripts.proofs.frames.frames_are_of_their_notes.Goals as goal
-
-pub returns : goal.returns
-returns c = frames_are_notes

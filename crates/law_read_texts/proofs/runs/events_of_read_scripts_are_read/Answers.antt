@@ -1,5 +1,0 @@
-use Rattle.law_read_texts.proofs.ScriptsRead.{events_of_scripts}
-use Rattle.law_read_texts.proofs.runs.events_of_read_scripts_are_read.Goals as goal
-
-pub returns : goal.returns
-returns c = events_of_scripts

@@ -1,5 +1,0 @@
-use Rattle.law_read_texts.proofs.RunsRead.{events_of_runs}
-use Rattle.law_read_texts.proofs.runs.events_of_runs_are_read.Goals as goal
-
-pub returns : goal.returns
-returns c = events_of_runs

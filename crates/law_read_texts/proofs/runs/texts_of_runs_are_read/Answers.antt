@@ -1,5 +1,0 @@
-use Rattle.law_read_texts.proofs.RunsRead.{texts_of_runs}
-use Rattle.law_read_texts.proofs.runs.texts_of_runs_are_read.Goals as goal
-
-pub returns : goal.returns
-returns c = texts_of_runs

@@ -1,5 +1,0 @@
-use Rattle.law_read_texts.proofs.FewFound.{only_vats}
-use Rattle.law_read_texts.proofs.texts.only_vats_are_found.Goals as goal
-
-pub returns : goal.returns
-returns c = only_vats

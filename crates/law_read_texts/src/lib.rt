@@ -1,5 +1,0 @@
-//! The text of each run is read again.
-#![tactic(auto)]
-
-pub mod runs;
-pub mod texts;

@@ -1,5 +1,0 @@
-use Rattle.law_stops.proofs.ShownRuns.{runs_show}
-use Rattle.law_stops.proofs.lines.runs_show_lines_so_far.Goals as goal
-
-pub returns : goal.returns
-returns c = runs_show

@@ -1,5 +1,0 @@
-use Rattle.law_stops.proofs.ShownRuns.{texts_written}
-use Rattle.law_stops.proofs.lines.texts_are_written_so_far.Goals as goal
-
-pub returns : goal.returns
-returns c = texts_written

@@ -1,5 +1,0 @@
-use Rattle.law_stops.proofs.Converse.{stops_of_vats}
-use Rattle.law_stops.proofs.stops.stops_are_of_vats.Goals as goal
-
-pub returns : goal.returns
-returns c = stops_of_vats

@@ -1,5 +1,0 @@
-use Rattle.law_stops.proofs.Entries.{entries_stop_taken}
-use Rattle.law_stops.proofs.stops.stops_are_taken_in_numbers.Goals as goal
-
-pub returns : goal.returns
-returns c = entries_stop_taken

@@ -1,0 +1,13 @@
+pub mod Lines
+pub mod Shown
+pub mod Comes
+pub mod Carried
+pub mod Counted
+pub mod Sources
+pub mod Steps
+pub mod Notes
+pub mod Places
+pub mod Kept
+pub mod Made
+pub mod Runs
+pub mod Texts
