@@ -1,8 +1,9 @@
 //! The node of a form whose items were read.
 
 ghost use Rattle.std.specs.Prelude.{◌≡◌, IfOk, option_map};
+ghost use Rattle.def_kernel.specs.declared.node.Node.TheVariants.{Call as CallNode, Object as ObjectNode, Method as MethodNode};
 ghost use Rattle.def_kernel_form.specs.declared.shape.Head.TheVariants.{Lit, Noun, Set, Def, DefExit, Call, Seq, If, Escape, Try, Finally, Hide, Match, Object, Method, Matcher, Final, Var, Any, List, Via, FinalName, NoName};
-ghost use Rattle.def_kernel_form.specs.Reading.{taken_node, taken_nodes, taken_word, taken_literal, first_node, first_nodes, no_node, node_of};
+ghost use Rattle.def_kernel_form.specs.Reading.{taken_node, taken_nodes, taken_word, taken_literal, first_node, first_nodes, no_node, node_of, numbers};
 
 use crate::steps::{copied, numbers};
 use def_kernel::node::{Literal, Node};
@@ -168,6 +169,19 @@ fn definition_with_exit(items: &[Item]) -> Node
     }
 }
 
+/// The call of a verb with the nodes of these items.
+fn call_of(alloc: Global, receiver: NodeId, verb: &Str, items: &[Item]) -> Result<Node, Memory>
+    ensures { IfOk result (λ node. node ≡ CallNode receiver verb.now (numbers items.now)) }
+{
+    let verb = Word::copy_of(alloc, verb.as_str())?;
+    let args = numbers(alloc, items)?;
+    Ok(Node::Call {
+        receiver,
+        verb,
+        args,
+    })
+}
+
 /// The node of a call.
 fn call(alloc: Global, items: &[Item]) -> Result<Node, Memory>
     ensures { IfOk result (λ node. node ≡ node_of Call items.now) }
@@ -178,13 +192,7 @@ fn call(alloc: Global, items: &[Item]) -> Result<Node, Memory>
     let Some((verb, items)) = take_word(items) else {
         return Ok(no_node());
     };
-    let verb = Word::copy_of(alloc, verb.as_str())?;
-    let args = numbers(alloc, items)?;
-    Ok(Node::Call {
-        receiver,
-        verb,
-        args,
-    })
+    call_of(alloc, receiver, verb, items)
 }
 
 /// The first item, where it is a node.
@@ -283,6 +291,24 @@ fn match_bind(items: &[Item]) -> Node
     Node::MatchBind(value, pattern)
 }
 
+/// The object with these auditors and the members of these items.
+fn object_of(
+    alloc: Global,
+    pattern: NodeId,
+    auditors: &Seq<NodeId>,
+    items: &[Item],
+) -> Result<Node, Memory>
+    ensures { IfOk result (λ node. node ≡ ObjectNode pattern auditors.now (numbers items.now)) }
+{
+    let auditors = copied(alloc, auditors)?;
+    let members = numbers(alloc, items)?;
+    Ok(Node::Object {
+        pattern,
+        auditors,
+        members,
+    })
+}
+
 /// The node of an object.
 fn object(alloc: Global, items: &[Item]) -> Result<Node, Memory>
     ensures { IfOk result (λ node. node ≡ node_of Object items.now) }
@@ -293,12 +319,24 @@ fn object(alloc: Global, items: &[Item]) -> Result<Node, Memory>
     let Some((auditors, items)) = take_nodes(items) else {
         return Ok(no_node());
     };
-    let auditors = copied(alloc, auditors)?;
-    let members = numbers(alloc, items)?;
-    Ok(Node::Object {
-        pattern,
-        auditors,
-        members,
+    object_of(alloc, pattern, auditors, items)
+}
+
+/// The method of a verb with these patterns.
+fn method_of(
+    alloc: Global,
+    verb: &Str,
+    patterns: &Seq<NodeId>,
+    body: NodeId,
+) -> Result<Node, Memory>
+    ensures { IfOk result (λ node. node ≡ MethodNode verb.now patterns.now body) }
+{
+    let verb = Word::copy_of(alloc, verb.as_str())?;
+    let patterns = copied(alloc, patterns)?;
+    Ok(Node::Method {
+        verb,
+        patterns,
+        body,
     })
 }
 
@@ -315,13 +353,7 @@ fn method(alloc: Global, items: &[Item]) -> Result<Node, Memory>
     let Some((body, _)) = take_node(items) else {
         return Ok(no_node());
     };
-    let verb = Word::copy_of(alloc, verb.as_str())?;
-    let patterns = copied(alloc, patterns)?;
-    Ok(Node::Method {
-        verb,
-        patterns,
-        body,
-    })
+    method_of(alloc, verb, patterns, body)
 }
 
 /// The node of a matcher.

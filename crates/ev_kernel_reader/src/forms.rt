@@ -3,6 +3,7 @@
 ghost use Rattle.std.specs.Prelude.{◌≡◌, ◌+◌, length, IfOk};
 ghost use Rattle.def_kernel_form.specs.Reading.{started, step, read};
 ghost use Rattle.ev_kernel_reader.specs.Answers.{Answers, finished_with};
+ghost use Rattle.ev_kernel_reader.specs.Reached.{in_mode};
 
 use crate::machine::Reached;
 use crate::readings::step_in;
@@ -49,6 +50,17 @@ impl From<Memory> for FormFault {
     }
 }
 
+/// The state in which this is to come.
+fn turned(reached: Reached, mode: Mode) -> State
+    ensures { result ≡ in_mode reached mode }
+{
+    State {
+        frames: reached.frames,
+        nodes: Seq::of(reached.nodes),
+        mode,
+    }
+}
+
 /// The state behind a character, where some form goes on with it.
 fn step(alloc: Global, c: char, state: State) -> Result<Option<State>, Memory>
     ensures { IfOk result (λ next. next ≡ step c state) }
@@ -58,7 +70,14 @@ fn step(alloc: Global, c: char, state: State) -> Result<Option<State>, Memory>
         nodes,
         mode,
     } = state;
-    step_in(alloc, mode, c, Reached { frames, nodes })
+    let mut reached = Reached {
+        frames,
+        nodes: nodes.into_vec(),
+    };
+    match step_in(alloc, mode, c, &mut reached)? {
+        None => Ok(None),
+        Some(mode) => Ok(Some(turned(reached, mode))),
+    }
 }
 
 /// The state before the first character.

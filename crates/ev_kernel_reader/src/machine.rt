@@ -2,7 +2,7 @@
 
 ghost use Rattle.std.specs.Prelude.{◌≡◌, slice_set, IfOk};
 ghost use Rattle.def_kernel_form.specs.Reading.{begin, close_in, close_frame, close, step_behind, item_ends, is_digit, literal_begins, item_begins, open_wanted, begin_wanted, step_before, ends_word, begin_head, step_heading, step_exiting, step_bare};
-ghost use Rattle.ev_kernel_reader.specs.Reached.{reached_by, stood};
+ghost use Rattle.ev_kernel_reader.specs.Reached.{in_mode, stood, then_in};
 
 use crate::build::{no_node, node_of};
 use crate::steps::{
@@ -11,9 +11,9 @@ use crate::steps::{
 };
 use crate::table::head_of;
 use def_kernel::node::{Literal, Node};
-use def_kernel_form::reader::{Frame, Frames, Item, Mode, State};
+use def_kernel_form::reader::{Frame, Frames, Item, Mode};
 use def_kernel_form::shape::{Head, Kind, Want};
-use ev_base::{Memory, NodeId, Seq, Str};
+use ev_base::{Memory, NodeId, Seq};
 use ev_text::is_identifier;
 use std::alloc::Global;
 
@@ -21,156 +21,114 @@ use std::alloc::Global;
 #[derive(Drop)]
 pub(crate) struct Reached {
     pub frames: Frames,
-    pub nodes: Seq<Node>,
+    pub nodes: Vec<Node>,
 }
 
 /// A tree or a group begins.
-pub(crate) fn begin(alloc: Global, head: Head, reached: Reached) -> Result<State, Memory>
-    ensures { IfOk result (λ next. next ≡ begin head (stood reached)) }
+pub(crate) fn begin(alloc: Global, head: Head, reached: &mut Reached) -> Result<Mode, Memory>
+    ensures { IfOk result (λ mode. in_mode reached.new mode ≡ begin head (stood reached.old)) }
 {
-    let Reached {
-        mut frames,
-        mut nodes,
-    } = reached;
     match head {
         Head::Group(kind) => {
-            frames.push(Frame {
+            reached.frames.push(Frame {
                 number: 0,
                 head: Head::Group(kind),
                 items: Seq::new(alloc),
             })?;
-            Ok(State {
-                frames,
-                nodes,
-                mode: Mode::Grouping,
-            })
+            Ok(Mode::Grouping)
         }
         _ => {
-            let number = nodes.len() as u64;
-            frames.push(Frame {
+            let number = reached.nodes.len() as u64;
+            reached.frames.push(Frame {
                 number,
                 head,
                 items: Seq::new(alloc),
             })?;
-            nodes.push(no_node())?;
-            Ok(State {
-                frames,
-                nodes,
-                mode: Mode::Behind,
-            })
+            reached.nodes.push(no_node())?;
+            Ok(Mode::Behind)
         }
     }
 }
 
 /// The closed form is an item of the form round it.
-fn close_in(mut frames: Frames, item: Item, nodes: Seq<Node>) -> Result<Option<State>, Memory>
-    ensures { IfOk result (λ next. next ≡ close_in frames item nodes) }
+fn close_in(item: Item, reached: &mut Reached) -> Result<Option<Mode>, Memory>
+    ensures { IfOk result (λ mode. then_in reached.new mode ≡ close_in reached.old.frames item reached.old.nodes.items) }
 {
-    if frames.top().is_none() {
-        return Ok(Some(State {
-            frames,
-            nodes,
-            mode: Mode::Whole,
-        }));
+    if reached.frames.top().is_none() {
+        return Ok(Some(Mode::Whole));
     }
-    add_item(item, &mut frames)?;
-    Ok(Some(State {
-        frames,
-        nodes,
-        mode: Mode::Behind,
-    }))
+    add_item(item, &mut reached.frames)?;
+    Ok(Some(Mode::Behind))
 }
 
-/// The nodes with another one at a place.
-fn with_node(nodes: Seq<Node>, number: u64, node: Node) -> Seq<Node>
-    ensures { result ≡ slice_set nodes number node }
+/// Another node stands at a place.
+fn set_node(nodes: &mut Vec<Node>, number: u64, node: Node)
+    ensures { nodes.new.items ≡ slice_set nodes.old.items number node }
 {
-    let mut nodes = nodes.into_vec();
     let index = number as usize;
     if index < nodes.len() {
         nodes[index] = node;
     }
-    Seq::of(nodes)
 }
 
 /// The form is closed.
-fn close_frame(
-    alloc: Global,
-    frame: Frame,
-    frames: Frames,
-    nodes: Seq<Node>,
-) -> Result<Option<State>, Memory>
-    ensures { IfOk result (λ next. next ≡ close_frame frame.head frame.number frame.items frames nodes) }
+fn close_frame(alloc: Global, frame: Frame, reached: &mut Reached) -> Result<Option<Mode>, Memory>
+    ensures { IfOk result (λ mode. then_in reached.new mode ≡ close_frame frame.head frame.number frame.items reached.old.frames reached.old.nodes.items) }
 {
     match frame.head {
         Head::Group(_) => {
             let ids = numbers(alloc, frame.items.as_slice())?;
-            close_in(frames, Item::Nodes(ids), nodes)
+            close_in(Item::Nodes(ids), reached)
         }
         _ => {
             let node = node_of(alloc, frame.head, frame.items.as_slice())?;
-            close_in(
-                frames,
-                Item::Node(NodeId(frame.number)),
-                with_node(nodes, frame.number, node),
-            )
+            set_node(&mut reached.nodes, frame.number, node);
+            close_in(Item::Node(NodeId(frame.number)), reached)
         }
     }
 }
 
 /// The innermost form is closed, where it may end.
-pub(crate) fn close(alloc: Global, reached: Reached) -> Result<Option<State>, Memory>
-    ensures { IfOk result (λ next. next ≡ close (stood reached)) }
+pub(crate) fn close(alloc: Global, reached: &mut Reached) -> Result<Option<Mode>, Memory>
+    ensures { IfOk result (λ mode. then_in reached.new mode ≡ close (stood reached.old)) }
 {
     if !innermost_ends(&reached.frames) {
         return Ok(None);
     }
-    let Reached { mut frames, nodes } = reached;
-    match frames.pop() {
+    match reached.frames.pop() {
         None => Ok(None),
-        Some(frame) => close_frame(alloc, frame, frames, nodes),
-    }
-}
-
-/// The state in a mode.
-pub(crate) fn turned(reached: Reached, mode: Mode) -> State
-    ensures { result ≡ record (stood reached) { mode = mode } }
-{
-    State {
-        frames: reached.frames,
-        nodes: reached.nodes,
-        mode,
-    }
-}
-
-/// What was reached, whatever is to come.
-fn reached_by(state: State) -> Reached
-    ensures { result ≡ reached_by state }
-{
-    Reached {
-        frames: state.frames,
-        nodes: state.nodes,
+        Some(frame) => close_frame(alloc, frame, reached),
     }
 }
 
 /// Behind an item.
-pub(crate) fn step_behind(alloc: Global, c: char, reached: Reached) -> Result<Option<State>, Memory>
-    ensures { IfOk result (λ next. next ≡ step_behind c (stood reached)) }
+pub(crate) fn step_behind(
+    alloc: Global,
+    c: char,
+    reached: &mut Reached,
+) -> Result<Option<Mode>, Memory>
+    ensures { IfOk result (λ mode. then_in reached.new mode ≡ step_behind c (stood reached.old)) }
 {
     if c == ')' {
         close(alloc, reached)
     } else if c == ' ' && (next_wanted(&reached.frames).is_some() || may_exit(&reached.frames)) {
-        Ok(Some(turned(reached, Mode::Before)))
+        Ok(Some(Mode::Before))
     } else {
         Ok(None)
     }
 }
 
-/// Behind the word of a form that was begun.
-pub(crate) fn step_begun(alloc: Global, c: char, begun: State) -> Result<Option<State>, Memory>
-    ensures { IfOk result (λ next. next ≡ step_behind c begun) }
+/// A form begins, and its word ends before the character.
+pub(crate) fn step_begun(
+    alloc: Global,
+    head: Head,
+    c: char,
+    reached: &mut Reached,
+) -> Result<Option<Mode>, Memory>
+    ensures { IfOk result (λ mode. then_in reached.new mode ≡ step_behind c (begin head (stood reached.old))) }
 {
-    step_behind(alloc, c, reached_by(begun))
+    let _begun = begin(alloc, head, reached)?;
+    step_behind(alloc, c, reached)
 }
 
 /// The item ends before the character.
@@ -178,9 +136,9 @@ pub(crate) fn item_ends(
     alloc: Global,
     item: Item,
     c: char,
-    mut reached: Reached,
-) -> Result<Option<State>, Memory>
-    ensures { IfOk result (λ next. next ≡ item_ends item c (stood reached)) }
+    reached: &mut Reached,
+) -> Result<Option<Mode>, Memory>
+    ensures { IfOk result (λ mode. then_in reached.new mode ≡ item_ends item c (stood reached.old)) }
 {
     add_item(item, &mut reached.frames)?;
     step_behind(alloc, c, reached)

@@ -1,6 +1,6 @@
 -- What calls give back is decided by what is kept of those that are open.
 use Rattle.std.proofs.Common.{◌≡◌, ℕ, Bool, true, false, List, [], ◌∷◌, Option, Some, None, slice_get, refl, sym, ap, subst, ◌∙◌, inl, inr}
-use Rattle.std.specs.Prelude.{◌↔◌, codes, not, unwrap_or}
+use Rattle.std.specs.Prelude.{◌↔◌, codes, if◌then◌else◌, unwrap_or}
 use Rattle.std.specs.Str.{bytes_eq}
 use Rattle.std.proofs.lemmas.Slice.Eq.{bytes_eq-Decides}
 use Rattle.ev_base.specs.declared.names.Name.{Name}
@@ -13,7 +13,7 @@ use Rattle.ev_uses_calls.specs.declared.stack.OpenedCall.{OpenedCall}
 use Rattle.ev_known.specs.Knowing.{Known, KnownStand, LeadsToAudition}
 use Rattle.ev_uses_calls.specs.Using.{IsOfKnown}
 use Rattle.ev_uses_calls.specs.Kept.{KeptStand}
-use Rattle.ev_uses_calls.specs.Calls.{AreKeptOf, CallsStand, GivesBackValue, Stacks}
+use Rattle.ev_uses_calls.specs.Calls.{AreKeptOf, CallsStand, GivesBackValue, Stacks, asked_name}
 
 pub none_inside : (past : List Line) (at a : ℕ) (n : Name) (cs : List OpenCall) (xs : List OpenedCall) (b : Bool) → AreKeptOf at cs xs → slice_get xs 0 ≡ None
     → (b ≡ true) ↔ KnowsName past at a n → (b ≡ true) ↔ GivesBack past at a n cs
@@ -70,22 +70,29 @@ no_name_back past at a x none = (λ e. λ n g. absurd (let bad : None ≡ Some n
 
 -- ---- a call that asks for a guard
 
-not_false : (b : Bool) → false ≡ not b → b ≡ true
-not_false true h = refl
-not_false false h = absurd cc
+name_asked : (b : Bool) (x : Shown) (n : Name) → (if b then name_of x else None) ≡ Some n → (b ≡ true) × (name_of x ≡ Some n)
+name_asked true x n e = (refl, e)
+name_asked false x n e = absurd cc
 
-pub asks : (past : List Line) (at : ℕ) (c : Called) (verb : List ℕ) (n : Name) (b : Bool) → verb ≡ c.verb → false ≡ not (bytes_eq verb (codes "getGuard")) → c.target ≡ Named n
-    → (b ≡ true) ↔ LeadsToAudition past at n → (b ≡ true) ↔ AsksAudition at (record { call = c; before = past })
-asks past at c verb n b is word target h =
-    let verb_is : c.verb ≡ codes "getGuard" = sym is ∙ (bytes_eq-Decides verb (codes "getGuard")).0 (not_false (bytes_eq verb (codes "getGuard")) word) in
-    let name : name_of c.target ≡ Some n = named c.target n target in (
+nobody_asked : (b : Bool) (x : Shown) (n : Name) → (if b then name_of x else None) ≡ None → b ≡ true → name_of x ≡ Some n → ⊥
+nobody_asked true x n e t some = let bad : None ≡ Some n = sym e ∙ some in cc
+nobody_asked false x n e t some = absurd cc
+
+pub asks : (past : List Line) (at : ℕ) (c : Called) (n : Name) (b : Bool) → asked_name c ≡ Some n → (b ≡ true) ↔ LeadsToAudition past at n
+    → (b ≡ true) ↔ AsksAudition at (record { call = c; before = past })
+asks past at c n b is h =
+    let asked = name_asked (bytes_eq c.verb (codes "getGuard")) c.target n is in
+    let verb_is : c.verb ≡ codes "getGuard" = (bytes_eq-Decides c.verb (codes "getGuard")).0 asked.0 in
+    let name : name_of c.target ≡ Some n = asked.1 in (
       λ e. let leads = h.0 e in (verb_is, n, leads.0, name, leads.1, leads.2),
       λ g. h.1 (g.2, subst (λ (m : Name). IsFollowed past at m g.2) (same_name g.1 n (sym g.3 ∙ name)) g.4, g.5),
     )
 
-pub asks_nobody : (past : List Line) (at : ℕ) (c : Called) → ((n : Name) → c.target ≡ Named n → ⊥) → (false ≡ true) ↔ AsksAudition at (record { call = c; before = past })
-asks_nobody past at c no_name =
-    (λ e. absurd (let bad : false ≡ true = e in cc), λ g. absurd (let bad : None ≡ Some g.1 = sym (not_named c.target no_name) ∙ g.3 in cc))
+pub asks_nobody : (past : List Line) (at : ℕ) (c : Called) → asked_name c ≡ None → (false ≡ true) ↔ AsksAudition at (record { call = c; before = past })
+asks_nobody past at c none = (
+  λ e. absurd (let bad : false ≡ true = e in cc),
+  λ g. absurd (nobody_asked (bytes_eq c.verb (codes "getGuard")) c.target g.1 none ((bytes_eq-Decides c.verb (codes "getGuard")).1 g.0) g.3),
+)
 
 -- ---- a line
 
@@ -123,5 +130,5 @@ first_point past l p = p.0
 
 -- ---- all that is kept
 
-pub both_stand : (known : Known) (calls : Stacks) (past : List Line) → KnownStand known past → CallsStand calls past → KeptStand (record { knowledge = known; calls = calls }) past
+pub both_stand : (known : Known) (calls : Stacks) (past : List Line) → KnownStand known past → CallsStand calls past → KeptStand known calls past
 both_stand known calls past k c = record { knowledge = k; calls = c }

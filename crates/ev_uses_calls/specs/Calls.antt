@@ -1,5 +1,6 @@
 -- The open calls of activations, in the terms of a table.
-use Rattle.std.specs.Prelude.{◌≡◌, ◌↔◌, ℕ, true, cond, drop, List, [], ◌∷◌, Some, unwrap_or}
+use Rattle.std.specs.Prelude.{◌≡◌, ◌↔◌, ℕ, true, codes, cond, drop, if◌then◌else◌, List, [], ◌∷◌, Option, Some, None, unwrap_or}
+use Rattle.std.specs.Str.{bytes_eq}
 use Rattle.std.specs.Map.{lookup}
 use Rattle.ev_base.specs.declared.names.Name.{Name}
 use Rattle.def_event.specs.declared.shown.Shown.{Shown}
@@ -23,6 +24,10 @@ stack rows a = unwrap_or (lookup (eq-value.it a) rows) []
 -- the activation has these open calls, and all others have what they had
 abbrev pub HasStack : Activation → List OpenedCall → Stacks → Stacks → Type 0
 HasStack a calls old new = (q : Activation) → stack new q ≡ cond (eq-value.it a q) calls (stack old q)
+
+-- the name that a call asks for a guard
+abbrev pub asked_name : Called → Option Name
+asked_name c = if bytes_eq c.verb (codes "getGuard") then name_of c.target else None
 
 -- what is kept of a call at a place
 abbrev pub IsKeptOf : ℕ → OpenCall → OpenedCall → Type 0

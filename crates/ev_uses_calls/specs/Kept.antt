@@ -4,11 +4,7 @@ use Rattle.def_trace.specs.Uses.{Line}
 use Rattle.ev_known.specs.Knowing.{Known, KnownStand}
 use Rattle.ev_uses_calls.specs.Calls.{CallsStand, Stacks}
 
-pub record KeptTables : Type 0 where
-  pub knowledge : Known
-  pub calls : Stacks
-
 -- it stands for these lines
-pub record KeptStand (k : KeptTables) (past : List Line) : Type 0 where
-  pub knowledge : KnownStand k.knowledge past
-  pub calls : CallsStand k.calls past
+pub record KeptStand (known : Known) (stacks : Stacks) (past : List Line) : Type 0 where
+  pub knowledge : KnownStand known past
+  pub calls : CallsStand stacks past

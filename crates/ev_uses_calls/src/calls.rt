@@ -3,11 +3,11 @@
 ghost use Rattle.std.specs.Prelude.{◌≡◌, ◌∷◌, [], ◌↔◌, drop, slice_get, List, IfOk, IsTrue, OnOk};
 ghost use Rattle.def_trace.specs.Uses.{AsksAudition, Line};
 ghost use Rattle.ev_known.specs.Knowing.{KnownStand};
-ghost use Rattle.ev_uses_calls.specs.Calls.{CallsAfter, CallsStand, Closes, HasStack, Opens, stack};
+ghost use Rattle.ev_uses_calls.specs.Calls.{CallsAfter, CallsStand, Closes, HasStack, Opens, asked_name, stack};
 
 use crate::stack::{OpenedCall, Stack};
 use def_event::{Called, Event, Shown};
-use ev_base::Memory;
+use ev_base::{Memory, Name};
 use ev_known::{Activation, Knowledge};
 use indexmap::IndexMap;
 use std::alloc::Global;
@@ -95,6 +95,20 @@ fn innermost_in(stacks: &IndexMap<Activation, Stack>, activation: Activation) ->
     }
 }
 
+/// The name that a call asks for a guard, if it asks one.
+#[tactic(auto, unfolding(def_trace::specs::Uses::name_of))]
+fn asked_name(called: &Called) -> Option<Name>
+    ensures { result ≡ asked_name called.now }
+{
+    if called.verb.as_str() != "getGuard" {
+        return None;
+    }
+    match &called.target {
+        Shown::Name(name) => Some(*name),
+        _ => None,
+    }
+}
+
 /// Whether a call at a place asks for a guard what leads to an audition.
 fn asks_audition(
     knowledge: &Knowledge,
@@ -104,12 +118,9 @@ fn asks_audition(
 ) -> Result<bool, Memory>
     ensures { (past : List Line) → KnownStand knowledge.now past → IfOk result (λ asks. IsTrue asks ↔ AsksAudition at (record { call = called.now; before = past })) }
 {
-    if called.verb.as_str() != "getGuard" {
-        return Ok(false);
-    }
-    match &called.target {
-        Shown::Name(name) => knowledge.leads_to_audition(alloc, at, name),
-        _ => Ok(false),
+    match asked_name(called) {
+        Some(name) => knowledge.leads_to_audition(alloc, at, &name),
+        None => Ok(false),
     }
 }
 

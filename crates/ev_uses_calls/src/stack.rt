@@ -7,7 +7,7 @@ use std::alloc::Global;
 use std::marker::Model;
 
 /// A call that has not ended.
-#[derive(Clone, Copy, PartialEq, Eq)]
+#[derive(Clone, Copy)]
 pub struct OpenedCall {
     /// The activation that it began, by its number at the place of the call.
     pub begun: Option<u64>,

@@ -5,11 +5,12 @@ ghost use Rattle.def_trace.specs.Uses.{Line, UsesKnown, is_guarding, made_by, na
 ghost use Rattle.ev_known.specs.Knowing.{KnownStand};
 ghost use Rattle.ev_uses_calls.specs.Using.{DecidesAll, label_of};
 
-use def_event::{Called, Event, MadeObject, Shown};
+use def_event::{Called, Event, Shown};
 use ev_base::{Memory, Name};
 use ev_known::{Activation, Knowledge};
 use ev_links::{Label, name_label};
 use std::alloc::Global;
+use std::slice::from_ref;
 
 /// Whether a label is that of what a line makes.
 fn is_made(made: Option<Label>, label: Label) -> bool
@@ -72,54 +73,21 @@ fn are_known(
     Ok(true)
 }
 
-/// Whether what a value and others name is known or made.
+/// Whether what two lots of values name is known or made.
 fn are_all_known(
     knowledge: &mut Knowledge,
     alloc: Global,
     activation: Activation,
     made: Option<Label>,
-    value: &Shown,
-    values: &[Shown],
+    first: &[Shown],
+    others: &[Shown],
 ) -> Result<bool, Memory>
-    ensures { IfOk result (λ known. DecidesAll knowledge.old knowledge.new activation made (names_of value.now ++ names values.now) known) }
+    ensures { IfOk result (λ known. DecidesAll knowledge.old knowledge.new activation made (names first.now ++ names others.now) known) }
 {
-    if !is_known(knowledge, alloc, activation, made, value)? {
+    if !are_known(knowledge, alloc, activation, made, first)? {
         return Ok(false);
     }
-    are_known(knowledge, alloc, activation, made, values)
-}
-
-/// Whether what an object captured, and its auditors, are known or made.
-fn are_parts_known(
-    knowledge: &mut Knowledge,
-    alloc: Global,
-    activation: Activation,
-    made: Option<Label>,
-    object: &MadeObject,
-) -> Result<bool, Memory>
-    ensures { IfOk result (λ known. DecidesAll knowledge.old knowledge.new activation made (names object.now.caps ++ names object.now.stamps) known) }
-{
-    if !are_known(knowledge, alloc, activation, made, object.caps.as_slice())? {
-        return Ok(false);
-    }
-    are_known(knowledge, alloc, activation, made, object.stamps.as_slice())
-}
-
-/// Whether what two values name is known or made.
-fn are_both_known(
-    knowledge: &mut Knowledge,
-    alloc: Global,
-    activation: Activation,
-    made: Option<Label>,
-    first: &Shown,
-    second: &Shown,
-) -> Result<bool, Memory>
-    ensures { IfOk result (λ known. DecidesAll knowledge.old knowledge.new activation made (names_of first.now ++ names_of second.now) known) }
-{
-    if !is_known(knowledge, alloc, activation, made, first)? {
-        return Ok(false);
-    }
-    is_known(knowledge, alloc, activation, made, second)
+    are_known(knowledge, alloc, activation, made, others)
 }
 
 /// Whether the receiver of a call does not count.
@@ -131,27 +99,14 @@ fn is_guarding(called: &Called) -> bool
     (verb == "coerce" && count == 2) || (verb == "audit" && count == 1)
 }
 
-/// Whether what a call uses is known.
-fn is_call_known(
-    knowledge: &mut Knowledge,
-    alloc: Global,
-    activation: Activation,
-    made: Option<Label>,
-    called: &Called,
-) -> Result<bool, Memory>
-    ensures { IfOk result (λ known. DecidesAll knowledge.old knowledge.new activation made (receivers called.now ++ names called.now.args) known) }
+/// The receiver of a call, where it counts.
+fn receivers(called: &Called) -> &[Shown]
+    ensures { names result.now ≡ receivers called.now }
 {
     if is_guarding(called) {
-        return are_known(knowledge, alloc, activation, made, called.args.as_slice());
+        return &[];
     }
-    are_all_known(
-        knowledge,
-        alloc,
-        activation,
-        made,
-        &called.target,
-        called.args.as_slice(),
-    )
+    from_ref(&called.target)
 }
 
 /// The name that a value is.
@@ -196,38 +151,36 @@ fn user(event: &Event) -> u64
     }
 }
 
-/// Whether what a line uses is known to an activation, or made.
-#[tactic(auto, using(crate::proofs::Deciding::decides_none), unfolding(def_trace::specs::Uses::names_used))]
-fn is_event_known(
-    knowledge: &mut Knowledge,
-    alloc: Global,
-    by: Activation,
-    made: Option<Label>,
-    event: &Event,
-) -> Result<bool, Memory>
-    ensures { IfOk result (λ known. DecidesAll knowledge.old knowledge.new by made (names_used event.now) known) }
+/// The values that a line uses, in two lots.
+#[tactic(auto, unfolding(def_trace::specs::Uses::names_used))]
+fn values_used(event: &Event) -> (&[Shown], &[Shown])
+    ensures { names result.0.now ++ names result.1.now ≡ names_used event.now }
 {
     match event {
-        Event::Call(called) => is_call_known(knowledge, alloc, by, made, called.get()),
-        Event::List(_, _, members) => are_known(knowledge, alloc, by, made, members.as_slice()),
-        Event::Made(object) => are_parts_known(knowledge, alloc, by, made, object.get()),
+        Event::Call(called) => {
+            let called = called.get();
+            (receivers(called), called.args.as_slice())
+        }
+        Event::List(_, _, members) => (&[], members.as_slice()),
+        Event::Made(object) => {
+            let object = object.get();
+            (object.caps.as_slice(), object.stamps.as_slice())
+        }
         Event::Send(sent) => {
             let sent = sent.get();
-            let args = sent.args.as_slice();
-            are_all_known(knowledge, alloc, by, made, &sent.target, args)
+            (from_ref(&sent.target), sent.args.as_slice())
         }
         Event::SendOnly(sent) => {
             let sent = sent.get();
-            let args = sent.args.as_slice();
-            are_all_known(knowledge, alloc, by, made, &sent.target, args)
+            (from_ref(&sent.target), sent.args.as_slice())
         }
         Event::When(when) => {
             let when = when.get();
-            are_both_known(knowledge, alloc, by, made, &when.value, &when.reaction)
+            (from_ref(&when.value), from_ref(&when.reaction))
         }
-        Event::Wrote(_, _, value) => is_known(knowledge, alloc, by, made, value),
-        Event::Done(_, value) => is_known(knowledge, alloc, by, made, value),
-        _ => Ok(true),
+        Event::Wrote(_, _, value) => (&[], from_ref(value)),
+        Event::Done(_, value) => (&[], from_ref(value)),
+        _ => (&[], &[]),
     }
 }
 
@@ -242,5 +195,6 @@ pub fn uses_known(
 {
     let number = user(event);
     let by = Activation { at, number };
-    is_event_known(knowledge, alloc, by, made_label(event), event)
+    let (first, others) = values_used(event);
+    are_all_known(knowledge, alloc, by, made_label(event), first, others)
 }

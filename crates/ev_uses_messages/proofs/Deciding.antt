@@ -26,6 +26,10 @@ pub nothing_carried : (past : List Line) (d : Option (Msg × List Thing)) → me
 nothing_carried past None e = (λ h. tt, λ h. refl)
 nothing_carried past (Some x) e = absurd cc
 
+pub carried_with : (d : Option (Msg × List Thing)) (m : Msg) → message_of d ≡ Some m → Some (m, things_with d) ≡ d
+carried_with None m is = absurd cc
+carried_with (Some x) m is = let same : x.0 ≡ m = cc in ap (λ (n : Msg). Some (n, x.1)) (sym same)
+
 carried_decided : (rows : List (Label × List Link)) (past : List Line) (d : Option (Msg × List Thing)) (m : Msg) (ts : List Thing) (carried old known : List Label) (b : Bool)
     → OnwardStand rows past → message_of d ≡ Some m → AddsThings (things_with d) [] carried → AddsThings ts [] old → ts ≡ line_before past m → AreReached rows All old known
     → b ≡ has_sought NoGifts known carried → (b ≡ true) ↔ CarriesThese past d
@@ -62,18 +66,6 @@ pub carried_sought : (rows : List (Label × List Link)) (past : List Line) (d : 
     → (b ≡ true) ↔ CarriesThese past d
 carried_sought rows past d m ts carried old known true o is c a before r = (λ _. carried_found rows past d m ts carried old known o is c a before r, λ _. refl)
 carried_sought rows past d m ts carried old known false o is c a before r = carried_decided rows past d m ts carried old known false o is c a before (r.all refl) r.answer
-
--- all that is carried stands in the line before
-pub carried_there : (past : List Line) (d : Option (Msg × List Thing)) (m : Msg) (ts : List Thing) (carried old : List Label) → message_of d ≡ Some m → AddsThings (things_with d) [] carried
-    → AddsThings ts [] old → ts ≡ line_before past m → has_sought NoGifts old carried ≡ true → (true ≡ true) ↔ CarriesThese past d
-carried_there past None m ts carried old is c a before h = absurd cc
-carried_there past (Some x) m ts carried old is c a before h =
-    let same : x.0 ≡ m = cc in
-    let had : List Thing = line_before past x.0 in
-    let started : AreLabels old (λ t. IsAmong t had)
-    = added_labels had old (subst (λ (us : List Thing). AddsThings us [] old) (before ∙ ap (line_before past) (sym same)) a) in
-    let both = no_gifts old carried (λ t. IsAmong t had) (λ t. IsAmong t x.1) started (added_labels x.1 carried c) in
-    (λ _. λ n i. elim (both.0 h n i) [ inl g ↦ inl g | inr b ↦ inr (uses.start b) ], λ _. refl)
 
 -- ---- what is taken
 

@@ -61,12 +61,10 @@ pub fn held_message(event: &Event) -> Option<Msg>
 }
 
 /// Adds a name.
-#[tactic(auto, using(crate::proofs::Adding::one_added))]
 fn add_name(labels: &mut Labels, name: &Name) -> Result<(), Memory>
     ensures { OnOk result (AddsThings (AName name.now ∷ []) labels.old labels.new) }
 {
-    labels.add(name_label(name))?;
-    Ok(())
+    labels.add(name_label(name))
 }
 
 /// Adds what the arguments of a delivered message have.
@@ -91,8 +89,7 @@ fn add_addressed(
     ensures { OnOk result (AddsThings (AName target.now ∷ all_parts values.now) labels.old labels.new) }
 {
     add_name(labels, target)?;
-    add_values(alloc, labels, values)?;
-    Ok(())
+    add_values(alloc, labels, values)
 }
 
 /// Adds what a delivered message has: its target, and what its arguments have.
@@ -145,8 +142,7 @@ fn add_on(
     ensures { OnOk result (AddsThings (parts target.now ++ all_parts values.now) labels.old labels.new) }
 {
     add_value(alloc, labels, target)?;
-    add_values(alloc, labels, values)?;
-    Ok(())
+    add_values(alloc, labels, values)
 }
 
 /// Adds what a send has: its target, its arguments and its answer.
@@ -154,8 +150,7 @@ fn add_send(alloc: Global, labels: &mut Labels, sent: &Sent) -> Result<(), Memor
     ensures { OnOk result (AddsThings (parts sent.now.target ++ all_parts sent.now.args ++ AName sent.now.answer ∷ []) labels.old labels.new) }
 {
     add_on(alloc, labels, &sent.target, sent.args.as_slice())?;
-    add_name(labels, &sent.answer)?;
-    Ok(())
+    add_name(labels, &sent.answer)
 }
 
 /// Adds all that a line has of its message, where it carries it, or sends it on a target.

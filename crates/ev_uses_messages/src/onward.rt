@@ -12,12 +12,10 @@ use ev_links::{Label, Link, Links, Way, list_label, name_label};
 use std::alloc::Global;
 
 /// A thing leads to another.
-#[tactic(auto, using(crate::proofs::Leading::one_led))]
 fn lead_to(links: &mut Links, alloc: Global, from: Label, way: Way, to: Label) -> Result<(), Memory>
     ensures { OnOk result (LeadsTo from way (to ∷ []) links.old links.new) }
 {
-    links.add(alloc, from, Link { way, other: to })?;
-    Ok(())
+    links.add(alloc, from, Link { way, other: to })
 }
 
 /// A thing leads to what a value is.
@@ -60,33 +58,27 @@ fn tell_event(links: &mut Links, alloc: Global, at: u64, event: &Event) -> Resul
 {
     match event {
         Event::Settle(name, value) => {
-            lead_to_value(links, alloc, name_label(name), Way::Settled(at), value)?;
-            Ok(())
+            lead_to_value(links, alloc, name_label(name), Way::Settled(at), value)
         }
         Event::View(name, view) => {
             let to = name_label(view);
-            lead_to(links, alloc, name_label(name), Way::Settled(at), to)?;
-            Ok(())
+            lead_to(links, alloc, name_label(name), Way::Settled(at), to)
         }
         Event::List(_, list, members) => {
             let from = list_label(&list.0, list.1);
-            lead_to_members(links, alloc, from, members.as_slice())?;
-            Ok(())
+            lead_to_members(links, alloc, from, members.as_slice())
         }
         Event::Arrived(list, members) => {
             let from = list_label(&list.0, list.1);
-            lead_to_members(links, alloc, from, members.as_slice())?;
-            Ok(())
+            lead_to_members(links, alloc, from, members.as_slice())
         }
         _ => Ok(()),
     }
 }
 
 /// Adds what a line at a place says of what leads to what. Links that stand for the lines before it stand for these and the line.
-#[tactic(auto, using(crate::proofs::Leading::line_leads))]
 pub fn tell_onward(links: &mut Links, alloc: Global, at: u64, event: &Event) -> Result<(), Memory>
     ensures { (past : List Line) → OnwardStand links.old past → OnOk result (OnwardStand links.new (record { at = at; event = event.now } ∷ past)) }
 {
-    tell_event(links, alloc, at, event)?;
-    Ok(())
+    tell_event(links, alloc, at, event)
 }

@@ -72,6 +72,5 @@ pub fn add_value(alloc: Global, labels: &mut Labels, value: &Shown) -> Result<()
     let Some(members) = begin_value(labels, value)? else {
         return Ok(());
     };
-    add_values(alloc, labels, members)?;
-    Ok(())
+    add_values(alloc, labels, members)
 }

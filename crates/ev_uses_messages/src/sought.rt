@@ -6,7 +6,7 @@ ghost use Rattle.ev_uses_messages.specs.Sought.{has_sought, is_sought};
 use ev_links::{Kind, Label, Labels};
 
 /// What is sought. A list never is.
-#[derive(Clone, Copy, PartialEq, Eq)]
+#[derive(Clone, Copy)]
 pub enum Sought {
     /// Each name.
     Names,

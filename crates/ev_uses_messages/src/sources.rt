@@ -1,6 +1,6 @@
 //! What a whole history carries last, and sends first, with each message.
 
-ghost use Rattle.std.specs.Prelude.{◌≡◌, IfOk, OnOk};
+ghost use Rattle.std.specs.Prelude.{◌≡◌, [], IfOk, OnOk};
 ghost use Rattle.def_trace.specs.Uses.{arguments_in};
 ghost use Rattle.ev_uses_messages.specs.Finding.{SourcesStand, things_at};
 ghost use Rattle.ev_uses_messages.specs.Lines.{AddsThings, carries, sends};
@@ -28,16 +28,24 @@ impl Model for Sources {
     ghost view = { λ s. record { carried = s.carried; sent = s.sent } };
 }
 
+/// Puts the places of the lines of a whole history into tables that have none.
+fn put_lines(carried: &mut Places, sent: &mut Places, events: &[Event]) -> Result<(), Memory>
+    ensures { carried.old ≡ [] → sent.old ≡ [] → OnOk result (SourcesStand events.now (record { carried = carried.new; sent = sent.new }) events.now) }
+{
+    for (index, event) in events.iter().enumerate() {
+        carried.put(carried_message(event), index)?;
+        sent.note(sent_message(event), index)?;
+    }
+    Ok(())
+}
+
 /// The places in a whole history, which is gone through once.
 pub fn sources_of(alloc: Global, events: &[Event]) -> Result<Sources, Memory>
     ensures { IfOk result (λ sources. SourcesStand events.now sources events.now) }
 {
     let mut carried = Places::new(alloc);
     let mut sent = Places::new(alloc);
-    for (index, event) in events.iter().enumerate() {
-        carried.put(carried_message(event), index)?;
-        sent.note(sent_message(event), index)?;
-    }
+    put_lines(&mut carried, &mut sent, events)?;
     Ok(Sources { carried, sent })
 }
 
@@ -85,14 +93,12 @@ fn add_found(
     ensures { SourcesStand events.now (record { carried = carried.now; sent = sent.now }) events.now → OnOk result (AddsThings (arguments_in events.now message.now) labels.old labels.new) }
 {
     if let Some(place) = carried.find(message) {
-        add_carried_at(alloc, labels, events, place)?;
-        return Ok(());
+        return add_carried_at(alloc, labels, events, place);
     }
     let Some(place) = sent.find(message) else {
         return Ok(());
     };
-    add_sent_at(alloc, labels, events, place)?;
-    Ok(())
+    add_sent_at(alloc, labels, events, place)
 }
 
 impl Sources {

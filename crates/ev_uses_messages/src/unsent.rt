@@ -1,7 +1,7 @@
 //! The first line that carries what was not there before.
 
-ghost use Rattle.std.specs.Prelude.{◌≡◌, ◌↔◌, [], List, IfOk, IsTrue, OnOk, unwrap_or};
-ghost use Rattle.def_trace.specs.Uses.{CarriesSent, CarriesThese, IsFirstFailing, Line, delivered};
+ghost use Rattle.std.specs.Prelude.{◌≡◌, ◌↔◌, [], List, Some, IfOk, IsTrue, OnOk, unwrap_or};
+ghost use Rattle.def_trace.specs.Uses.{CarriesSent, CarriesThese, IsFirstFailing, Line, Thing, delivered};
 ghost use Rattle.ev_uses_messages.specs.Finding.{FindsBefore, found_at, things_at};
 ghost use Rattle.ev_uses_messages.specs.Lines.{AddsThings, holds, things_with};
 ghost use Rattle.ev_uses_messages.specs.Onward.{OnwardStand};
@@ -12,7 +12,7 @@ use crate::onward::tell_onward;
 use crate::places::Places;
 use crate::sought::{Sought, has_sought};
 use def_event::{Event, ShownNote};
-use ev_base::Memory;
+use ev_base::{Memory, Msg};
 use ev_links::{Label, Labels, Links, Scope, place_after};
 use std::alloc::Global;
 
@@ -42,14 +42,14 @@ fn held_at(alloc: Global, events: &[Event], place: Option<usize>) -> Result<Labe
 }
 
 /// Adds to labels what is reached from them, the nearest first, until those of others that are no gifts are all there, or all is.
-/// They are looked for each time that twice as many labels were gone on from, so that the nearest are soon found, and the looking takes
-/// little time beside the going.
+/// They are looked for at first, and each time that twice as many labels were gone on from, so that the nearest are soon found, and
+/// the looking takes little time beside the going.
 fn reach_sought(links: &Links, labels: &mut Labels, others: &[Label]) -> Result<bool, Memory>
     ensures { IfOk result (λ there. ReachesSought links.now labels.old labels.new others.now there) }
 {
     let mut index = 0;
     while index < labels.len() {
-        if index.is_power_of_two() && has_sought(labels, Sought::NoGifts, others) {
+        if (index + 1).is_power_of_two() && has_sought(labels, Sought::NoGifts, others) {
             return Ok(true);
         }
         let label = labels.at(index);
@@ -59,8 +59,23 @@ fn reach_sought(links: &Links, labels: &mut Labels, others: &[Label]) -> Result<
     Ok(has_sought(labels, Sought::NoGifts, others))
 }
 
-/// Whether each name that a note carries is a gift, or is reached from what the line before of its message has. Nothing is gone on
-/// from where all of them stand there.
+/// Whether each name among labels is that of a gift, or is reached from what the line before of a message has.
+fn are_sent_before(
+    alloc: Global,
+    events: &[Event],
+    before: &Places,
+    links: &Links,
+    message: &Msg,
+    carried: &[Label],
+) -> Result<bool, Memory>
+    ensures { (past : List Line) (things : List Thing) → FindsBefore events.now before.now past → OnwardStand links.now past → AddsThings things [] carried.now
+        → IfOk result (λ sent. IsTrue sent ↔ CarriesThese past (Some (message.now, things))) }
+{
+    let mut known = held_at(alloc, events, before.find(message))?;
+    reach_sought(links, &mut known, carried)
+}
+
+/// Whether each name that a note carries is a gift, or is reached from what the line before of its message has.
 fn is_note_sent(
     alloc: Global,
     events: &[Event],
@@ -75,12 +90,7 @@ fn is_note_sent(
         return Ok(true);
     };
     let carried = carried_by(alloc, note)?;
-    let mut known = held_at(alloc, events, before.find(&message))?;
-    if has_sought(&known, Sought::NoGifts, carried.as_slice()) {
-        return Ok(true);
-    }
-    let there = reach_sought(links, &mut known, carried.as_slice())?;
-    Ok(there)
+    are_sent_before(alloc, events, before, links, &message, carried.as_slice())
 }
 
 /// Whether a line carries only gifts and what is reached from what the line before of its message has.
@@ -96,12 +106,30 @@ fn carries_sent(
         → IfOk result (λ sent. IsTrue sent ↔ CarriesSent past event.now) }
 {
     match event {
-        Event::Carry(_, _, _, note) => {
-            let sent = is_note_sent(alloc, events, before, links, note.get())?;
-            Ok(sent)
-        }
+        Event::Carry(_, _, _, note) => is_note_sent(alloc, events, before, links, note.get()),
         _ => Ok(true),
     }
+}
+
+/// The same as `first_unsent`, where nothing is known yet of the lines of messages and of what leads onward.
+fn first_carried_unsent(
+    alloc: Global,
+    events: &[Event],
+    before: &mut Places,
+    links: &mut Links,
+) -> Result<Option<u64>, Memory>
+    ensures { FindsBefore events.now before.old [] → OnwardStand links.old [] → IfOk result (λ answer. IsFirstFailing (λ past l. CarriesSent past l.event) events.now answer) }
+{
+    let mut at = 0;
+    for (index, event) in events.iter().enumerate() {
+        at = place_after(at, event);
+        if !carries_sent(alloc, events, before, links, event)? {
+            return Ok(Some(index as u64 + 1));
+        }
+        before.put(held_message(event), index)?;
+        tell_onward(links, alloc, at, event)?;
+    }
+    Ok(None)
 }
 
 /// The first line of a history, counted from 1, that carries a name with a message which is no gift, and to which nothing leads
@@ -111,14 +139,5 @@ pub fn first_unsent(alloc: Global, events: &[Event]) -> Result<Option<u64>, Memo
 {
     let mut before = Places::new(alloc);
     let mut links = Links::new(alloc);
-    let mut at = 0;
-    for (index, event) in events.iter().enumerate() {
-        at = place_after(at, event);
-        if !carries_sent(alloc, events, &before, &links, event)? {
-            return Ok(Some(index as u64 + 1));
-        }
-        before.put(held_message(event), index)?;
-        tell_onward(&mut links, alloc, at, event)?;
-    }
-    Ok(None)
+    first_carried_unsent(alloc, events, &mut before, &mut links)
 }

@@ -6,4 +6,4 @@ use Rattle.ev_uses_calls.specs.Using.{IsOfKnown}
 use Rattle.ev_uses_calls.proofs.unknown.first_failing.Given as goal
 
 abbrev pub invariant-loop-index : goal.invariant-loop-index
-invariant-loop-index l = KeptStand l.fn.kept [] → Judging IsOfKnown (KeptStand l.kept) l.at l.events l.index
+invariant-loop-index l = KeptStand l.fn.knowledge l.fn.calls [] → Judging IsOfKnown (KeptStand l.knowledge l.calls) l.at l.events l.index

@@ -1,4 +1,5 @@
 use Rattle.std.proofs.Common.{List, ◌∷◌, ◌++◌, [], subst}
+use Rattle.std.proofs.lemmas.Result.{on_ok_weaker}
 use Rattle.def_event.specs.declared.shown.Shown.{Shown}
 use Rattle.def_trace.specs.Uses.{AName, all_parts, parts}
 use Rattle.ev_uses_messages.specs.Lines.{AddsThings}
@@ -7,6 +8,6 @@ use Rattle.ev_uses_messages.proofs.lines.add_send.Goals as goal
 
 pub returns : goal.returns
 returns c =
-    both_added (parts c.args.sent.now.target ++ all_parts c.args.sent.now.args) (AName c.args.sent.now.answer ∷ []) c.args.labels.now c.add_on.new.labels c.add_name.new.labels
-    (subst (λ (xs : List Shown). AddsThings (parts c.args.sent.now.target ++ all_parts xs) c.args.labels.now c.add_on.new.labels) c.as_slice.ensures c.in_ok-add_on.ensures)
-    c.in_ok-add_name.ensures
+    on_ok_weaker c.add_name.result
+    (both_added (parts c.args.sent.now.target ++ all_parts c.args.sent.now.args) (AName c.args.sent.now.answer ∷ []) c.args.labels.now c.add_on.new.labels c.add_name.new.labels
+    (subst (λ (xs : List Shown). AddsThings (parts c.args.sent.now.target ++ all_parts xs) c.args.labels.now c.add_on.new.labels) c.as_slice.ensures c.in_ok-add_on.ensures)) c.add_name.ensures

@@ -1,4 +1,5 @@
 use Rattle.std.proofs.Common.{List, subst}
+use Rattle.std.proofs.lemmas.Result.{on_ok_weaker}
 use Rattle.def_trace.specs.Uses.{Thing}
 use Rattle.ev_uses_messages.specs.Finding.{SourceTables}
 use Rattle.ev_uses_messages.specs.Lines.{AddsThings}
@@ -9,8 +10,9 @@ use Rattle.ev_uses_messages.proofs.sources.add_found.Goals as goal
 pub returns-in-Some : goal.returns-in-Some
 returns-in-Some c stand =
     let tables : SourceTables = record { carried = c.args.carried.now; sent = c.args.sent.now } in
-    subst (λ (ts : List Thing). AddsThings ts c.args.labels.now c.add_carried_at.new.labels)
-    (source_carried c.args.events.now tables c.args.message.now stand c.in-Some.place c.find.result c.find.ensures c.in-Some.is) c.in_ok-add_carried_at.ensures
+    on_ok_weaker c.add_carried_at.result
+    (subst (λ (ts : List Thing). AddsThings ts c.args.labels.now c.add_carried_at.new.labels)
+    (source_carried c.args.events.now tables c.args.message.now stand c.in-Some.place c.find.result c.find.ensures c.in-Some.is)) c.add_carried_at.ensures
 
 pub returns-in_default-find : goal.returns-in_default-find
 returns-in_default-find c stand =
@@ -21,6 +23,7 @@ returns-in_default-find c stand =
 pub returns : goal.returns
 returns c stand =
     let tables : SourceTables = record { carried = c.args.carried.now; sent = c.args.sent.now } in
-    subst (λ (ts : List Thing). AddsThings ts c.args.labels.now c.add_sent_at.new.labels)
-    (source_sent c.args.events.now tables c.args.message.now stand c.in-Some-find.place c.find.result c.find-2.result c.find.ensures c.in_default.is c.find-2.ensures c.in-Some-find.is)
-    c.in_ok-add_sent_at.ensures
+    on_ok_weaker c.add_sent_at.result
+    (subst (λ (ts : List Thing). AddsThings ts c.args.labels.now c.add_sent_at.new.labels)
+    (source_sent c.args.events.now tables c.args.message.now stand c.in-Some-find.place c.find.result c.find-2.result c.find.ensures c.in_default.is c.find-2.ensures c.in-Some-find.is))
+    c.add_sent_at.ensures

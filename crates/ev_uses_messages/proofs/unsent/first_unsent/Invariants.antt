@@ -1,7 +1,0 @@
--- The lines so far hold, and the tables stand for them.
-use Rattle.ev_known.proofs.Judging.{Judging}
-use Rattle.ev_uses_messages.proofs.Walking.{HeldStand, IsCarrySent}
-use Rattle.ev_uses_messages.proofs.unsent.first_unsent.Given as goal
-
-abbrev pub invariant-loop-index : goal.invariant-loop-index
-invariant-loop-index l = Judging IsCarrySent (HeldStand l.events l.before l.links) l.at l.events l.index
