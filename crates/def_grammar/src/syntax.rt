@@ -3,14 +3,14 @@
 use def_syntax::TokenKind;
 
 /// A token of a token list, by its kind and its number there.
-#[derive(Clone, Copy, Debug, PartialEq, Eq)]
+#[derive(Clone, Copy, PartialEq, Eq)]
 pub struct Word {
     pub kind: TokenKind,
     pub number: u64,
 }
 
 /// What a node of a surface tree is.
-#[derive(Clone, Copy, Debug, PartialEq, Eq)]
+#[derive(Clone, Copy, PartialEq, Eq)]
 pub enum Shape {
     /// A number, a text or a character.
     Literal,

@@ -27,7 +27,7 @@ pub struct Frame {
 }
 
 /// A place behind `\u`: two zeros are to come, then 0 or 1, then a last digit behind a 0 or a 1.
-#[derive(Clone, Copy, Debug, PartialEq, Eq)]
+#[derive(Clone, Copy, PartialEq, Eq)]
 pub enum Place {
     First,
     Second,
@@ -37,7 +37,7 @@ pub enum Place {
 }
 
 /// What a digit behind `\u` leads to.
-#[derive(Clone, Copy, Debug, PartialEq, Eq)]
+#[derive(Clone, Copy, PartialEq, Eq)]
 pub enum Digit {
     More(Place),
     Made(char),

@@ -1,7 +1,7 @@
 //! The shapes of nodes: what stands in a form, and in which order.
 
 /// What a tree in a form is.
-#[derive(Clone, Copy, Debug, PartialEq, Eq)]
+#[derive(Clone, Copy, PartialEq, Eq)]
 pub enum Kind {
     Expression,
     Pattern,
@@ -12,7 +12,7 @@ pub enum Kind {
 }
 
 /// An item of a form.
-#[derive(Clone, Copy, Debug, PartialEq, Eq)]
+#[derive(Clone, Copy, PartialEq, Eq)]
 pub enum Want {
     Tree(Kind),
     /// Trees between brackets.
@@ -23,7 +23,7 @@ pub enum Want {
 }
 
 /// What may stand behind the items that must be there.
-#[derive(Clone, Copy, Debug, PartialEq, Eq)]
+#[derive(Clone, Copy, PartialEq, Eq)]
 pub enum Tail {
     Nothing,
     /// Any number of trees.
@@ -35,7 +35,7 @@ pub enum Tail {
 }
 
 /// The word with which a form begins, where one word stands for two shapes the shape.
-#[derive(Clone, Copy, Debug, PartialEq, Eq)]
+#[derive(Clone, Copy, PartialEq, Eq)]
 pub enum Head {
     Lit,
     Noun,

@@ -1,7 +1,7 @@
 //! Tokens and their kinds.
 
 /// What a token is.
-#[derive(Clone, Copy, Debug, PartialEq, Eq)]
+#[derive(Clone, Copy, PartialEq, Eq)]
 pub enum TokenKind {
     /// A line feed that ends an expression.
     LineEnd,
@@ -132,7 +132,7 @@ pub enum TokenKind {
 }
 
 /// A token: its kind, and the bytes of the text from `start` to before `end` that it is.
-#[derive(Clone, Copy, Debug, PartialEq, Eq)]
+#[derive(Clone, Copy, PartialEq, Eq)]
 pub struct Token {
     pub kind: TokenKind,
     pub start: u64,

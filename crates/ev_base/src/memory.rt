@@ -33,7 +33,7 @@ impl<T: Drop> From<AllocFailed<T>> for Memory {
 }
 
 /// What a turn may use at most: `depth` is the greatest depth at which a node may begin.
-#[derive(Clone, Copy, Debug, PartialEq, Eq)]
+#[derive(Clone, Copy, PartialEq, Eq)]
 pub struct Limits {
     pub depth: u32,
 }

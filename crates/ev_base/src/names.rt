@@ -3,14 +3,14 @@
 use crate::ids::VatId;
 
 /// A message, by the vat that sent it and its number there. Sends and reactions of a vat are counted together, from 0.
-#[derive(Clone, Copy, Debug, PartialEq, Eq, Hash)]
+#[derive(Clone, Copy, PartialEq, Eq, Hash)]
 pub struct Msg {
     pub sender: VatId,
     pub number: u64,
 }
 
 /// A global name. Each has one host: the vat that it begins with.
-#[derive(Clone, Copy, Debug, PartialEq, Eq, Hash)]
+#[derive(Clone, Copy, PartialEq, Eq, Hash)]
 pub enum Name {
     /// `v.n`, an object, ejector, resolver or audition of a vat, by its number there.
     Object(VatId, u64),

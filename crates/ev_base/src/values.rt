@@ -3,7 +3,7 @@
 use crate::ids::{ListId, ObjId, PrimId, PromId, TextId, VatId};
 
 /// A value, with the numbers that its vat gives to texts, lists, objects and promises.
-#[derive(Clone, Copy, Debug, PartialEq, Eq)]
+#[derive(Clone, Copy, PartialEq, Eq)]
 pub enum Value {
     Null,
     Bool(bool),

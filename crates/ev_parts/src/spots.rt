@@ -3,7 +3,7 @@
 use ev_base::Seq;
 
 /// What an item is.
-#[derive(Clone, Copy, Debug, PartialEq, Eq)]
+#[derive(Clone, Copy, PartialEq, Eq)]
 pub enum Part {
     /// The byte of an operation, `0f`, or the first byte of a description.
     Code(u8),

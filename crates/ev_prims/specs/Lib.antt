@@ -8,5 +8,4 @@ pub mod Problems
 pub mod Ranges
 pub mod Reading
 pub mod Sequences
-pub mod Taking
 pub mod Verbs

@@ -5,7 +5,6 @@ pub mod asking;
 pub mod data;
 mod flags;
 mod forms;
-pub mod guards;
 mod integers;
 mod letters;
 mod lists;
@@ -21,9 +20,8 @@ mod verbs;
 
 pub use asking::{Asked, RefTest, ask};
 pub use data::data_reply;
-pub use guards::{Taken, guard_takes, refusal};
 pub use order::{Test, compare};
-pub use primitives::{Guard, Kind, Primitive, Rule, native_guard, null_or, primitive_of};
+pub use primitives::{Guard, Kind, Primitive, Rule, primitive_of};
 pub use problem::Problem;
 pub use ranges::range;
 pub use reply::Reply;

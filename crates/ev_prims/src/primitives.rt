@@ -1,15 +1,11 @@
 //! The primitives of the safe scope, by their numbers.
 
-ghost use Rattle.std.specs.Prelude.{◌≡◌, ◌<◌, option_map};
-ghost use Rattle.ev_heap.specs.Contents.{Contents};
+ghost use Rattle.std.specs.Prelude.{◌≡◌};
 ghost use Rattle.def_machine.specs.Native as native;
 ghost use Rattle.ev_prims.specs.Asks.{bare, numbered, primitive_at, with_null};
-ghost use Rattle.ev_prims.specs.Primitives.{IsBare, guard_in, kind_in, primitive_in};
-ghost use Rattle.ev_prims.specs.Reading.{reply_in, value_in};
+ghost use Rattle.ev_prims.specs.Primitives.{IsBare, kind_in, primitive_in};
 
-use crate::problem::Problem;
-use crate::reply::Reply;
-use ev_base::{PrimId, Value};
+use ev_base::PrimId;
 
 /// The first number of a guard that takes null as well.
 const FIRST_WITH_NULL: u8 = 32;
@@ -138,56 +134,5 @@ pub fn primitive_of(number: PrimId) -> Primitive
         numbered(number.0)
     } else {
         with_null(numbered(number.0 - FIRST_WITH_NULL))
-    }
-}
-
-/// The native guard of that number, and none where the primitive of that number is none.
-#[tactic(auto, unfolding(def_machine::specs::Native::native_guard))]
-pub fn native_guard(number: PrimId) -> Option<Guard>
-    ensures { option_map guard_in result ≡ native.native_guard (native.primitive number) }
-{
-    match primitive_of(number) {
-        Primitive::Guarding(guard) => Some(guard),
-        _ => None,
-    }
-}
-
-/// The guard that takes null as well as this primitive of a number below 32.
-#[tactic(auto, unfolding(def_machine::specs::Native::null_or))]
-fn null_or_bare(primitive: Primitive, number: PrimId) -> Reply
-    requires low { number < 32 }
-    requires bare { IsBare primitive }
-    ensures { (h : Contents) → reply_in h result ≡ native.null_or number (primitive_in primitive) }
-{
-    match primitive {
-        Primitive::Guarding(guard) => match guard.kind {
-            Kind::Null => Reply::Fails(Problem::BadArgument),
-            _ => Reply::Says(Value::Prim(PrimId(FIRST_WITH_NULL + number.0))),
-        },
-        _ => Reply::Fails(Problem::BadArgument),
-    }
-}
-
-/// The guard that takes null as well as the primitive of that number.
-#[tactic(auto, using(crate::proofs::PrimitiveLemmas::null_or_low, crate::proofs::PrimitiveLemmas::null_or_high))]
-fn null_or_number(number: PrimId) -> Reply
-    ensures { (h : Contents) → reply_in h result ≡ native.null_or number (native.primitive number) }
-{
-    if number.0 < FIRST_WITH_NULL {
-        null_or_bare(numbered(number.0), number)
-    } else {
-        Reply::Fails(Problem::BadArgument)
-    }
-}
-
-/// The guard that takes null as well as what a followed native guard takes. Anything else, and a guard that takes null itself,
-/// is a bad argument.
-#[tactic(auto, unfolding(def_machine::specs::Native::null_or_reply))]
-pub fn null_or(x: Value) -> Reply
-    ensures { (h : Contents) → reply_in h result ≡ native.null_or_reply (value_in h x) }
-{
-    match x {
-        Value::Prim(number) => null_or_number(number),
-        _ => Reply::Fails(Problem::BadArgument),
     }
 }

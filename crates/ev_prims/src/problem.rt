@@ -1,11 +1,8 @@
 //! Why a native method gives no value.
 
-ghost use Rattle.std.specs.Prelude.{◌≡◌};
-ghost use Rattle.ev_prims.specs.Problems.{problem_words};
-
 use ev_integer::NumFault;
 
-/// Why a native method gives no value. What a program is told of it is its text, `as_str`.
+/// Why a native method gives no value. What a program is told of it is its text (`problem_words`, in `specs/Problems.antt`).
 #[derive(Clone, Copy)]
 pub enum Problem {
     /// The value answers no such verb with so many arguments.
@@ -29,29 +26,4 @@ pub enum Problem {
     Unthrowable,
     /// A call on an ejector that was left.
     DeadEjector,
-}
-
-impl Problem {
-    /// The text of the problem.
-    pub fn as_str(self) -> &'static str
-        ensures { result.now ≡ problem_words self }
-    {
-        match self {
-            Problem::NoMethod => "no method",
-            Problem::Arithmetic(NumFault::Overflow) => "integer overflow",
-            Problem::Arithmetic(NumFault::ZeroDivisor) => "zero divisor",
-            Problem::Arithmetic(NumFault::NegativePower) => "negative power",
-            Problem::NotInt => "not int",
-            Problem::NotChar => "not char",
-            Problem::NotBoolean => "not boolean",
-            Problem::NotText => "not String",
-            Problem::NotList => "not List",
-            Problem::OutOfRange => "out of range",
-            Problem::BadArgument => "bad argument",
-            Problem::NotComparable => "not comparable",
-            Problem::TooHeavy => "too heavy",
-            Problem::Unthrowable => "not a text",
-            Problem::DeadEjector => "ejector is dead",
-        }
-    }
 }
