@@ -18,8 +18,8 @@ use Rattle.law_read.specs.ReadScripts.Checked.{IsGiven}
 use Rattle.law_read.specs.ReadScripts.Runs.{AreReadTo}
 use Rattle.law_read.proofs.ReadScripts.NeverAstray.{no_read_script_goes_astray}
 use Rattle.ev_top.specs.Headline.{NoRunGoesAstray}
-use Rattle.ev_top.specs.Machine.{greatest_depth}
-use Rattle.ev_top.specs.Programs.{AreRead, IsRead, name_found, name_of, names_for, safe_names}
+use Rattle.ev_run.specs.Machine.{greatest_depth}
+use Rattle.ev_run.specs.Programs.{AreRead, IsRead, name_found, name_of, names_for, safe_names}
 use Rattle.ev_top.proofs.Lawful.{bytes_of}
 
 -- ---- the names that a program is given

@@ -20,24 +20,25 @@ use Rattle.ev_mint_text.specs.Telling as mint
 use Rattle.def_trace.specs.declared.trace.Trace.{Trace}
 use Rattle.ev_trace.specs.Reading.{read as trace_from}
 use Rattle.ev_top.specs.Commands.{reads}
-use Rattle.ev_top.specs.Debt.{Debt, most_bytes}
+use Rattle.ev_run.specs.Debt.{Debt, most_bytes}
 use Rattle.ev_top.specs.Lines.{IsDueOfMint, IsDueOfSturdy, IsDueOfTrace, status_of}
 use Rattle.ev_script.specs.Script.{read as script_from}
 use Rattle.ev_top.specs.Summary.{summary_of}
-use Rattle.ev_top.specs.Programs.{AreRead, IsFirstRefused, names_for, IsRead, safe_names, refusal, stage_of, trees_of, IsDueOfFault}
+use Rattle.ev_run.specs.Programs.{AreRead, IsFirstRefused, names_for, IsRead, safe_names, refusal, stage_of, trees_of, IsDueOfFault}
 use Rattle.ev_top.specs.Expansion.{text_from, nameless, IsDueOfText, IsDueOfForm}
 use Rattle.ev_world.specs.Running.{script_of}
-use Rattle.ev_top.specs.Machine.{greatest_depth, text_of, vat_of_step}
-use Rattle.ev_top.specs.Due.{IsDue, IsDueOfInput, IsDueOfBytes, IsDueOfAnswer, IsDueOfScript, IsDueOfTrees, IsDueOfVats, Pays, PaysWith, due_of_run, astray, Telling}
+use Rattle.ev_run.specs.Machine.{greatest_depth, text_of, vat_of_step}
+use Rattle.ev_run.specs.Due.{IsDueOfAnswer, IsDueOfScript, IsDueOfTrees, IsDueOfVats, due_of_run, astray, Telling}
+use Rattle.ev_top.specs.Due.{IsDue, IsDueOfInput, IsDueOfBytes, Pays, PaysWith}
 use Rattle.ev_top.specs.Causes.{IsInterrupted, Follows, ComesWhere, IsLong, Breaks, HasScript, HasPrograms, HasText, HasFault, HasNoTree, HasRefused, IsAstray, IsProgramRefused, RepeatsWord, Stops, StopsIn, run_of}
 use Rattle.ev_top.specs.declared.command.Command.{Command}
 use Rattle.ev_top.specs.declared.command.Command.TheVariants.{Run, Expand, Generate, Sum, Sturdy, Mint, Check}
-use Rattle.ev_top.specs.declared.status.Status.{Status}
-use Rattle.ev_top.specs.declared.status.Status.TheVariants.{Done, Usage, ReadFault, WriteFault, TooLong, ScriptRefused, ProgramRefused, FuelSpent, TooDeep, WordRepeated, Memory}
-use Rattle.ev_top.specs.declared.status.Stage.{Stage}
-use Rattle.ev_top.specs.declared.status.Stage.TheVariants as stages
+use Rattle.ev_run.specs.declared.status.Status.{Status}
+use Rattle.ev_run.specs.declared.status.Status.TheVariants.{Done, Usage, ReadFault, WriteFault, TooLong, ScriptRefused, ProgramRefused, FuelSpent, TooDeep, WordRepeated, Memory}
+use Rattle.ev_run.specs.declared.status.Stage.{Stage}
+use Rattle.ev_run.specs.declared.status.Stage.TheVariants as stages
 use Rattle.ev_top.proofs.DueLemmas.{is_few, too_many}
-use Rattle.ev_top.proofs.ReadLemmas.{one_behind, read_more, trees_count}
+use Rattle.ev_run.proofs.ReadLemmas.{one_behind, read_more, trees_count}
 use Rattle.ev_top.proofs.OneReading.{IsTree, fault_once, tree_once}
 use Rattle.ev_top.proofs.Astray.{no_run_goes_astray}
 

@@ -1,19 +1,12 @@
 -- What is due for a command, by how many bytes there are, and what pays for it.
-use Rattle.std.proofs.Common.{◌≡◌, ◌⊎◌, inl, inr, ◌<◌, ◌≤◌, ℕ, ◌+◌, nat_lt, length, length-append, List, [], ◌∷◌, ◌&&◌, ◌++◌, append-nil, ap, ◌∙◌, codes, Bool, true, false, Option, Some, None, IfSome, IsSome, Result, Ok, Err, refl, sym, subst, arith}
+use Rattle.std.proofs.Common.{◌≡◌, ◌⊎◌, inl, inr, ◌<◌, ◌≤◌, ℕ, ◌+◌, nat_lt, length, length-append, List, [], ◌&&◌, ◌++◌, append-nil, ap, ◌∙◌, codes, Bool, true, false, Option, Some, None, IfSome, IsSome, Result, Ok, Err, refl, sym, subst, arith}
 use Rattle.std.specs.Io.KnownBytes.{IsAtEnd}
 use Rattle.std.proofs.KnownBytes.{Appends-nil}
 use Rattle.ev_io.specs.Ends.{Takes}
 use Rattle.ev_io.specs.declared.read.ReadEnd.TheVariants.{TooLong as TooMany}
 use Rattle.std.proofs.lemmas.Bool.Decides.{nat_tests}
-use Rattle.def_kernel.specs.declared.node.Node.{Node}
-use Rattle.def_machine.specs.State.{Fuel, Deep, Repeated, Astray}
 use Rattle.ev_reader.specs.declared.fault.ProgramFault.{ProgramFault}
-use Rattle.ev_reader.specs.declared.fault.ProgramFault.TheVariants as faults
-use Rattle.def_run.specs.World as machine
-use Rattle.def_run.specs.World.{run, Goes, Stopped}
 use Rattle.ev_scope.specs.declared.accepted.Scoped.{Scoped}
-use Rattle.ev_script.specs.declared.script.Script.{Script}
-use Rattle.ev_script.specs.declared.script.VatScript.{VatScript}
 use Rattle.ev_generate.specs.Generated.{generated}
 use Rattle.ev_sturdy_text.specs.Telling as sturdy
 use Rattle.ev_mint_text.specs.Telling as mint
@@ -21,25 +14,21 @@ use Rattle.def_trace.specs.declared.trace.Trace.{Trace}
 use Rattle.ev_trace.specs.Reading.{read as trace_from}
 use Rattle.ev_top.specs.Commands.{reads}
 use Rattle.ev_top.specs.Lines.{IsDueOfMint, IsDueOfSturdy, IsDueOfTrace, status_of}
-use Rattle.ev_top.specs.Words.{line}
-use Rattle.ev_top.specs.Debt.{Debt, IsFor, most_bytes, too_long}
+use Rattle.ev_run.specs.Words.{line}
+use Rattle.ev_run.specs.Debt.{Debt, IsFor, most_bytes, too_long}
 use Rattle.ev_script.specs.Script.{read as script_from}
 use Rattle.ev_top.specs.Summary.{summary_of}
-use Rattle.ev_top.specs.Programs.{IsDueOfFault}
 use Rattle.ev_top.specs.Expansion.{text_from, nameless, IsDueOfText, IsDueOfForm}
-use Rattle.ev_top.specs.Due.{IsDue, IsDueOfBytes, IsDueOfInput, IsDueOfScript, IsDueOfTrees, IsDueOfVats, IsOfWhole, IsOfRead, Finishes, Pays, PaysWith, Reads, Settles, Telling, TookFor, due_of_run}
-use Rattle.law_schedule.specs.Scripts.{machine_script, tree_at}
-use Rattle.ev_top.specs.Machine.{greatest_depth, text_of}
+use Rattle.ev_run.specs.Due.{IsOfWhole, IsOfRead, Finishes, Settles}
+use Rattle.ev_top.specs.Due.{IsDue, IsDueOfBytes, IsDueOfInput, Pays, PaysWith, Reads, TookFor}
+use Rattle.ev_run.specs.Machine.{text_of}
 use Rattle.ev_top.specs.declared.command.Command.{Command}
 use Rattle.ev_top.specs.declared.command.Command.TheVariants.{Run, Expand, Generate, Sum, Sturdy, Mint, Check}
-use Rattle.ev_top.specs.declared.status.Status.{Status}
-use Rattle.ev_top.specs.declared.status.Status.TheVariants.{Done, Usage, ReadFault, WriteFault, TooLong, ScriptRefused, ProgramRefused, FuelSpent, TooDeep, WordRepeated, Memory}
+use Rattle.ev_run.specs.declared.status.Status.{Status}
+use Rattle.ev_run.specs.declared.status.Status.TheVariants.{Done, Usage, ReadFault, WriteFault, TooLong, ScriptRefused, ProgramRefused, FuelSpent, TooDeep, WordRepeated, Memory}
+use Rattle.ev_run.proofs.WholeInput.{of_fault, of_script}
 
 -- ---- what is due for bytes that are few enough needs all of them
-
-of_fault : (vat : ℕ) (name : List ℕ) (fault : ProgramFault) (status : Status) (text : List ℕ) → IsDueOfFault vat name fault status text → IsOfWhole status
-of_fault vat name (faults.At part kind place) status text due = subst IsOfWhole (sym due.0) tt
-of_fault vat name faults.Memory status text due = absurd due
 
 of_form : (answer : Result Scoped ProgramFault) (status : Status) (text : List ℕ) → IsDueOfForm answer status text → IsOfWhole status
 of_form (Ok scoped) status text due = subst IsOfWhole (sym due.0) tt
@@ -48,27 +37,6 @@ of_form (Err fault) status text due = of_fault 0 nameless fault status text due
 of_text : (found : Result (List ℕ) ℕ) (status : Status) (text : List ℕ) → IsDueOfText found status text → IsOfWhole status
 of_text (Ok program) status text due = of_form due.0 status text due.2
 of_text (Err rule) status text due = subst IsOfWhole (sym due.0) tt
-
-of_end : (script : Script) (text : List ℕ) (r : machine.Run) → IsOfWhole (due_of_run script text r).status
-of_end script text (Goes w) = tt
-of_end script text (Stopped Fuel step w) = tt
-of_end script text (Stopped Deep step w) = tt
-of_end script text (Stopped (Repeated i j) step w) = tt
-of_end script text (Stopped Astray step w) = tt
-
-of_trees : (tell : Telling) (script : Script) (trees : List (List Node)) (status : Status) (text : List ℕ) → IsDueOfTrees tell script trees status text → IsOfWhole status
-of_trees tell script trees status text due =
-    let theirs = machine_script greatest_depth (tree_at trees) script in subst IsOfWhole (sym due.0) (of_end script (tell theirs) (run theirs))
-
-of_vats : (tell : Telling) (script : Script) (trees : List (List Node)) (vats : List VatScript) (status : Status) (text : List ℕ)
-    → IsDueOfVats tell script trees vats status text → IsOfWhole status
-of_vats tell script trees [] status text due = of_trees tell script trees status text due
-of_vats tell script trees (vat ∷ more) status text (Ok scoped, answers, due) = of_vats tell script (trees ++ scoped.tree ∷ []) more status text due
-of_vats tell script trees (vat ∷ more) status text (Err fault, answers, due) = of_fault (length trees) vat.name fault status text due
-
-of_script : (tell : Telling) (found : Result Script ℕ) (status : Status) (text : List ℕ) → IsDueOfScript tell found status text → IsOfWhole status
-of_script tell (Ok script) status text due = of_vats tell script [] script.vats status text due
-of_script tell (Err rule) status text due = subst IsOfWhole (sym due.0) tt
 
 of_repeated : (repeated : Option (ℕ × ℕ)) → IsOfWhole (status_of repeated)
 of_repeated None = tt

@@ -1,10 +1,7 @@
 pub mod GivenNames
 pub mod DueLemmas
 pub mod OneReading
-pub mod Steady
-pub mod Ended
 pub mod Summed
-pub mod ReadLemmas
 pub mod Lawful
 pub mod Astray
 pub mod CauseLemmas

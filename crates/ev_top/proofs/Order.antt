@@ -12,7 +12,7 @@ use Rattle.law_read.proofs.ReadOrder.Kept.{order_kept}
 use Rattle.law_read.proofs.ReadScripts.Meets.{accepted}
 use Rattle.law_schedule.specs.Scripts.{machine_script}
 use Rattle.ev_top.specs.Headline.{HoldsOrder, IsToRun, RunsHoldOrder}
-use Rattle.ev_top.specs.Machine.{greatest_depth}
+use Rattle.ev_run.specs.Machine.{greatest_depth}
 use Rattle.ev_top.specs.declared.command.Command.{Command}
 use Rattle.ev_top.proofs.Astray.{are_read_to}
 use Rattle.ev_top.proofs.Lawful.{bytes_of}

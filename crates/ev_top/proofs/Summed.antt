@@ -19,14 +19,15 @@ use Rattle.ev_world.proofs.Wholes.{many_are}
 use Rattle.ev_world.specs.Events.{events_of}
 use Rattle.ev_world.specs.Running.{end_by, end_of, script_of}
 use Rattle.ev_world.specs.declared.run.RunEnd.{RunEnd}
-use Rattle.ev_top.specs.Due.{IsDueOfTrees}
-use Rattle.ev_top.specs.Ends.{status_by, summed_by}
-use Rattle.ev_top.specs.Machine.{greatest_depth}
-use Rattle.ev_top.specs.Programs.{trees_of}
+use Rattle.ev_run.specs.Due.{IsDueOfTrees}
+use Rattle.ev_run.specs.Ends.{status_by}
+use Rattle.ev_top.specs.Ends.{summed_by}
+use Rattle.ev_run.specs.Machine.{greatest_depth}
+use Rattle.ev_run.specs.Programs.{trees_of}
 use Rattle.ev_top.specs.Summary.{steps_of, summary_by, summary_of}
-use Rattle.ev_top.specs.declared.status.Status.{Status}
-use Rattle.ev_top.proofs.Ended.{due_text, told_end}
-use Rattle.ev_top.proofs.Steady.{runs_are_mirrored, runs_are_steady}
+use Rattle.ev_run.specs.declared.status.Status.{Status}
+use Rattle.ev_run.proofs.Ended.{due_text, told_end}
+use Rattle.ev_run.proofs.Steady.{runs_are_mirrored, runs_are_steady}
 
 -- where a run stopped
 summed_stop : (events : List ShownEvent) (steps : ℕ) (c : Stop) (k : ℕ) (w : World) → summed_by events steps (end_by c k) ≡ stop_text (Stopped c k w)

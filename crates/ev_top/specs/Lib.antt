@@ -1,14 +1,8 @@
-pub mod Words
-pub mod Machine
-pub mod Codes
-pub mod Debt
 pub mod Commands
-pub mod Programs
 pub mod Given
 pub mod Expansion
 pub mod Summary
 pub mod Due
-pub mod Unread
 pub mod Ends
 pub mod Causes
 pub mod Headline

@@ -5,9 +5,9 @@ use Rattle.def_trace.specs.declared.trace.Trace.{Trace}
 use Rattle.ev_check_text.specs.Checks.{Checks}
 use Rattle.ev_generate.specs.Generated.{generated}
 use Rattle.ev_sturdy_text.specs.Telling.{Ending}
-use Rattle.ev_top.specs.Debt.{IsFor, bytes_refused}
-use Rattle.ev_top.specs.declared.status.Status.{Status}
-use Rattle.ev_top.specs.declared.status.Status.TheVariants.{Done, WordRepeated}
+use Rattle.ev_run.specs.Debt.{IsFor, bytes_refused}
+use Rattle.ev_run.specs.declared.status.Status.{Status}
+use Rattle.ev_run.specs.declared.status.Status.TheVariants.{Done, WordRepeated}
 
 -- the text of the script that is generated for a number
 abbrev pub IsDueOfGenerated : ℕ → Status → List ℕ → Type 0

@@ -4,12 +4,12 @@ ghost use Rattle.std.specs.Prelude.{◌≡◌, IfOk, Ok, Err, string_bytes};
 ghost use Rattle.std.specs.Result.{result_map_both};
 ghost use Rattle.ev_top.specs.Expansion.{IsDueOfForm, IsDueOfText, text_from};
 
-use crate::given::safe_names;
-use crate::reply::{Reply, reply_fault, reply_line, reply_rule};
-use crate::status::Status;
 use ev_base::Memory;
 use ev_kernel_printer::print;
 use ev_reader::read_program;
+use ev_run::given::safe_names;
+use ev_run::reply::{Reply, reply_fault, reply_line, reply_rule};
+use ev_run::status::Status;
 use ev_scope::Scoped;
 use std::alloc::Global;
 use std::str;

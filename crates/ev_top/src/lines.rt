@@ -7,10 +7,10 @@ ghost use Rattle.ev_mint_text.specs.Telling as mint;
 ghost use Rattle.ev_trace.specs.Reading.{read as trace_from};
 ghost use Rattle.ev_top.specs.Lines.{IsDueOfGenerated, IsDueOfMint, IsDueOfSturdy, IsDueOfTrace, status_of};
 
-use crate::reply::{Reply, reply_rule};
-use crate::status::Status;
 use ev_base::Memory;
 use ev_generate::generate;
+use ev_run::reply::{Reply, reply_rule};
+use ev_run::status::Status;
 use ev_script::ScriptFault;
 use ev_sturdy_text::Told;
 use std::alloc::Global;

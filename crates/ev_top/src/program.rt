@@ -1,30 +1,27 @@
 //! The top call.
 
-ghost use Rattle.std.specs.Prelude.{◌≡◌, ◌<◌, ◌≤◌, ◌⊎◌, true, false, length, List, ℕ, IfOk, IfSome, IsSome, string_bytes};
+ghost use Rattle.std.specs.Prelude.{◌≡◌, ◌<◌, ◌≤◌, ◌⊎◌, true, false, length, List, ℕ, IfOk, IfSome, string_bytes};
 ghost use Rattle.std.specs.Io.KnownBytes.{IsAtEnd};
 ghost use Rattle.ev_io.specs.Causes.{Rose};
 ghost use Rattle.ev_top.specs.Commands.{command_of, reads};
-ghost use Rattle.ev_top.specs.Debt.{most_bytes};
+ghost use Rattle.ev_run.specs.Debt.{most_bytes};
 ghost use Rattle.def_machine.specs.State.{Fuel, Deep};
 ghost use Rattle.ev_reader.specs.declared.fault.Stage.{Stage as Part};
 ghost use Rattle.ev_top.specs.Causes.{Breaks, ComesWhere, Follows, HasFault, HasNoTree, IsAstray, IsLong, IsProgramRefused, RepeatsWord, Stops};
-ghost use Rattle.ev_top.specs.Due.{IsDue, IsOfWhole, IsReading, Pays, IsOfRead, Finishes, MayRun, Reads, ReadsFor, Settles, debt_of};
+ghost use Rattle.ev_run.specs.Due.{IsOfRead, IsOfWhole, MayRun, debt_of};
+ghost use Rattle.ev_top.specs.Due.{IsDue, IsReading, Pays, Reads, ReadsFor};
 ghost use Rattle.ev_top.specs.Headline.{MessagesHaveOneFate, RunsHoldOrder, RunsHoldUses, SeveredStaysBroken, StampedReachFrozenAlone, StopsAsItCame, SumsUp, UsesAreConnected};
-ghost use Rattle.ev_top.specs.Programs.{refusal};
+ghost use Rattle.ev_run.specs.Programs.{refusal};
 
 use crate::command::{Command, command_of, reads};
 use crate::expansion::expand_bytes;
 use crate::lines::{check_bytes, mint_bytes, reply_generated, sturdy_bytes};
-use crate::reply::{Owed, Reply, reply_line};
-use crate::run::{owed_bytes, write_prepared};
-use crate::status::Status;
 use crate::summary::sum_generated;
 use ev_base::{Memory, Seq, Str};
-use ev_io::{ReadEnd, Sink, Source, read_all, write_all};
+use ev_io::{ReadEnd, Sink, Source, read_all};
+use ev_run::reply::reply_line;
+use ev_run::{MOST_BYTES, Owed, Reply, Status, finish, owed_bytes, pay};
 use std::alloc::Global;
-
-/// The most bytes that are read.
-const MOST_BYTES: u32 = 1048576;
 
 /// Why nothing was asked for.
 #[derive(Clone, Copy, PartialEq, Eq)]
@@ -123,32 +120,6 @@ fn reply_for<S: Source>(alloc: Global, command: Command, src: &mut S) -> Result<
         return reply_to(alloc, command, src);
     }
     Ok(reply_unread(alloc, command)?)
-}
-
-/// Writes the text of a status.
-fn finish<K: Sink>(out: &mut K, status: Status, text: &[u8]) -> Status
-    ensures text { Finishes (K.written out.old) (K.written out.new) status text.now result }
-    ensures later { K.faults out.old ≤ K.faults out.new }
-    ensures fault { result ≡ status ⊎ Rose (K.faults out.old) (K.faults out.new) }
-{
-    match write_all(out, text) {
-        Ok(()) => status,
-        Err(_) => Status::WriteFault,
-    }
-}
-
-/// Writes what is owed. Of a run that is what it tells, as it happens.
-fn pay<K: Sink>(alloc: Global, owed: Owed, out: &mut K) -> Status
-    requires ready { MayRun owed }
-    requires kind { IsOfRead (debt_of owed).status }
-    ensures text { Settles (K.written out.old) (K.written out.new) (debt_of owed) result }
-    ensures later { K.faults out.old ≤ K.faults out.new }
-    ensures fault { result ≡ Status.WriteFault → Rose (K.faults out.old) (K.faults out.new) }
-{
-    match owed {
-        Owed::Reply(reply) => finish(out, reply.status, reply.text.as_bytes()),
-        Owed::Run(prepared) => write_prepared(alloc, prepared, out),
-    }
 }
 
 /// Answers a call, without the causes of each answer.

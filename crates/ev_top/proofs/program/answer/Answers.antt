@@ -1,9 +1,10 @@
 use Rattle.std.proofs.Common.{◌≡◌, subst, Option, IfSome}
 use Rattle.ev_top.specs.Commands.{command_of}
-use Rattle.ev_top.specs.Due.{IsOfRead, Pays, debt_of}
+use Rattle.ev_run.specs.Due.{IsOfRead, debt_of}
+use Rattle.ev_top.specs.Due.{Pays}
 use Rattle.ev_top.specs.declared.command.Command.{Command}
-use Rattle.ev_top.specs.declared.status.Status.{Status}
-use Rattle.ev_top.specs.declared.status.Status.TheVariants.{ReadFault}
+use Rattle.ev_run.specs.declared.status.Status.{Status}
+use Rattle.ev_run.specs.declared.status.Status.TheVariants.{ReadFault}
 use Rattle.ev_top.proofs.DueLemmas.{plain, pays_usage, settled_left, settles_as}
 use Rattle.ev_top.proofs.program.answer.Goals as goal
 

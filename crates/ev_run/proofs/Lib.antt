@@ -1,0 +1,4 @@
+pub mod ReadLemmas
+pub mod Steady
+pub mod Ended
+pub mod WholeInput
