@@ -15,8 +15,8 @@ use Rattle.ev_reader.specs.declared.fault.ProgramFault.TheVariants as faults
 use Rattle.ev_reader.specs.declared.fault.Stage.{Stage as Part}
 use Rattle.ev_reader.specs.declared.fault.Stage.TheVariants as parts
 use Rattle.ev_generate.specs.Generated.{generated}
-use Rattle.ev_sturdy_text.specs.Telling as sturdy
-use Rattle.ev_mint_text.specs.Telling as mint
+use Rattle.ev_sturdy.specs.Telling as sturdy
+use Rattle.ev_mint.specs.Telling as mint
 use Rattle.def_trace.specs.declared.trace.Trace.{Trace}
 use Rattle.ev_trace.specs.Reading.{read as trace_from}
 use Rattle.ev_top.specs.Commands.{reads}

@@ -8,8 +8,8 @@ use Rattle.std.proofs.lemmas.Bool.Decides.{nat_tests}
 use Rattle.ev_reader.specs.declared.fault.ProgramFault.{ProgramFault}
 use Rattle.ev_scope.specs.declared.accepted.Scoped.{Scoped}
 use Rattle.ev_generate.specs.Generated.{generated}
-use Rattle.ev_sturdy_text.specs.Telling as sturdy
-use Rattle.ev_mint_text.specs.Telling as mint
+use Rattle.ev_sturdy.specs.Telling as sturdy
+use Rattle.ev_mint.specs.Telling as mint
 use Rattle.def_trace.specs.declared.trace.Trace.{Trace}
 use Rattle.ev_trace.specs.Reading.{read as trace_from}
 use Rattle.ev_top.specs.Commands.{reads}

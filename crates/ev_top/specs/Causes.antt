@@ -10,8 +10,8 @@ use Rattle.ev_scope.specs.declared.accepted.Scoped.{Scoped}
 use Rattle.ev_script.specs.declared.script.Script.{Script}
 use Rattle.ev_script.specs.declared.script.VatScript.{VatScript}
 use Rattle.ev_generate.specs.Generated.{generated}
-use Rattle.ev_sturdy_text.specs.Telling as sturdy
-use Rattle.ev_mint_text.specs.Telling as mint
+use Rattle.ev_sturdy.specs.Telling as sturdy
+use Rattle.ev_mint.specs.Telling as mint
 use Rattle.ev_trace.specs.Reading.{read as trace_from}
 use Rattle.ev_top.specs.Commands.{reads}
 use Rattle.ev_run.specs.Debt.{most_bytes}

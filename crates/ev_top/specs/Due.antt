@@ -7,8 +7,8 @@ use Rattle.ev_generate.specs.Generated.{generated}
 use Rattle.ev_run.specs.Words.{IsPrefix}
 use Rattle.ev_run.specs.Debt.{Debt, IsFor, most_bytes, usage, too_long}
 use Rattle.ev_top.specs.Expansion.{IsDueOfText, text_from}
-use Rattle.ev_sturdy_text.specs.Telling as sturdy
-use Rattle.ev_mint_text.specs.Telling as mint
+use Rattle.ev_sturdy.specs.Telling as sturdy
+use Rattle.ev_mint.specs.Telling as mint
 use Rattle.ev_top.specs.Commands.{reads}
 use Rattle.ev_trace.specs.Reading.{read as trace_from}
 use Rattle.ev_top.specs.Lines.{IsDueOfGenerated, IsDueOfMint, IsDueOfSturdy, IsDueOfTrace}

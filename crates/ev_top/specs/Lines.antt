@@ -4,7 +4,7 @@ use Rattle.std.specs.declared.option.Option.{Option}
 use Rattle.def_trace.specs.declared.trace.Trace.{Trace}
 use Rattle.ev_check_text.specs.Checks.{Checks}
 use Rattle.ev_generate.specs.Generated.{generated}
-use Rattle.ev_sturdy_text.specs.Telling.{Ending}
+use Rattle.ev_sturdy.specs.Telling.{Ending}
 use Rattle.ev_run.specs.Debt.{IsFor, bytes_refused}
 use Rattle.ev_run.specs.declared.status.Status.{Status}
 use Rattle.ev_run.specs.declared.status.Status.TheVariants.{Done, WordRepeated}

@@ -2,8 +2,8 @@
 
 ghost use Rattle.std.specs.Prelude.{◌≡◌, IfOk, List, ℕ, Some, string_bytes};
 ghost use Rattle.ev_generate.specs.Generated.{generated};
-ghost use Rattle.ev_sturdy_text.specs.Telling as sturdy;
-ghost use Rattle.ev_mint_text.specs.Telling as mint;
+ghost use Rattle.ev_sturdy.specs.Telling as sturdy;
+ghost use Rattle.ev_mint.specs.Telling as mint;
 ghost use Rattle.ev_trace.specs.Reading.{read as trace_from};
 ghost use Rattle.ev_top.specs.Lines.{IsDueOfGenerated, IsDueOfMint, IsDueOfSturdy, IsDueOfTrace, status_of};
 
@@ -12,7 +12,7 @@ use ev_generate::generate;
 use ev_run::reply::{Reply, reply_rule};
 use ev_run::status::Status;
 use ev_script::ScriptFault;
-use ev_sturdy_text::Told;
+use ev_sturdy::Told;
 use std::alloc::Global;
 
 /// The script that is generated for a number.
@@ -42,7 +42,7 @@ fn reply_told(told: Told) -> Reply
 pub fn sturdy_bytes(alloc: Global, bytes: &[u8]) -> Result<Reply, Memory>
     ensures { IfOk result (λ reply. IsDueOfSturdy (sturdy.due bytes.now) reply.status (string_bytes reply.text)) }
 {
-    match ev_sturdy_text::tell(alloc, bytes) {
+    match ev_sturdy::tell(alloc, bytes) {
         Ok(told) => Ok(reply_told(told)),
         Err(ScriptFault::Rule(rule)) => reply_rule(alloc, rule),
         Err(ScriptFault::Memory) => Err(Memory),
@@ -53,7 +53,7 @@ pub fn sturdy_bytes(alloc: Global, bytes: &[u8]) -> Result<Reply, Memory>
 pub fn mint_bytes(alloc: Global, bytes: &[u8]) -> Result<Reply, Memory>
     ensures { IfOk result (λ reply. IsDueOfMint (mint.due bytes.now) reply.status (string_bytes reply.text)) }
 {
-    match ev_mint_text::tell(alloc, bytes) {
+    match ev_mint::tell(alloc, bytes) {
         Ok(text) => Ok(Reply {
             status: Status::Done,
             text,

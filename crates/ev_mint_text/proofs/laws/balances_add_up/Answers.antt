@@ -1,5 +1,0 @@
-use Rattle.ev_mint_text.proofs.Adding.{balances_add_up as law}
-use Rattle.ev_mint_text.proofs.laws.balances_add_up.Goals as goal
-
-pub returns : goal.returns
-returns c = law

@@ -1,2 +1,0 @@
-pub mod Money
-pub mod Seals

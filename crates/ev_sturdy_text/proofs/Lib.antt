@@ -1,3 +1,0 @@
-mod Earlier
-mod Turns
-pub mod Reached

@@ -1,5 +1,0 @@
-use Rattle.ev_sturdy_text.proofs.Reached.{references_are_to_registered as law}
-use Rattle.ev_sturdy_text.proofs.laws.references_are_to_registered.Goals as goal
-
-pub returns : goal.returns
-returns c = law

@@ -1,9 +1,0 @@
--- the lines so far, and then those of the others, are those of all
-use Rattle.std.proofs.Common.{◌≡◌, drop}
-use Rattle.ev_script.specs.Json.{each}
-use Rattle.ev_script.proofs.EachLemmas.{done_and}
-use Rattle.ev_sturdy_text.specs.Sheet.{line_of}
-use Rattle.ev_sturdy_text.proofs.sheet.each_line.Given as goal
-
-abbrev pub invariant-loop-text : goal.invariant-loop-text
-invariant-loop-text l = done_and l.found (each (λ t. line_of t.now) (drop l.text-index l.texts)) ≡ each (λ t. line_of t.now) l.texts

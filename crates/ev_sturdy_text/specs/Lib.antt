@@ -1,4 +1,0 @@
-pub mod Sheet
-pub mod Answers
-pub mod Telling
-pub mod Laws
