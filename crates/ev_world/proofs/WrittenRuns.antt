@@ -12,7 +12,7 @@ use Rattle.def_run.specs.Text.{shown_events, stop_line, vat_names}
 use Rattle.def_run.specs.World.{Entry, Program, Script}
 use Rattle.ev_resident.specs.declared.VatStop.{VatStop}
 use Rattle.ev_resident.specs.declared.VatStop.TheVariants.{Fuel, Deep, WordRepeated, Astray, Memory}
-use Rattle.ev_world.specs.Ends.{StoppedAs, Tells, course_of, stopped_text}
+use Rattle.ev_world.specs.Ends.{StoppedAs, Tells, course_of, line_of_stop}
 use Rattle.ev_world.specs.Running.{end_by, end_of, told_text}
 use Rattle.ev_world.specs.Standing.{Comes, IsWorld, told_so}
 use Rattle.ev_world.specs.Writing.{AppendsFront, EndsAs, IsFront, IsWritten, StopsAs, StopsWith, text_at, text_to, untold}
@@ -118,7 +118,7 @@ module _ (S : Script) (wire : Bool) where
   stop_short held held' Memory k h = front_whole held held' h
 
   -- the line of the stop is written, or a front of it
-  line_by : (held mid : Option (List ℕ)) (s : machine.Stop) (k : ℕ) (told : Told) → StopsWith s k (vat_names S) wire held mid (run S) → Tells told (end_by s k) (stopped_text (vat_names S) [] s k)
+  line_by : (held mid : Option (List ℕ)) (s : machine.Stop) (k : ℕ) (told : Told) → StopsWith s k (vat_names S) wire held mid (run S) → Tells told (end_by s k) (line_of_stop s k)
       → (told.end ≡ end_of (run S)) × (w : Vats) × Appends held mid (text_at (vat_names S) wire w) × (told_text wire S ≡ text_at (vat_names S) wire w ++ string_bytes told.text)
   line_by held mid s k told (w, is, appends) tells = (
     tells.0 ∙ sym (ap end_of is),
@@ -127,24 +127,24 @@ module _ (S : Script) (wire : Bool) where
     sym (text_halts S wire s k w (told_so wire (shown_events w.drawn w.history)) is refl) ∙ ap (λ (xs : List ℕ). text_at (vat_names S) wire w ++ xs) (sym tells.1),
   )
 
-  line_of_stop : (held mid : Option (List ℕ)) (stop : VatStop) (k : ℕ) (told : Told) → StopsAs stop k (vat_names S) wire held mid (run S) → StoppedAs stop k (vat_names S) [] (Ok told)
+  told_of_stop : (held mid : Option (List ℕ)) (stop : VatStop) (k : ℕ) (told : Told) → StopsAs stop k (vat_names S) wire held mid (run S) → StoppedAs stop k (Ok told)
       → (told.end ≡ end_of (run S)) × (w : Vats) × Appends held mid (text_at (vat_names S) wire w) × (told_text wire S ≡ text_at (vat_names S) wire w ++ string_bytes told.text)
-  line_of_stop held mid Fuel k told h tells = line_by held mid machine.Fuel k told h tells
-  line_of_stop held mid Deep k told h tells = line_by held mid machine.Deep k told h tells
-  line_of_stop held mid (WordRepeated i j) k told h tells = line_by held mid (machine.Repeated i j) k told h tells
-  line_of_stop held mid Astray k told h tells = line_by held mid machine.Astray k told h tells
-  line_of_stop held mid Memory k told h tells = absurd tells
+  told_of_stop held mid Fuel k told h tells = line_by held mid machine.Fuel k told h tells
+  told_of_stop held mid Deep k told h tells = line_by held mid machine.Deep k told h tells
+  told_of_stop held mid (WordRepeated i j) k told h tells = line_by held mid (machine.Repeated i j) k told h tells
+  told_of_stop held mid Astray k told h tells = line_by held mid machine.Astray k told h tells
+  told_of_stop held mid Memory k told h tells = absurd tells
 
-  pub stop_written : (held mid after : Option (List ℕ)) (stop : VatStop) (k : ℕ) (told : Told) → StopsAs stop k (vat_names S) wire held mid (run S) → StoppedAs stop k (vat_names S) [] (Ok told)
+  pub stop_written : (held mid after : Option (List ℕ)) (stop : VatStop) (k : ℕ) (told : Told) → StopsAs stop k (vat_names S) wire held mid (run S) → StoppedAs stop k (Ok told)
       → Appends mid after (string_bytes told.text) → (told.end ≡ end_of (run S)) × Appends held after (told_text wire S)
   stop_written held mid after stop k told h tells more =
-      let l = line_of_stop held mid stop k told h tells in
+      let l = told_of_stop held mid stop k told h tells in
       (l.0, subst (λ (t : List ℕ). Appends held after t) (sym l.3) (Appends-trans held mid after (text_at (vat_names S) wire l.1) (string_bytes told.text) l.2 more))
 
-  pub stop_cut : (held mid after : Option (List ℕ)) (stop : VatStop) (k : ℕ) (told : Told) → StopsAs stop k (vat_names S) wire held mid (run S) → StoppedAs stop k (vat_names S) [] (Ok told)
+  pub stop_cut : (held mid after : Option (List ℕ)) (stop : VatStop) (k : ℕ) (told : Told) → StopsAs stop k (vat_names S) wire held mid (run S) → StoppedAs stop k (Ok told)
       → AppendsFront mid after (string_bytes told.text) → AppendsFront held after (told_text wire S)
   stop_cut held mid after stop k told h tells more =
-      let l = line_of_stop held mid stop k told h tells in front_behind held mid after (text_at (vat_names S) wire l.1) (string_bytes told.text) (told_text wire S) l.2 l.3 more
+      let l = told_of_stop held mid stop k told h tells in front_behind held mid after (text_at (vat_names S) wire l.1) (string_bytes told.text) (told_text wire S) l.2 l.3 more
 
   -- what is left at the end is written, or a front of it
   left_told : (held mid : Option (List ℕ)) (w : Vats) (c : World) (told : List ShownEvent) → course_of S ≡ Runs w → IsWritten S (vat_names S) wire held mid w c → Comes (λ (y : Vats). told ≡ told_so wire (shown_events y.drawn y.history)) (close S (untold w))

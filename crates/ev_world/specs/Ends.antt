@@ -22,13 +22,17 @@ course_of S = then_runs (open_from S 0 S.vats (begins S)) (steps_from S S.schedu
 abbrev pub Tells : Told → RunEnd → List ℕ → Type 0
 Tells told e text = (told.end ≡ e) × (string_bytes told.text ≡ text)
 
-abbrev pub stopped_text : List Words → List ShownEvent → Stop → ℕ → List ℕ
-stopped_text names history c k = render names history ++ (stop_line c k ++ 10 ∷ [])
+-- the line of a stop
+abbrev pub line_of_stop : Stop → ℕ → List ℕ
+line_of_stop c k = stop_line c k ++ 10 ∷ []
 
--- the answer where a step of that number stopped so, unless memory ran out
-abbrev pub StoppedAs : VatStop → ℕ → List Words → List ShownEvent → Result Told Memory → Type 0
-StoppedAs stop.Fuel k names history r = IfOk r (λ told. Tells told (end.FuelSpent k) (stopped_text names history Fuel k))
-StoppedAs stop.Deep k names history r = IfOk r (λ told. Tells told (end.TooDeep k) (stopped_text names history Deep k))
-StoppedAs (stop.WordRepeated i j) k names history r = IfOk r (λ told. Tells told (end.WordRepeated i j) (stopped_text names history (Repeated i j) k))
-StoppedAs stop.Astray k names history r = IfOk r (λ told. Tells told (end.Astray k) (stopped_text names history Astray k))
-StoppedAs stop.Memory k names history r = IfOk r (λ told. ⊥)
+abbrev pub stopped_text : List Words → List ShownEvent → Stop → ℕ → List ℕ
+stopped_text names history c k = render names history ++ line_of_stop c k
+
+-- how a run ended where a step of that number stopped so, with the line that tells of it, unless memory ran out
+abbrev pub StoppedAs : VatStop → ℕ → Result Told Memory → Type 0
+StoppedAs stop.Fuel k r = IfOk r (λ told. Tells told (end.FuelSpent k) (line_of_stop Fuel k))
+StoppedAs stop.Deep k r = IfOk r (λ told. Tells told (end.TooDeep k) (line_of_stop Deep k))
+StoppedAs (stop.WordRepeated i j) k r = IfOk r (λ told. Tells told (end.WordRepeated i j) (line_of_stop (Repeated i j) k))
+StoppedAs stop.Astray k r = IfOk r (λ told. Tells told (end.Astray k) (line_of_stop Astray k))
+StoppedAs stop.Memory k r = IfOk r (λ told. ⊥)

@@ -1,11 +1,9 @@
-//! How a run ended, and the text of one that stopped.
+//! How a run ended, and the line of one that stopped.
 
-ghost use Rattle.std.specs.Prelude.{◌≡◌, IfOk, map, string_bytes};
-ghost use Rattle.def_event.specs.Lines.{render};
+ghost use Rattle.std.specs.Prelude.{◌≡◌, IfOk, map};
 ghost use Rattle.ev_world.specs.Ends.{StoppedAs};
 
 use ev_base::{Memory, Seq, Str};
-use ev_event::History;
 use ev_resident::VatStop;
 use ev_script::VatScript;
 use std::alloc::Global;
@@ -25,7 +23,7 @@ pub enum RunEnd {
     Astray(u64),
 }
 
-/// How a run ended, and a text that tells it.
+/// How a run ended, and a line that tells it.
 #[derive(Drop)]
 pub(crate) struct Told {
     pub(crate) end: RunEnd,
@@ -43,40 +41,27 @@ pub(crate) fn names_of(alloc: Global, vats: &[VatScript]) -> Result<Seq<Str>, Me
     Ok(names)
 }
 
-/// The text of a history, where the vats have these names.
-fn rendered(alloc: Global, names: &Seq<Str>, history: &History) -> Result<String, Memory>
-    ensures { IfOk result (λ text. string_bytes text ≡ render names.now history.now) }
+/// How a run ended that stopped so in that step, and the line that tells of it.
+#[tactic(auto, unfolding(def_run::specs::Text::stop_line))]
+pub(crate) fn stopped(alloc: Global, stop: VatStop, step: u64) -> Result<Told, Memory>
+    ensures { StoppedAs stop step result }
 {
-    Ok(history.render(alloc, names)?.into_string())
-}
-
-/// The answer of a run that stopped: the lines of the steps before, and one that tells the stop.
-pub(crate) fn stopped(
-    alloc: Global,
-    names: &Seq<Str>,
-    history: &History,
-    stop: VatStop,
-    step: u64,
-) -> Result<Told, Memory>
-    ensures { StoppedAs stop step names.now history.now result }
-{
-    let text = rendered(alloc, names, history)?;
     match stop {
         VatStop::Fuel => Ok(Told {
             end: RunEnd::FuelSpent(step),
-            text: format!(in alloc; "{text}stop fuel {step}\n")?,
+            text: format!(in alloc; "stop fuel {step}\n")?,
         }),
         VatStop::Deep => Ok(Told {
             end: RunEnd::TooDeep(step),
-            text: format!(in alloc; "{text}stop depth {step}\n")?,
+            text: format!(in alloc; "stop depth {step}\n")?,
         }),
         VatStop::WordRepeated(first, second) => Ok(Told {
             end: RunEnd::WordRepeated(first, second),
-            text: format!(in alloc; "{text}stop word {first} {second}\n")?,
+            text: format!(in alloc; "stop word {first} {second}\n")?,
         }),
         VatStop::Astray => Ok(Told {
             end: RunEnd::Astray(step),
-            text: format!(in alloc; "{text}stop astray {step}\n")?,
+            text: format!(in alloc; "stop astray {step}\n")?,
         }),
         VatStop::Memory => Err(Memory),
     }

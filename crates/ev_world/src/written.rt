@@ -16,26 +16,19 @@ use crate::run::{RunEnd, names_of, stopped};
 use crate::world::{Halted, World};
 use crate::writing::{Halt, Unfinished, write_lines, write_text};
 use ev_base::{Limits, Seq, Str};
-use ev_event::History;
 use ev_io::Sink;
 use ev_scope::Scoped;
 use ev_script::Script;
 use std::alloc::Global;
 
 /// The line of a run that stopped.
-fn write_stop<K: Sink>(
-    alloc: Global,
-    names: &Seq<Str>,
-    halted: Halted,
-    out: &mut K,
-) -> Result<RunEnd, Unfinished>
-    ensures text { (S : TheirScript) (wire : Bool) (held : Option (List ℕ)) → names.now ≡ vat_names S → StopsAs halted.stop halted.step names.now wire held (K.written out.old) (run S)
+fn write_stop<K: Sink>(alloc: Global, halted: Halted, out: &mut K) -> Result<RunEnd, Unfinished>
+    ensures text { (S : TheirScript) (wire : Bool) (held : Option (List ℕ)) → StopsAs halted.stop halted.step (vat_names S) wire held (K.written out.old) (run S)
         → WritesRun S wire held (K.written out.new) result }
     ensures later { K.faults out.old ≤ K.faults out.new }
     ensures fault { result ≡ Err Unfinished.WriteFault → Rose (K.faults out.old) (K.faults out.new) }
 {
-    let before = History::new(alloc);
-    let Ok(told) = stopped(alloc, names, &before, halted.stop, halted.step) else {
+    let Ok(told) = stopped(alloc, halted.stop, halted.step) else {
         return Err(Unfinished::Memory);
     };
     if let Err(why) = write_text(out, told.text.as_bytes()) {
@@ -101,7 +94,7 @@ pub fn write_run<K: Sink>(
         out,
     ) {
         Ok(()) => write_left(alloc, &names, world, out),
-        Err(Halt::Stopped(halted)) => write_stop(alloc, &names, halted, out),
+        Err(Halt::Stopped(halted)) => write_stop(alloc, halted, out),
         Err(Halt::Unwritten(why)) => Err(why),
     }
 }
