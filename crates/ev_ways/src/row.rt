@@ -69,7 +69,7 @@ impl Row {
         Ok(found)
     }
 
-    /// Puts a frame on the way to that vat. It is lost without a word where that is cut, or is not there.
+    /// Puts a frame on the way to that vat. Where that is cut, or is not there, it is lost and nothing tells of it.
     #[tactic(auto, unfolding(crate::specs::Rows::with_at, crate::specs::Rows::set_found))]
     pub fn push(&mut self, to: usize, frame: Frame) -> Result<(), Memory>
         ensures ok { OnOk result (self.new ≡ with_at (put frame) to self.old) }
@@ -92,7 +92,7 @@ impl Row {
         }
     }
 
-    /// Cuts the way to that vat. The answer are the labels of the frames that were under way, which are lost.
+    /// Cuts the way to that vat. It answers the labels of the frames that were under way, which are lost.
     #[tactic(auto, unfolding(crate::specs::Rows::with_at, crate::specs::Rows::set_found, crate::specs::Rows::frames_to, crate::specs::Rows::frames_in))]
     pub fn cut(&mut self, alloc: Global, to: usize) -> VecDeque<Label>
         ensures lost { result.items ≡ map label_of (frames_to to self.old) }

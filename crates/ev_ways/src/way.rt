@@ -55,7 +55,7 @@ impl Way {
         self.link.is_cut()
     }
 
-    /// Puts a frame behind those under way. On a way that is cut it is lost without a word. A refusal leaves the way as it was.
+    /// Puts a frame behind those under way. On a way that is cut it is lost, and nothing tells of it. A refusal leaves the way as it was.
     #[tactic(auto, unfolding(crate::specs::Rows::put))]
     pub fn push(&mut self, frame: Frame) -> Result<(), Memory>
         ensures ok { OnOk result (self.new ≡ put frame self.old) }
@@ -92,7 +92,7 @@ impl Way {
         self.lose()
     }
 
-    /// Cuts the way. The answer are the labels of the frames that were under way, which are lost. It takes no memory.
+    /// Cuts the way. It answers the labels of the frames that were under way, which are lost. It takes no memory.
     #[tactic(auto, unfolding(crate::specs::Labels::all_labelled), using(crate::proofs::Labels::labels_of))]
     pub fn cut(&mut self, alloc: Global) -> VecDeque<Label>
         ensures lost { result.items ≡ map label_of self.old.frames }

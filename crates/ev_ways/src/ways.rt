@@ -69,7 +69,7 @@ impl Ways {
         }
     }
 
-    /// Puts a frame on the way from one vat to another. It is lost without a word where that is cut, or is not there.
+    /// Puts a frame on the way from one vat to another. Where that is cut, or is not there, it is lost and nothing tells of it.
     #[tactic(auto, unfolding(crate::specs::Rows::changed))]
     pub fn push(&mut self, from: VatId, to: VatId, frame: Frame) -> Result<(), Memory>
         ensures { OnOk result (self.new ≡ changed (put frame) from to self.old) }
@@ -113,7 +113,7 @@ impl Ways {
         }
     }
 
-    /// Cuts the way from one vat to another. The answer are the labels of the frames that were under way, which are lost.
+    /// Cuts the way from one vat to another. It answers the labels of the frames that were under way, which are lost.
     #[tactic(auto, unfolding(crate::specs::Rows::changed, crate::specs::Rows::changed_from, crate::specs::Rows::with_at, crate::specs::Rows::set_found, crate::specs::Rows::frames_at, crate::specs::Rows::row_at, crate::specs::Rows::row_of, crate::specs::Rows::frames_to, crate::specs::Rows::frames_in))]
     pub fn cut(&mut self, alloc: Global, from: VatId, to: VatId) -> VecDeque<Label>
         ensures lost { result.items ≡ map label_of (frames_at from to self.old) }
