@@ -51,31 +51,6 @@ impl Model for Facts {
     ghost view = { λ f. f.told.keys };
 }
 
-/// Whether a set has a fact.
-#[tactic(auto, unfolding(crate::specs::Telling::is_told))]
-fn has(told: &IndexSet<Fact>, fact: Fact) -> bool
-    ensures { result ≡ is_told told.now.keys fact }
-{
-    told.contains(&fact)
-}
-
-/// Adds a fact to a set.
-#[tactic(auto, unfolding(crate::specs::Telling::with_fact))]
-fn add(told: &mut IndexSet<Fact>, fact: Fact) -> Result<(), Memory>
-    ensures { OnOk result (told.new.keys ≡ with_fact told.old.keys fact) }
-{
-    told.insert_full(fact)?;
-    Ok(())
-}
-
-/// The fact of a number.
-fn fact_at(told: &IndexSet<Fact>, index: usize) -> Fact
-    requires { index < length told.now.keys }
-    ensures { slice_get told.now.keys index ≡ Some result }
-{
-    told.as_slice()[index]
-}
-
 /// The activation of a number at a place.
 fn of(at: u64, number: u64) -> Activation
     ensures { result ≡ record { at = at; number = number } }
@@ -95,10 +70,11 @@ impl Facts {
     }
 
     /// Whether a fact was told.
+    #[tactic(auto, unfolding(crate::specs::Telling::is_told))]
     pub fn has(&self, fact: Fact) -> bool
         ensures { result ≡ is_told self.now fact }
     {
-        has(&self.told, fact)
+        self.told.contains(&fact)
     }
 
     /// How many were told.
@@ -113,14 +89,16 @@ impl Facts {
         requires { index < length self.now }
         ensures { slice_get self.now index ≡ Some result }
     {
-        fact_at(&self.told, index)
+        self.told.as_slice()[index]
     }
 
     /// A fact is told.
+    #[tactic(auto, unfolding(crate::specs::Telling::with_fact))]
     fn tell(&mut self, fact: Fact) -> Result<(), Memory>
         ensures { OnOk result (self.new ≡ with_fact self.old fact) }
     {
-        add(&mut self.told, fact)
+        self.told.insert_full(fact)?;
+        Ok(())
     }
 
     /// An activation is given what a value is.

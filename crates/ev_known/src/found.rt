@@ -32,23 +32,6 @@ impl Model for Found {
     ghost view = { λ f. f.set.keys };
 }
 
-/// Whether a set has it.
-#[tactic(auto, unfolding(crate::specs::Found::is_found))]
-fn has_in(set: &IndexSet<Finding>, finding: Finding) -> bool
-    ensures { result ≡ is_found set.now.keys finding }
-{
-    set.contains(&finding)
-}
-
-/// Adds it to a set.
-#[tactic(auto, unfolding(crate::specs::Found::with_found))]
-fn add_in(set: &mut IndexSet<Finding>, finding: Finding) -> Result<(), Memory>
-    ensures { OnOk result (set.new.keys ≡ with_found set.old.keys finding) }
-{
-    set.insert_full(finding)?;
-    Ok(())
-}
-
 impl Found {
     /// Nothing was found. It takes no memory.
     pub fn new(alloc: Global) -> Found
@@ -60,10 +43,11 @@ impl Found {
     }
 
     /// Whether it was found.
+    #[tactic(auto, unfolding(crate::specs::Found::is_found))]
     pub fn has(&self, finding: Finding) -> bool
         ensures { result ≡ is_found self.now finding }
     {
-        has_in(&self.set, finding)
+        self.set.contains(&finding)
     }
 
     /// How much was found.
@@ -73,10 +57,19 @@ impl Found {
         self.set.len()
     }
 
+    /// What was found is let go. The memory is kept.
+    pub fn clear(&mut self)
+        ensures { self.new ≡ [] }
+    {
+        self.set.clear();
+    }
+
     /// It is found.
+    #[tactic(auto, unfolding(crate::specs::Found::with_found))]
     pub fn add(&mut self, finding: Finding) -> Result<(), Memory>
         ensures { OnOk result (self.new ≡ with_found self.old finding) }
     {
-        add_in(&mut self.set, finding)
+        self.set.insert_full(finding)?;
+        Ok(())
     }
 }
