@@ -5,6 +5,7 @@ ghost use Rattle.std.specs.Char.{digit_char};
 ghost use Rattle.def_text.specs.Keywords.{printed_verb};
 ghost use Rattle.def_event.specs.declared.event.Event.TheVariants.{Call, Made, Send, When};
 ghost use Rattle.def_event.specs.Lines.{activation, vat, numbered, name, message, value, note_words, begun_words, values, spaced, hex, line_of, render};
+ghost use Rattle.ev_event.specs.Kinds.{referred_line, run_line};
 
 use crate::names::{push_activation, push_number};
 use crate::notes::add_note;
@@ -389,14 +390,9 @@ fn push_left_wait(
     add_message(out, names, id)
 }
 
-/// Appends the line of an event.
-fn push_event(
-    alloc: Global,
-    out: &mut String,
-    names: &[Str],
-    event: &Event,
-) -> Result<(), AllocError>
-    ensures { OnOk result (string_bytes out.new ≡ string_bytes out.old ++ line_of names.now event.now) }
+/// Appends the line of an entry of a run, of what is left at its end or of the end, and nothing of another event.
+fn push_run(alloc: Global, out: &mut String, names: &[Str], event: &Event) -> Result<(), AllocError>
+    ensures { OnOk result (string_bytes out.new ≡ string_bytes out.old ++ run_line names.now event.now) }
 {
     match event {
         Event::Open(host) => push_at_vat(out, names, "open", *host),
@@ -414,21 +410,28 @@ fn push_event(
         Event::Cut(entry, v, w) => push_link_entry(out, names, *entry, "cut", *v, *w),
         Event::Notice(entry, v, w) => push_link_entry(out, names, *entry, "notice", *v, *w),
         Event::Frame(bytes) => push_frame(out, bytes.as_slice()),
+        Event::LeftQueue(host, id) => push_left_queue(out, names, *host, id),
+        Event::LeftHeld(host, held, id) => push_left_held(out, names, *host, held, id),
+        Event::LeftWait(host, x, id) => push_left_wait(alloc, out, names, *host, x, id),
+        Event::LeftLink(v, w, note) => push_left_link(alloc, out, names, *v, *w, note.get()),
+        Event::End => out.push_str("end"),
+        _ => Ok(()),
+    }
+}
+
+/// Appends the line of what references do, or of a run, and nothing of a step of evaluation.
+fn push_referred(
+    alloc: Global,
+    out: &mut String,
+    names: &[Str],
+    event: &Event,
+) -> Result<(), AllocError>
+    ensures { OnOk result (string_bytes out.new ≡ string_bytes out.old ++ referred_line names.now event.now) }
+{
+    match event {
         Event::Take(taken) => push_addressed(alloc, out, names, "take", taken.get()),
-        Event::Call(called) => push_call(alloc, out, names, called.get()),
-        Event::Back(id, x) => push_value_act(alloc, out, names, *id, "back", x),
-        Event::Thrown(id, x) => push_value_act(alloc, out, names, *id, "thrown", x),
-        Event::Gone(id) => push_act(out, *id, "gone"),
-        Event::Got(id, x) => push_value_act(alloc, out, names, *id, "got", x),
-        Event::Slot(id, slot, x) => push_slot(alloc, out, names, *id, "slot", *slot, x),
-        Event::Read(id, slot, x) => push_slot(alloc, out, names, *id, "read", *slot, x),
-        Event::Wrote(id, slot, x) => push_slot(alloc, out, names, *id, "wrote", *slot, x),
-        Event::List(id, list, xs) => push_list(alloc, out, names, *id, *list, xs.as_slice()),
         Event::Arrived(list, xs) => push_arrived(alloc, out, names, *list, xs.as_slice()),
-        Event::Ejector(id, x) => push_value_act(alloc, out, names, *id, "ejector", x),
-        Event::Audition(id, x) => push_value_act(alloc, out, names, *id, "audition", x),
         Event::Promise(id, made, x) => push_promise(alloc, out, names, *id, made, x),
-        Event::Made(made) => push_made(alloc, out, names, made.get()),
         Event::Send(sent) => push_send(alloc, out, names, sent.get()),
         Event::SendOnly(sent) => push_addressed(alloc, out, names, "sendonly", sent.get()),
         Event::When(reacting) => push_when(alloc, out, names, reacting.get()),
@@ -439,11 +442,33 @@ fn push_event(
         Event::View(p, q) => push_names(out, names, "view", p, q),
         Event::LostCut(id) => push_lost(out, names, id, "cut"),
         Event::LostBroken(id) => push_lost(out, names, id, "broken"),
-        Event::LeftQueue(host, id) => push_left_queue(out, names, *host, id),
-        Event::LeftHeld(host, held, id) => push_left_held(out, names, *host, held, id),
-        Event::LeftWait(host, x, id) => push_left_wait(alloc, out, names, *host, x, id),
-        Event::LeftLink(v, w, note) => push_left_link(alloc, out, names, *v, *w, note.get()),
-        Event::End => out.push_str("end"),
+        other => push_run(alloc, out, names, other),
+    }
+}
+
+/// Appends the line of an event.
+fn push_event(
+    alloc: Global,
+    out: &mut String,
+    names: &[Str],
+    event: &Event,
+) -> Result<(), AllocError>
+    ensures { OnOk result (string_bytes out.new ≡ string_bytes out.old ++ line_of names.now event.now) }
+{
+    match event {
+        Event::Call(called) => push_call(alloc, out, names, called.get()),
+        Event::Back(id, x) => push_value_act(alloc, out, names, *id, "back", x),
+        Event::Thrown(id, x) => push_value_act(alloc, out, names, *id, "thrown", x),
+        Event::Gone(id) => push_act(out, *id, "gone"),
+        Event::Got(id, x) => push_value_act(alloc, out, names, *id, "got", x),
+        Event::Slot(id, slot, x) => push_slot(alloc, out, names, *id, "slot", *slot, x),
+        Event::Read(id, slot, x) => push_slot(alloc, out, names, *id, "read", *slot, x),
+        Event::Wrote(id, slot, x) => push_slot(alloc, out, names, *id, "wrote", *slot, x),
+        Event::List(id, list, xs) => push_list(alloc, out, names, *id, *list, xs.as_slice()),
+        Event::Ejector(id, x) => push_value_act(alloc, out, names, *id, "ejector", x),
+        Event::Audition(id, x) => push_value_act(alloc, out, names, *id, "audition", x),
+        Event::Made(made) => push_made(alloc, out, names, made.get()),
+        other => push_referred(alloc, out, names, other),
     }
 }
 
