@@ -5,12 +5,13 @@ ghost use Rattle.std.specs.Char.{digit_char};
 ghost use Rattle.def_text.specs.Keywords.{printed_verb};
 ghost use Rattle.def_event.specs.declared.event.Event.TheVariants.{Call, Made, Send, When};
 ghost use Rattle.def_event.specs.Lines.{activation, vat, numbered, name, message, value, note_words, begun_words, values, spaced, hex, line_of, render};
+ghost use Rattle.ev_event.specs.Kinds.{referred_line, run_line};
 
 use crate::names::{push_activation, push_number};
 use crate::notes::add_note;
 use crate::words::{
     add_message, add_name, add_numbered, add_part, add_value, add_values, add_vat, add_verb,
-    add_word,
+    add_word, push_name_and_value, push_names,
 };
 use def_event::event::{Addressed, Called, Event, MadeObject, Reacting, Sent};
 use def_event::note::ShownNote;
@@ -18,8 +19,16 @@ use def_event::shown::Shown;
 use ev_base::{Memory, Msg, Name, Seq, Str, VatId};
 use std::alloc::{AllocError, Global};
 
+/// What an activation does, or how a line begins that says more of it.
+fn push_act(out: &mut String, id: u64, word: &str) -> Result<(), AllocError>
+    ensures { OnOk result (string_bytes out.new ≡ string_bytes out.old ++ spaced (activation id ∷ word.now ∷ [])) }
+{
+    push_activation(out, id)?;
+    add_word(out, word)
+}
+
 /// What an activation does with a value.
-fn push_act(
+fn push_value_act(
     alloc: Global,
     out: &mut String,
     names: &[Str],
@@ -29,8 +38,7 @@ fn push_act(
 ) -> Result<(), AllocError>
     ensures { OnOk result (string_bytes out.new ≡ string_bytes out.old ++ spaced (activation id ∷ word.now ∷ value names.now x.now ∷ [])) }
 {
-    push_activation(out, id)?;
-    add_word(out, word)?;
+    push_act(out, id, word)?;
     add_value(alloc, out, names, x)
 }
 
@@ -46,29 +54,29 @@ fn push_slot(
 ) -> Result<(), AllocError>
     ensures { OnOk result (string_bytes out.new ≡ string_bytes out.old ++ spaced (activation id ∷ word.now ∷ numbered names.now slot.0 38 slot.1 ∷ value names.now x.now ∷ [])) }
 {
-    push_activation(out, id)?;
-    add_word(out, word)?;
+    push_act(out, id, word)?;
     add_numbered(out, names, slot, '&')?;
     add_value(alloc, out, names, x)
 }
 
-/// What happens to a name with another.
-fn push_names(
-    out: &mut String,
-    names: &[Str],
-    word: &str,
-    first: &Name,
-    second: &Name,
-) -> Result<(), AllocError>
-    ensures { OnOk result (string_bytes out.new ≡ string_bytes out.old ++ spaced (word.now ∷ name names.now first.now ∷ name names.now second.now ∷ [])) }
+/// An entry of no vat, or how the line of another begins.
+fn push_entry(out: &mut String, entry: u64, word: &str) -> Result<(), AllocError>
+    ensures { OnOk result (string_bytes out.new ≡ string_bytes out.old ++ spaced (decimal entry ∷ word.now ∷ [])) }
 {
-    out.push_str(word)?;
-    add_name(out, names, first)?;
-    add_name(out, names, second)
+    push_number(out, entry)?;
+    add_word(out, word)
+}
+
+/// An entry that begins a turn of a vat.
+fn push_turn(out: &mut String, names: &[Str], entry: u64, host: VatId) -> Result<(), AllocError>
+    ensures { OnOk result (string_bytes out.new ≡ string_bytes out.old ++ spaced (decimal entry ∷ codes "turn" ∷ vat names.now host ∷ [])) }
+{
+    push_entry(out, entry, "turn")?;
+    add_vat(out, names, host)
 }
 
 /// An entry of two vats.
-fn push_entry(
+fn push_link_entry(
     out: &mut String,
     names: &[Str],
     entry: u64,
@@ -78,8 +86,7 @@ fn push_entry(
 ) -> Result<(), AllocError>
     ensures { OnOk result (string_bytes out.new ≡ string_bytes out.old ++ spaced (decimal entry ∷ word.now ∷ vat names.now from ∷ vat names.now to ∷ [])) }
 {
-    push_number(out, entry)?;
-    add_word(out, word)?;
+    push_entry(out, entry, word)?;
     add_vat(out, names, from)?;
     add_vat(out, names, to)
 }
@@ -96,8 +103,16 @@ fn push_carry(
 ) -> Result<(), AllocError>
     ensures { OnOk result (string_bytes out.new ≡ string_bytes out.old ++ spaced (decimal entry ∷ codes "carry" ∷ vat names.now from ∷ vat names.now to ∷ note_words names.now note.now)) }
 {
-    push_entry(out, names, entry, "carry", from, to)?;
+    push_link_entry(out, names, entry, "carry", from, to)?;
     add_note(alloc, out, names, note)
+}
+
+/// An opening turn of a vat, or how the line begins of what is left at a vat.
+fn push_at_vat(out: &mut String, names: &[Str], word: &str, host: VatId) -> Result<(), AllocError>
+    ensures { OnOk result (string_bytes out.new ≡ string_bytes out.old ++ spaced (word.now ∷ vat names.now host ∷ [])) }
+{
+    out.push_str(word)?;
+    add_vat(out, names, host)
 }
 
 /// A note that is left on a link.
@@ -111,8 +126,7 @@ fn push_left_link(
 ) -> Result<(), AllocError>
     ensures { OnOk result (string_bytes out.new ≡ string_bytes out.old ++ spaced (codes "left" ∷ codes "link" ∷ vat names.now from ∷ vat names.now to ∷ note_words names.now note.now)) }
 {
-    out.push_str("left link")?;
-    add_vat(out, names, from)?;
+    push_at_vat(out, names, "left link", from)?;
     add_vat(out, names, to)?;
     add_note(alloc, out, names, note)
 }
@@ -136,8 +150,7 @@ fn push_message_act(
 ) -> Result<(), AllocError>
     ensures { OnOk result (string_bytes out.new ≡ string_bytes out.old ++ spaced (activation id ∷ word.now ∷ message names.now m.now ∷ [])) }
 {
-    push_activation(out, id)?;
-    add_word(out, word)?;
+    push_act(out, id, word)?;
     add_message(out, names, m)
 }
 
@@ -200,7 +213,7 @@ fn push_call(
 ) -> Result<(), AllocError>
     ensures { OnOk result (string_bytes out.new ≡ string_bytes out.old ++ line_of names.now (Call called.now)) }
 {
-    push_act(alloc, out, names, called.activation, "call", &called.target)?;
+    push_value_act(alloc, out, names, called.activation, "call", &called.target)?;
     add_verb(out, called.verb.as_str())?;
     add_values(alloc, out, names, called.args.as_slice())?;
     add_begun(out, called.begun)
@@ -215,7 +228,7 @@ fn push_made(
 ) -> Result<(), AllocError>
     ensures { OnOk result (string_bytes out.new ≡ string_bytes out.old ++ line_of names.now (Made made.now)) }
 {
-    push_act(alloc, out, names, made.activation, "made", &made.object)?;
+    push_value_act(alloc, out, names, made.activation, "made", &made.object)?;
     add_word(out, made.name.as_str())?;
     add_part(alloc, out, names, "caps", made.caps.as_slice())?;
     add_part(alloc, out, names, "stamps", made.stamps.as_slice())
@@ -260,20 +273,6 @@ fn push_when(
     add_answer(out, names, &reacting.answer)
 }
 
-/// A list that is made or arrives.
-fn add_list(
-    alloc: Global,
-    out: &mut String,
-    names: &[Str],
-    id: (VatId, u64),
-    members: &[Shown],
-) -> Result<(), AllocError>
-    ensures { OnOk result (string_bytes out.new ≡ string_bytes out.old ++ flat_map (λ v. 32 ∷ v) (numbered names.now id.0 37 id.1 ∷ values names.now members.now)) }
-{
-    add_numbered(out, names, id, '%')?;
-    add_values(alloc, out, names, members)
-}
-
 /// A byte as two hexadecimal digits.
 fn push_byte(out: &mut String, byte: u8) -> Result<(), AllocError>
     ensures { OnOk result (string_bytes out.new ≡ string_bytes out.old ++ digit_char (byte / 16) ∷ digit_char (byte % 16) ∷ []) }
@@ -297,7 +296,7 @@ fn push_hex(out: &mut String, bytes: &[u8]) -> Result<(), AllocError>
     Ok(())
 }
 
-/// An ejector, a promise or another thing that an activation makes beside its resolver.
+/// A promise that an activation makes, and its resolver.
 fn push_promise(
     alloc: Global,
     out: &mut String,
@@ -309,43 +308,16 @@ fn push_promise(
     ensures { OnOk result (string_bytes out.new ≡ string_bytes out.old ++ spaced (activation id ∷ codes "promise" ∷ name names.now made.now ∷ value names.now resolver.now ∷ [])) }
 {
     push_activation(out, id)?;
-    add_word(out, "promise")?;
-    add_name(out, names, made)?;
-    add_value(alloc, out, names, resolver)
+    out.push(' ')?;
+    push_name_and_value(alloc, out, names, "promise", made, resolver)
 }
 
 /// A message that is left in the queue of a vat.
 fn push_left_queue(out: &mut String, names: &[Str], host: VatId, id: &Msg) -> Result<(), AllocError>
     ensures { OnOk result (string_bytes out.new ≡ string_bytes out.old ++ spaced (codes "left" ∷ codes "queue" ∷ vat names.now host ∷ message names.now id.now ∷ [])) }
 {
-    out.push_str("left queue")?;
-    add_vat(out, names, host)?;
+    push_at_vat(out, names, "left queue", host)?;
     add_message(out, names, id)
-}
-
-/// The line of an opening turn.
-fn push_open(out: &mut String, names: &[Str], host: VatId) -> Result<(), AllocError>
-    ensures { OnOk result (string_bytes out.new ≡ string_bytes out.old ++ spaced (codes "open" ∷ vat names.now host ∷ [])) }
-{
-    out.push_str("open")?;
-    add_vat(out, names, host)
-}
-
-/// An entry that begins a turn of a vat.
-fn push_turn(out: &mut String, names: &[Str], entry: u64, host: VatId) -> Result<(), AllocError>
-    ensures { OnOk result (string_bytes out.new ≡ string_bytes out.old ++ spaced (decimal entry ∷ codes "turn" ∷ vat names.now host ∷ [])) }
-{
-    push_number(out, entry)?;
-    add_word(out, "turn")?;
-    add_vat(out, names, host)
-}
-
-/// An entry that finds nothing to do.
-fn push_idle(out: &mut String, entry: u64) -> Result<(), AllocError>
-    ensures { OnOk result (string_bytes out.new ≡ string_bytes out.old ++ spaced (decimal entry ∷ codes "idle" ∷ [])) }
-{
-    push_number(out, entry)?;
-    add_word(out, "idle")
 }
 
 /// The bytes of the note that was carried.
@@ -356,12 +328,19 @@ fn push_frame(out: &mut String, bytes: &[u8]) -> Result<(), AllocError>
     push_hex(out, bytes)
 }
 
-/// A call that an ejector left.
-fn push_gone(out: &mut String, id: u64) -> Result<(), AllocError>
-    ensures { OnOk result (string_bytes out.new ≡ string_bytes out.old ++ spaced (activation id ∷ codes "gone" ∷ [])) }
+/// A list that arrives.
+fn push_arrived(
+    alloc: Global,
+    out: &mut String,
+    names: &[Str],
+    list: (VatId, u64),
+    members: &[Shown],
+) -> Result<(), AllocError>
+    ensures { OnOk result (string_bytes out.new ≡ string_bytes out.old ++ spaced (codes "list" ∷ numbered names.now list.0 37 list.1 ∷ values names.now members.now)) }
 {
-    push_activation(out, id)?;
-    add_word(out, "gone")
+    out.push_str("list")?;
+    add_numbered(out, names, list, '%')?;
+    add_values(alloc, out, names, members)
 }
 
 /// A list that an activation makes.
@@ -376,37 +355,8 @@ fn push_list(
     ensures { OnOk result (string_bytes out.new ≡ string_bytes out.old ++ spaced (activation id ∷ codes "list" ∷ numbered names.now list.0 37 list.1 ∷ values names.now members.now)) }
 {
     push_activation(out, id)?;
-    add_word(out, "list")?;
-    add_list(alloc, out, names, list, members)
-}
-
-/// A list that arrives.
-fn push_arrived(
-    alloc: Global,
-    out: &mut String,
-    names: &[Str],
-    list: (VatId, u64),
-    members: &[Shown],
-) -> Result<(), AllocError>
-    ensures { OnOk result (string_bytes out.new ≡ string_bytes out.old ++ spaced (codes "list" ∷ numbered names.now list.0 37 list.1 ∷ values names.now members.now)) }
-{
-    out.push_str("list")?;
-    add_list(alloc, out, names, list, members)
-}
-
-/// A name that settles.
-fn push_settle(
-    alloc: Global,
-    out: &mut String,
-    names: &[Str],
-    subject: &Name,
-    x: &Shown,
-) -> Result<(), AllocError>
-    ensures { OnOk result (string_bytes out.new ≡ string_bytes out.old ++ spaced (codes "settle" ∷ name names.now subject.now ∷ value names.now x.now ∷ [])) }
-{
-    out.push_str("settle")?;
-    add_name(out, names, subject)?;
-    add_value(alloc, out, names, x)
+    out.push(' ')?;
+    push_arrived(alloc, out, names, list, members)
 }
 
 /// A message that is left held on a name.
@@ -419,8 +369,7 @@ fn push_left_held(
 ) -> Result<(), AllocError>
     ensures { OnOk result (string_bytes out.new ≡ string_bytes out.old ++ spaced (codes "left" ∷ codes "held" ∷ vat names.now host ∷ name names.now held.now ∷ message names.now id.now ∷ [])) }
 {
-    out.push_str("left held")?;
-    add_vat(out, names, host)?;
+    push_at_vat(out, names, "left held", host)?;
     add_name(out, names, held)?;
     add_message(out, names, id)
 }
@@ -436,10 +385,65 @@ fn push_left_wait(
 ) -> Result<(), AllocError>
     ensures { OnOk result (string_bytes out.new ≡ string_bytes out.old ++ spaced (codes "left" ∷ codes "wait" ∷ vat names.now host ∷ value names.now x.now ∷ message names.now id.now ∷ [])) }
 {
-    out.push_str("left wait")?;
-    add_vat(out, names, host)?;
+    push_at_vat(out, names, "left wait", host)?;
     add_value(alloc, out, names, x)?;
     add_message(out, names, id)
+}
+
+/// Appends the line of an entry of a run, of what is left at its end or of the end, and nothing of another event.
+fn push_run(alloc: Global, out: &mut String, names: &[Str], event: &Event) -> Result<(), AllocError>
+    ensures { OnOk result (string_bytes out.new ≡ string_bytes out.old ++ run_line names.now event.now) }
+{
+    match event {
+        Event::Open(host) => push_at_vat(out, names, "open", *host),
+        Event::Turn(entry, host) => push_turn(out, names, *entry, *host),
+        Event::Idle(entry) => push_entry(out, *entry, "idle"),
+        Event::Carry(entry, v, w, note) => push_carry(
+            alloc,
+            out,
+            names,
+            *entry,
+            *v,
+            *w,
+            note.get(),
+        ),
+        Event::Cut(entry, v, w) => push_link_entry(out, names, *entry, "cut", *v, *w),
+        Event::Notice(entry, v, w) => push_link_entry(out, names, *entry, "notice", *v, *w),
+        Event::Frame(bytes) => push_frame(out, bytes.as_slice()),
+        Event::LeftQueue(host, id) => push_left_queue(out, names, *host, id),
+        Event::LeftHeld(host, held, id) => push_left_held(out, names, *host, held, id),
+        Event::LeftWait(host, x, id) => push_left_wait(alloc, out, names, *host, x, id),
+        Event::LeftLink(v, w, note) => push_left_link(alloc, out, names, *v, *w, note.get()),
+        Event::End => out.push_str("end"),
+        _ => Ok(()),
+    }
+}
+
+/// Appends the line of what references do, or of a run, and nothing of a step of evaluation.
+fn push_referred(
+    alloc: Global,
+    out: &mut String,
+    names: &[Str],
+    event: &Event,
+) -> Result<(), AllocError>
+    ensures { OnOk result (string_bytes out.new ≡ string_bytes out.old ++ referred_line names.now event.now) }
+{
+    match event {
+        Event::Take(taken) => push_addressed(alloc, out, names, "take", taken.get()),
+        Event::Arrived(list, xs) => push_arrived(alloc, out, names, *list, xs.as_slice()),
+        Event::Promise(id, made, x) => push_promise(alloc, out, names, *id, made, x),
+        Event::Send(sent) => push_send(alloc, out, names, sent.get()),
+        Event::SendOnly(sent) => push_addressed(alloc, out, names, "sendonly", sent.get()),
+        Event::When(reacting) => push_when(alloc, out, names, reacting.get()),
+        Event::Done(id, x) => push_value_act(alloc, out, names, *id, "done", x),
+        Event::Threw(id, x) => push_value_act(alloc, out, names, *id, "threw", x),
+        Event::Settle(subject, x) => push_name_and_value(alloc, out, names, "settle", subject, x),
+        Event::Wait(p, q) => push_names(out, names, "wait", p, q),
+        Event::View(p, q) => push_names(out, names, "view", p, q),
+        Event::LostCut(id) => push_lost(out, names, id, "cut"),
+        Event::LostBroken(id) => push_lost(out, names, id, "broken"),
+        other => push_run(alloc, out, names, other),
+    }
 }
 
 /// Appends the line of an event.
@@ -452,51 +456,19 @@ fn push_event(
     ensures { OnOk result (string_bytes out.new ≡ string_bytes out.old ++ line_of names.now event.now) }
 {
     match event {
-        Event::Open(host) => push_open(out, names, *host),
-        Event::Turn(entry, host) => push_turn(out, names, *entry, *host),
-        Event::Idle(entry) => push_idle(out, *entry),
-        Event::Carry(entry, v, w, note) => push_carry(
-            alloc,
-            out,
-            names,
-            *entry,
-            *v,
-            *w,
-            note.get(),
-        ),
-        Event::Cut(entry, v, w) => push_entry(out, names, *entry, "cut", *v, *w),
-        Event::Notice(entry, v, w) => push_entry(out, names, *entry, "notice", *v, *w),
-        Event::Frame(bytes) => push_frame(out, bytes.as_slice()),
-        Event::Take(taken) => push_addressed(alloc, out, names, "take", taken.get()),
         Event::Call(called) => push_call(alloc, out, names, called.get()),
-        Event::Back(id, x) => push_act(alloc, out, names, *id, "back", x),
-        Event::Thrown(id, x) => push_act(alloc, out, names, *id, "thrown", x),
-        Event::Gone(id) => push_gone(out, *id),
-        Event::Got(id, x) => push_act(alloc, out, names, *id, "got", x),
+        Event::Back(id, x) => push_value_act(alloc, out, names, *id, "back", x),
+        Event::Thrown(id, x) => push_value_act(alloc, out, names, *id, "thrown", x),
+        Event::Gone(id) => push_act(out, *id, "gone"),
+        Event::Got(id, x) => push_value_act(alloc, out, names, *id, "got", x),
         Event::Slot(id, slot, x) => push_slot(alloc, out, names, *id, "slot", *slot, x),
         Event::Read(id, slot, x) => push_slot(alloc, out, names, *id, "read", *slot, x),
         Event::Wrote(id, slot, x) => push_slot(alloc, out, names, *id, "wrote", *slot, x),
         Event::List(id, list, xs) => push_list(alloc, out, names, *id, *list, xs.as_slice()),
-        Event::Arrived(list, xs) => push_arrived(alloc, out, names, *list, xs.as_slice()),
-        Event::Ejector(id, x) => push_act(alloc, out, names, *id, "ejector", x),
-        Event::Audition(id, x) => push_act(alloc, out, names, *id, "audition", x),
-        Event::Promise(id, made, x) => push_promise(alloc, out, names, *id, made, x),
+        Event::Ejector(id, x) => push_value_act(alloc, out, names, *id, "ejector", x),
+        Event::Audition(id, x) => push_value_act(alloc, out, names, *id, "audition", x),
         Event::Made(made) => push_made(alloc, out, names, made.get()),
-        Event::Send(sent) => push_send(alloc, out, names, sent.get()),
-        Event::SendOnly(sent) => push_addressed(alloc, out, names, "sendonly", sent.get()),
-        Event::When(reacting) => push_when(alloc, out, names, reacting.get()),
-        Event::Done(id, x) => push_act(alloc, out, names, *id, "done", x),
-        Event::Threw(id, x) => push_act(alloc, out, names, *id, "threw", x),
-        Event::Settle(subject, x) => push_settle(alloc, out, names, subject, x),
-        Event::Wait(p, q) => push_names(out, names, "wait", p, q),
-        Event::View(p, q) => push_names(out, names, "view", p, q),
-        Event::LostCut(id) => push_lost(out, names, id, "cut"),
-        Event::LostBroken(id) => push_lost(out, names, id, "broken"),
-        Event::LeftQueue(host, id) => push_left_queue(out, names, *host, id),
-        Event::LeftHeld(host, held, id) => push_left_held(out, names, *host, held, id),
-        Event::LeftWait(host, x, id) => push_left_wait(alloc, out, names, *host, x, id),
-        Event::LeftLink(v, w, note) => push_left_link(alloc, out, names, *v, *w, note.get()),
-        Event::End => out.push_str("end"),
+        other => push_referred(alloc, out, names, other),
     }
 }
 

@@ -2,16 +2,18 @@
 
 ghost use Rattle.std.specs.Prelude.{◌≡◌, ◌++◌, ◌∷◌, [], OnOk, codes, string_bytes, flat_map};
 ghost use Rattle.def_text.specs.Keywords.{printed_verb};
-ghost use Rattle.def_event.specs.Lines.{note_words, message, name, value, values, vat};
+ghost use Rattle.def_event.specs.Lines.{note_words, message, name, values, vat, spaced};
 
-use crate::words::{add_message, add_name, add_value, add_values, add_vat, add_verb, add_word};
+use crate::words::{
+    add_message, add_name, add_values, add_vat, add_verb, push_name_and_value, push_names,
+};
 use def_event::note::ShownNote;
 use def_event::shown::Shown;
 use ev_base::{Msg, Name, Str, VatId};
 use std::alloc::{AllocError, Global};
 
-/// Appends the words of a note that delivers a message.
-fn add_delivery(
+/// A note that delivers a message.
+fn push_delivery(
     alloc: Global,
     out: &mut String,
     names: &[Str],
@@ -21,58 +23,28 @@ fn add_delivery(
     verb: &str,
     args: &[Shown],
 ) -> Result<(), AllocError>
-    ensures { OnOk result (string_bytes out.new ≡ string_bytes out.old ++ flat_map (λ v. 32 ∷ v) (word.now ∷ message names.now id.now ∷ name names.now target.now ∷ printed_verb verb.now ∷ values names.now args.now)) }
+    ensures { OnOk result (string_bytes out.new ≡ string_bytes out.old ++ spaced (word.now ∷ message names.now id.now ∷ name names.now target.now ∷ printed_verb verb.now ∷ values names.now args.now)) }
 {
-    add_word(out, word)?;
+    out.push_str(word)?;
     add_message(out, names, id)?;
     add_name(out, names, target)?;
     add_verb(out, verb)?;
     add_values(alloc, out, names, args)
 }
 
-/// Appends the words of a note that a name settled.
-fn add_settled(
-    alloc: Global,
-    out: &mut String,
-    names: &[Str],
-    subject: &Name,
-    x: &Shown,
-) -> Result<(), AllocError>
-    ensures { OnOk result (string_bytes out.new ≡ string_bytes out.old ++ flat_map (λ v. 32 ∷ v) (codes "settled" ∷ name names.now subject.now ∷ value names.now x.now ∷ [])) }
-{
-    add_word(out, "settled")?;
-    add_name(out, names, subject)?;
-    add_value(alloc, out, names, x)
-}
-
-/// Appends the words of a note of a name and a vat.
-fn add_name_and_vat(
+/// A note of a name and a vat.
+fn push_name_and_vat(
     out: &mut String,
     names: &[Str],
     word: &str,
     subject: &Name,
     host: VatId,
 ) -> Result<(), AllocError>
-    ensures { OnOk result (string_bytes out.new ≡ string_bytes out.old ++ flat_map (λ v. 32 ∷ v) (word.now ∷ name names.now subject.now ∷ vat names.now host ∷ [])) }
+    ensures { OnOk result (string_bytes out.new ≡ string_bytes out.old ++ spaced (word.now ∷ name names.now subject.now ∷ vat names.now host ∷ [])) }
 {
-    add_word(out, word)?;
+    out.push_str(word)?;
     add_name(out, names, subject)?;
     add_vat(out, names, host)
-}
-
-/// Appends the words of a note of two names.
-fn add_names(
-    out: &mut String,
-    names: &[Str],
-    word: &str,
-    first: &Name,
-    second: &Name,
-) -> Result<(), AllocError>
-    ensures { OnOk result (string_bytes out.new ≡ string_bytes out.old ++ flat_map (λ v. 32 ∷ v) (word.now ∷ name names.now first.now ∷ name names.now second.now ∷ [])) }
-{
-    add_word(out, word)?;
-    add_name(out, names, first)?;
-    add_name(out, names, second)
 }
 
 /// Appends the words of a note.
@@ -84,6 +56,7 @@ pub(crate) fn add_note(
 ) -> Result<(), AllocError>
     ensures { OnOk result (string_bytes out.new ≡ string_bytes out.old ++ flat_map (λ v. 32 ∷ v) (note_words names.now note.now)) }
 {
+    out.push(' ')?;
     match note {
         ShownNote::Deliver {
             message,
@@ -92,7 +65,7 @@ pub(crate) fn add_note(
             args,
         } => {
             let (verb, args) = (verb.as_str(), args.as_slice());
-            add_delivery(alloc, out, names, "deliver", message, target, verb, args)
+            push_delivery(alloc, out, names, "deliver", message, target, verb, args)
         }
         ShownNote::DeliverOnly {
             message,
@@ -101,7 +74,7 @@ pub(crate) fn add_note(
             args,
         } => {
             let (verb, args) = (verb.as_str(), args.as_slice());
-            add_delivery(
+            push_delivery(
                 alloc,
                 out,
                 names,
@@ -112,12 +85,14 @@ pub(crate) fn add_note(
                 args,
             )
         }
-        ShownNote::Settled(subject, x) => add_settled(alloc, out, names, subject, x),
+        ShownNote::Settled(subject, x) => push_name_and_value(
+            alloc, out, names, "settled", subject, x,
+        ),
         ShownNote::Elsewhere(subject, host) => {
-            add_name_and_vat(out, names, "elsewhere", subject, *host)
+            push_name_and_vat(out, names, "elsewhere", subject, *host)
         }
-        ShownNote::Open(gift, target) => add_names(out, names, "open", gift, target),
-        ShownNote::Ask(gift, provider) => add_name_and_vat(out, names, "ask", gift, *provider),
-        ShownNote::Shorten(subject, gift) => add_names(out, names, "shorten", subject, gift),
+        ShownNote::Open(gift, target) => push_names(out, names, "open", gift, target),
+        ShownNote::Ask(gift, provider) => push_name_and_vat(out, names, "ask", gift, *provider),
+        ShownNote::Shorten(subject, gift) => push_names(out, names, "shorten", subject, gift),
     }
 }

@@ -1,8 +1,8 @@
 //! The words of a line, each behind a space.
 
-ghost use Rattle.std.specs.Prelude.{◌≡◌, ◌<◌, ◌++◌, ◌∷◌, OnOk, string_bytes, flat_map};
+ghost use Rattle.std.specs.Prelude.{◌≡◌, ◌<◌, ◌++◌, ◌∷◌, [], OnOk, string_bytes, flat_map};
 ghost use Rattle.def_text.specs.Keywords.{printed_verb};
-ghost use Rattle.def_event.specs.Lines.{vat, numbered, message, name, value, values, part};
+ghost use Rattle.def_event.specs.Lines.{vat, numbered, message, name, value, values, part, spaced};
 
 use crate::names::{push_message, push_name, push_numbered, push_vat};
 use crate::values::push_value;
@@ -108,4 +108,35 @@ pub(crate) fn add_part(
     }
     add_word(out, word)?;
     add_values(alloc, out, names, xs)
+}
+
+/// A word and two names.
+pub(crate) fn push_names(
+    out: &mut String,
+    names: &[Str],
+    word: &str,
+    first: &Name,
+    second: &Name,
+) -> Result<(), AllocError>
+    ensures { OnOk result (string_bytes out.new ≡ string_bytes out.old ++ spaced (word.now ∷ name names.now first.now ∷ name names.now second.now ∷ [])) }
+{
+    out.push_str(word)?;
+    add_name(out, names, first)?;
+    add_name(out, names, second)
+}
+
+/// A word, a name and a value.
+pub(crate) fn push_name_and_value(
+    alloc: Global,
+    out: &mut String,
+    names: &[Str],
+    word: &str,
+    subject: &Name,
+    x: &Shown,
+) -> Result<(), AllocError>
+    ensures { OnOk result (string_bytes out.new ≡ string_bytes out.old ++ spaced (word.now ∷ name names.now subject.now ∷ value names.now x.now ∷ [])) }
+{
+    out.push_str(word)?;
+    add_name(out, names, subject)?;
+    add_value(alloc, out, names, x)
 }
