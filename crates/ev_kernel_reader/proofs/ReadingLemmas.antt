@@ -1,11 +1,15 @@
 -- How reading goes on.
-use Rattle.std.proofs.Common.{◌≡◌, ℕ, ◌+◌, List, [], ◌∷◌, ◌++◌, length, Some, None, Result, Err, length-append, sym, ◌∙◌, ap, arith}
+use Rattle.std.proofs.Common.{◌≡◌, ℕ, ◌+◌, Bool, cond, List, [], ◌∷◌, ◌++◌, length, Some, None, Result, Ok, Err, string_bytes, refl, length-append, sym, ◌∙◌, ap, arith}
 use Rattle.std.specs.Char.{encode_utf8, len_utf8}
 use Rattle.std.specs.Str.{chars, IsUtf8}
 use Rattle.std.proofs.lemmas.Str.{chars_past_char, chars-nil, IsUtf8-past_char, length-encode}
 use Rattle.def_kernel.specs.declared.node.Node.{Node}
 use Rattle.def_kernel_form.specs.declared.reader.State.{State}
 use Rattle.def_kernel_form.specs.Reading.{step, read_on, finished}
+use Rattle.ev_kernel_reader.specs.declared.reached.Reached.{Reached}
+use Rattle.ev_kernel_reader.specs.declared.reached.Stage.{Stage}
+use Rattle.ev_kernel_reader.specs.declared.reached.Stage.TheVariants.{Whole}
+use Rattle.ev_kernel_reader.specs.Reached.{mode_of, at_stage, is_whole}
 
 -- reading stands at a place of the text, from where it answers what the whole answers
 pub record Reads (rest text : List ℕ) (place : ℕ) (s : State) (due : Result (List Node) ℕ) : Type 0 where
@@ -37,7 +41,13 @@ pub stops : (c : ℕ) (here rest text : List ℕ) (place : ℕ) (s : State) (due
 stops c here rest text place s due is steps reads =
     sym reads.due_is ∙ ap (λ cs. read_on cs place s) (chars_past_char here rest c reads.utf8 is) ∙ stop_on c place (chars rest) s steps
 
-pub ends_here : (rest text : List ℕ) (place : ℕ) (s : State) (due : Result (List Node) ℕ)
-    → length rest ≡ 0 → Reads rest text place s due → due ≡ finished s.mode place s.nodes
-ends_here [] text place s due none reads = sym reads.due_is ∙ ap (λ cs. read_on cs place s) chars-nil
-ends_here (b ∷ rest) text place s due none reads = absurd (omega arith)
+finished_at : (stage : Stage) (w : List ℕ) (place : ℕ) (nodes : List Node) → finished (mode_of stage w) place nodes ≡ cond (is_whole stage) (Ok nodes) (Err place)
+finished_at Whole w place nodes = refl
+finished_at _ w place nodes = refl
+
+pub ends_here : (rest text : List ℕ) (place : ℕ) (r : Reached) (stage : Stage) (whole : Bool) (due : Result (List Node) ℕ)
+    → length rest ≡ 0 → is_whole stage ≡ whole → Reads rest text place (at_stage r stage) due → due ≡ cond whole (Ok r.nodes.items) (Err place)
+ends_here [] text place r stage whole due none is reads =
+    sym reads.due_is ∙ ap (λ cs. read_on cs place (at_stage r stage)) chars-nil
+    ∙ finished_at stage (string_bytes r.word) place r.nodes.items ∙ ap (λ b. cond b (Ok r.nodes.items) (Err place)) is
+ends_here (b ∷ rest) text place r stage whole due none is reads = absurd (omega arith)

@@ -2,17 +2,11 @@
 use Rattle.std.specs.Prelude.{◌≡◌, ℕ, List, Result, Ok, Err}
 use Rattle.def_kernel.specs.declared.kernel.Kernel.{Kernel}
 use Rattle.def_kernel.specs.declared.node.Node.{Node}
-use Rattle.def_kernel_form.specs.declared.reader.State.{State}
 use Rattle.ev_kernel_reader.specs.declared.forms.FormFault.{FormFault}
 use Rattle.ev_kernel_reader.specs.declared.forms.FormFault.TheVariants.{At, Memory}
-use Rattle.def_kernel_form.specs.Reading.{finished}
 
 -- the answer is that of the definition, unless memory runs out
 abbrev pub Answers : Result Kernel FormFault → Result (List Node) ℕ → Type 0
 Answers (Ok nodes) due = due ≡ Ok nodes
 Answers (Err (At place)) due = due ≡ Err place
 Answers (Err Memory) due = Unit {0}
-
--- what is read where the text ends at this place
-abbrev pub finished_with : ℕ → State → Result (List Node) ℕ
-finished_with place s = finished s.mode place s.nodes

@@ -1,3 +1,5 @@
 pub mod Answers
+pub mod Building
 pub mod Faults
 pub mod Reached
+pub mod Table

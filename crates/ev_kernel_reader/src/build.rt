@@ -1,445 +1,217 @@
 //! The node of a form whose items were read.
 
-ghost use Rattle.std.specs.Prelude.{◌≡◌, IfOk, option_map};
-ghost use Rattle.def_kernel.specs.declared.node.Node.TheVariants.{Call as CallNode, Object as ObjectNode, Method as MethodNode};
-ghost use Rattle.def_kernel_form.specs.declared.shape.Head.TheVariants.{Lit, Noun, Set, Def, DefExit, Call, Seq, If, Escape, Try, Finally, Hide, Match, Object, Method, Matcher, Final, Var, Any, List, Via, FinalName, NoName};
-ghost use Rattle.def_kernel_form.specs.Reading.{taken_node, taken_nodes, taken_word, taken_literal, first_node, first_nodes, no_node, node_of, numbers};
+ghost use Rattle.std.specs.Prelude.{◌≡◌, IfOk, drop};
+ghost use Rattle.def_kernel_form.specs.Reading.{numbers, node_of};
+ghost use Rattle.ev_kernel_reader.specs.Building.{is_of, fits, fit, found_node, node_at, caught, word_at, literal_at, nodes_at, node_of_nodes, built};
 
-use crate::steps::{copied, numbers};
+use crate::table::fixed;
 use def_kernel::node::{Literal, Node};
 use def_kernel_form::reader::Item;
-use def_kernel_form::shape::Head;
-use ev_base::{Memory, NodeId, Seq, Str};
+use def_kernel_form::shape::{Head, Want};
+use ev_base::{Memory, NodeId, Seq};
 use ev_word::Word;
 use std::alloc::Global;
 
-/// The first item and the others, where it is a node.
-fn take_node(items: &[Item]) -> Option<(NodeId, &[Item])>
-    ensures { option_map (λ taken. (taken.0, taken.1.now)) result ≡ taken_node items.now }
+/// Whether the item is one that is wanted.
+fn is_of(want: Want, item: &Item) -> bool
+    ensures { result ≡ is_of want item.now }
 {
-    match items.split_first() {
-        None => None,
-        Some((first, rest)) => match first {
-            Item::Node(id) => Some((*id, rest)),
-            _ => None,
+    match want {
+        Want::Tree(_) => matches!(item, Item::Node(_)),
+        Want::Group(_) => matches!(item, Item::Nodes(_)),
+        Want::Name | Want::Verb => matches!(item, Item::Word(_)),
+        Want::Literal => matches!(item, Item::Literal(_)),
+    }
+}
+
+/// Whether the first items are those that are wanted.
+fn fits(wants: &[Want], items: &[Item]) -> bool
+    ensures { result ≡ fits wants.now items.now }
+{
+    let mut rest = items;
+    for want in wants {
+        match rest.split_first() {
+            None => return false,
+            Some((item, others)) => {
+                if !is_of(*want, item) {
+                    return false;
+                }
+                rest = others;
+            }
+        }
+    }
+    true
+}
+
+/// The item at a place, where it is a node.
+fn found_node(items: &[Item], place: usize) -> Option<NodeId>
+    ensures { result ≡ found_node items.now place }
+{
+    match items.get(place) {
+        Some(Item::Node(id)) => Some(*id),
+        _ => None,
+    }
+}
+
+/// The node at a place.
+fn node_at(items: &[Item], place: usize) -> NodeId
+    ensures { result ≡ node_at items.now place }
+{
+    match items.get(place) {
+        Some(Item::Node(id)) => *id,
+        _ => NodeId(0),
+    }
+}
+
+/// The pattern and the body of an escape that catches.
+fn caught(items: &[Item]) -> Option<(NodeId, NodeId)>
+    ensures { result ≡ caught items.now }
+{
+    match (found_node(items, 2), found_node(items, 3)) {
+        (Some(pattern), Some(body)) => Some((pattern, body)),
+        _ => None,
+    }
+}
+
+/// The word at a place.
+fn word_at(alloc: Global, items: &[Item], place: usize) -> Result<Word, Memory>
+    ensures { IfOk result (λ word. word ≡ word_at items.now place) }
+{
+    match items.get(place) {
+        Some(Item::Word(word)) => Word::copy_of(alloc, word.as_str()),
+        _ => Word::copy_of(alloc, ""),
+    }
+}
+
+/// The literal at a place.
+fn literal_at(items: &[Item], place: usize) -> Result<Literal, Memory>
+    ensures { IfOk result (λ literal. literal ≡ literal_at items.now place) }
+{
+    match items.get(place) {
+        Some(Item::Literal(Literal::Int(number))) => Ok(Literal::Int(*number)),
+        Some(Item::Literal(Literal::Char(c))) => Ok(Literal::Char(*c)),
+        Some(Item::Literal(Literal::Text(text))) => Ok(Literal::Text(text.share()?)),
+        _ => Ok(Literal::Char('0')),
+    }
+}
+
+/// The nodes of the group at a place.
+fn nodes_at(alloc: Global, items: &[Item], place: usize) -> Result<Seq<NodeId>, Memory>
+    ensures { IfOk result (λ nodes. nodes ≡ nodes_at items.now place) }
+{
+    match items.get(place) {
+        Some(Item::Nodes(nodes)) => Ok(Seq::of(Vec::from_slice(alloc, nodes.as_slice())?)),
+        _ => Ok(Seq::new(alloc)),
+    }
+}
+
+/// The numbers of the items that are nodes, from a place on.
+pub(crate) fn numbers(alloc: Global, items: &[Item], place: usize) -> Result<Seq<NodeId>, Memory>
+    ensures { IfOk result (λ found. found ≡ numbers (drop place items.now)) }
+{
+    let mut found = Seq::new(alloc);
+    if place < items.len() {
+        for item in &items[place..] {
+            if let Item::Node(id) = item {
+                found.push(*id)?;
+            }
+        }
+    }
+    Ok(found)
+}
+
+/// The node of a shape whose items are nodes, as many as it has.
+fn node_of_nodes(head: Head, items: &[Item]) -> Node
+    ensures { result ≡ node_of_nodes head items.now }
+{
+    let first = node_at(items, 0);
+    let second = node_at(items, 1);
+    let third = node_at(items, 2);
+    match head {
+        Head::Def => Node::Def {
+            pattern: first,
+            exit: None,
+            value: second,
         },
-    }
-}
-
-/// The first item and the others, where it is a group.
-fn take_nodes(items: &[Item]) -> Option<(&Seq<NodeId>, &[Item])>
-    ensures { option_map (λ taken. (taken.0.now, taken.1.now)) result ≡ taken_nodes items.now }
-{
-    match items.split_first() {
-        None => None,
-        Some((first, rest)) => match first {
-            Item::Nodes(ids) => Some((ids, rest)),
-            _ => None,
+        Head::DefExit => Node::Def {
+            pattern: first,
+            exit: Some(second),
+            value: third,
         },
-    }
-}
-
-/// The first item and the others, where it is a word.
-fn take_word(items: &[Item]) -> Option<(&Str, &[Item])>
-    ensures { option_map (λ taken. (taken.0.now, taken.1.now)) result ≡ taken_word items.now }
-{
-    match items.split_first() {
-        None => None,
-        Some((first, rest)) => match first {
-            Item::Word(word) => Some((word, rest)),
-            _ => None,
+        Head::If => Node::If(first, second, third),
+        Head::Escape => Node::Escape {
+            pattern: first,
+            body: second,
+            caught: caught(items),
         },
-    }
-}
-
-/// The node that stands for none.
-pub(crate) fn no_node() -> Node
-    ensures { result ≡ no_node }
-{
-    Node::Hide(NodeId(0))
-}
-
-/// The node of a noun.
-fn noun(alloc: Global, items: &[Item]) -> Result<Node, Memory>
-    ensures { IfOk result (λ node. node ≡ node_of Noun items.now) }
-{
-    match take_word(items) {
-        None => Ok(no_node()),
-        Some((word, _)) => Ok(Node::Noun(Word::copy_of(alloc, word.as_str())?)),
-    }
-}
-
-/// The node of an assignment.
-fn set(alloc: Global, items: &[Item]) -> Result<Node, Memory>
-    ensures { IfOk result (λ node. node ≡ node_of Set items.now) }
-{
-    let Some((word, items)) = take_word(items) else {
-        return Ok(no_node());
-    };
-    let Some((value, _)) = take_node(items) else {
-        return Ok(no_node());
-    };
-    Ok(Node::Set(Word::copy_of(alloc, word.as_str())?, value))
-}
-
-/// The node of a condition.
-fn condition(items: &[Item]) -> Node
-    ensures { result ≡ node_of If items.now }
-{
-    let Some((test, items)) = take_node(items) else {
-        return no_node();
-    };
-    let Some((yes, items)) = take_node(items) else {
-        return no_node();
-    };
-    let Some((no, _)) = take_node(items) else {
-        return no_node();
-    };
-    Node::If(test, yes, no)
-}
-
-/// The first item and the others, where it is a literal.
-fn take_literal(items: &[Item]) -> Option<(&Literal, &[Item])>
-    ensures { option_map (λ taken. (taken.0.now, taken.1.now)) result ≡ taken_literal items.now }
-{
-    match items.split_first() {
-        None => None,
-        Some((first, rest)) => match first {
-            Item::Literal(literal) => Some((literal, rest)),
-            _ => None,
+        Head::Try => Node::Try {
+            body: first,
+            pattern: second,
+            handler: third,
         },
-    }
-}
-
-/// A copy of a literal.
-fn copy_literal(alloc: Global, literal: &Literal) -> Result<Literal, Memory>
-    ensures { IfOk result (λ copy. copy ≡ literal.now) }
-{
-    match literal {
-        Literal::Int(number) => Ok(Literal::Int(*number)),
-        Literal::Char(c) => Ok(Literal::Char(*c)),
-        Literal::Text(text) => Ok(Literal::Text(text.share()?)),
-    }
-}
-
-/// The node of a literal.
-fn lit(alloc: Global, items: &[Item]) -> Result<Node, Memory>
-    ensures { IfOk result (λ node. node ≡ node_of Lit items.now) }
-{
-    match take_literal(items) {
-        None => Ok(no_node()),
-        Some((literal, _)) => Ok(Node::Lit(copy_literal(alloc, literal)?)),
-    }
-}
-
-/// The node of a definition.
-fn definition(items: &[Item]) -> Node
-    ensures { result ≡ node_of Def items.now }
-{
-    let Some((pattern, items)) = take_node(items) else {
-        return no_node();
-    };
-    let Some((value, _)) = take_node(items) else {
-        return no_node();
-    };
-    Node::Def {
-        pattern,
-        exit: None,
-        value,
-    }
-}
-
-/// The node of a definition with an ejector.
-fn definition_with_exit(items: &[Item]) -> Node
-    ensures { result ≡ node_of DefExit items.now }
-{
-    let Some((pattern, items)) = take_node(items) else {
-        return no_node();
-    };
-    let Some((exit, items)) = take_node(items) else {
-        return no_node();
-    };
-    let Some((value, _)) = take_node(items) else {
-        return no_node();
-    };
-    Node::Def {
-        pattern,
-        exit: Some(exit),
-        value,
-    }
-}
-
-/// The call of a verb with the nodes of these items.
-fn call_of(alloc: Global, receiver: NodeId, verb: &Str, items: &[Item]) -> Result<Node, Memory>
-    ensures { IfOk result (λ node. node ≡ CallNode receiver verb.now (numbers items.now)) }
-{
-    let verb = Word::copy_of(alloc, verb.as_str())?;
-    let args = numbers(alloc, items)?;
-    Ok(Node::Call {
-        receiver,
-        verb,
-        args,
-    })
-}
-
-/// The node of a call.
-fn call(alloc: Global, items: &[Item]) -> Result<Node, Memory>
-    ensures { IfOk result (λ node. node ≡ node_of Call items.now) }
-{
-    let Some((receiver, items)) = take_node(items) else {
-        return Ok(no_node());
-    };
-    let Some((verb, items)) = take_word(items) else {
-        return Ok(no_node());
-    };
-    call_of(alloc, receiver, verb, items)
-}
-
-/// The first item, where it is a node.
-fn first_node(items: &[Item]) -> Option<NodeId>
-    ensures { result ≡ first_node items.now }
-{
-    match take_node(items) {
-        None => None,
-        Some((id, _)) => Some(id),
-    }
-}
-
-/// The first two items, where they are nodes.
-fn first_nodes(items: &[Item]) -> Option<(NodeId, NodeId)>
-    ensures { result ≡ first_nodes items.now }
-{
-    match take_node(items) {
-        None => None,
-        Some((first, rest)) => match first_node(rest) {
-            None => None,
-            Some(second) => Some((first, second)),
+        Head::Finally => Node::Finally(first, second),
+        Head::Hide => Node::Hide(first),
+        Head::Match => Node::MatchBind(first, second),
+        Head::Matcher => Node::Matcher {
+            pattern: first,
+            body: second,
         },
+        Head::Any => Node::Any(found_node(items, 0)),
+        Head::Via => Node::Via(first, second),
+        Head::NoName => Node::Any(None),
+        _ => Node::Hide(NodeId(0)),
     }
 }
 
-/// The node of an escape.
-fn escape(items: &[Item]) -> Node
-    ensures { result ≡ node_of Escape items.now }
+/// The node of a shape with items that fit it.
+fn built(alloc: Global, head: Head, items: &[Item]) -> Result<Node, Memory>
+    ensures { IfOk result (λ node. node ≡ built head items.now) }
 {
-    let Some((pattern, items)) = take_node(items) else {
-        return no_node();
-    };
-    let Some((body, items)) = take_node(items) else {
-        return no_node();
-    };
-    Node::Escape {
-        pattern,
-        body,
-        caught: first_nodes(items),
+    match head {
+        Head::Lit => Ok(Node::Lit(literal_at(items, 0)?)),
+        Head::Noun => Ok(Node::Noun(word_at(alloc, items, 0)?)),
+        Head::Set => Ok(Node::Set(word_at(alloc, items, 0)?, node_at(items, 1))),
+        Head::Call => Ok(Node::Call {
+            receiver: node_at(items, 0),
+            verb: word_at(alloc, items, 1)?,
+            args: numbers(alloc, items, 2)?,
+        }),
+        Head::Seq => Ok(Node::Sequence(numbers(alloc, items, 0)?)),
+        Head::Object => Ok(Node::Object {
+            pattern: node_at(items, 0),
+            auditors: nodes_at(alloc, items, 1)?,
+            members: numbers(alloc, items, 2)?,
+        }),
+        Head::Method => Ok(Node::Method {
+            verb: word_at(alloc, items, 0)?,
+            patterns: nodes_at(alloc, items, 1)?,
+            body: node_at(items, 2),
+        }),
+        Head::Final => Ok(Node::Final(word_at(alloc, items, 0)?, found_node(items, 1))),
+        Head::Var => Ok(Node::Var(word_at(alloc, items, 0)?, found_node(items, 1))),
+        Head::List => Ok(Node::ListPattern(numbers(alloc, items, 0)?)),
+        Head::FinalName => Ok(Node::Final(word_at(alloc, items, 0)?, None)),
+        _ => Ok(node_of_nodes(head, items)),
     }
 }
 
-/// The node of a try.
-fn attempt(items: &[Item]) -> Node
-    ensures { result ≡ node_of Try items.now }
+/// Whether the items fit the shape. A sequence takes any.
+fn fit(head: Head, items: &[Item]) -> bool
+    ensures { result ≡ fit head items.now }
 {
-    let Some((body, items)) = take_node(items) else {
-        return no_node();
-    };
-    let Some((pattern, items)) = take_node(items) else {
-        return no_node();
-    };
-    let Some((handler, _)) = take_node(items) else {
-        return no_node();
-    };
-    Node::Try {
-        body,
-        pattern,
-        handler,
+    match head {
+        Head::Seq => true,
+        _ => fits(fixed(head), items),
     }
 }
 
-/// The node of what is finally done.
-fn finally(items: &[Item]) -> Node
-    ensures { result ≡ node_of Finally items.now }
-{
-    let Some((body, items)) = take_node(items) else {
-        return no_node();
-    };
-    let Some((after, _)) = take_node(items) else {
-        return no_node();
-    };
-    Node::Finally(body, after)
-}
-
-/// The node of a block.
-fn hide(items: &[Item]) -> Node
-    ensures { result ≡ node_of Hide items.now }
-{
-    let Some((body, _)) = take_node(items) else {
-        return no_node();
-    };
-    Node::Hide(body)
-}
-
-/// The node of a match.
-fn match_bind(items: &[Item]) -> Node
-    ensures { result ≡ node_of Match items.now }
-{
-    let Some((value, items)) = take_node(items) else {
-        return no_node();
-    };
-    let Some((pattern, _)) = take_node(items) else {
-        return no_node();
-    };
-    Node::MatchBind(value, pattern)
-}
-
-/// The object with these auditors and the members of these items.
-fn object_of(
-    alloc: Global,
-    pattern: NodeId,
-    auditors: &Seq<NodeId>,
-    items: &[Item],
-) -> Result<Node, Memory>
-    ensures { IfOk result (λ node. node ≡ ObjectNode pattern auditors.now (numbers items.now)) }
-{
-    let auditors = copied(alloc, auditors)?;
-    let members = numbers(alloc, items)?;
-    Ok(Node::Object {
-        pattern,
-        auditors,
-        members,
-    })
-}
-
-/// The node of an object.
-fn object(alloc: Global, items: &[Item]) -> Result<Node, Memory>
-    ensures { IfOk result (λ node. node ≡ node_of Object items.now) }
-{
-    let Some((pattern, items)) = take_node(items) else {
-        return Ok(no_node());
-    };
-    let Some((auditors, items)) = take_nodes(items) else {
-        return Ok(no_node());
-    };
-    object_of(alloc, pattern, auditors, items)
-}
-
-/// The method of a verb with these patterns.
-fn method_of(
-    alloc: Global,
-    verb: &Str,
-    patterns: &Seq<NodeId>,
-    body: NodeId,
-) -> Result<Node, Memory>
-    ensures { IfOk result (λ node. node ≡ MethodNode verb.now patterns.now body) }
-{
-    let verb = Word::copy_of(alloc, verb.as_str())?;
-    let patterns = copied(alloc, patterns)?;
-    Ok(Node::Method {
-        verb,
-        patterns,
-        body,
-    })
-}
-
-/// The node of a method.
-fn method(alloc: Global, items: &[Item]) -> Result<Node, Memory>
-    ensures { IfOk result (λ node. node ≡ node_of Method items.now) }
-{
-    let Some((verb, items)) = take_word(items) else {
-        return Ok(no_node());
-    };
-    let Some((patterns, items)) = take_nodes(items) else {
-        return Ok(no_node());
-    };
-    let Some((body, _)) = take_node(items) else {
-        return Ok(no_node());
-    };
-    method_of(alloc, verb, patterns, body)
-}
-
-/// The node of a matcher.
-fn matcher(items: &[Item]) -> Node
-    ensures { result ≡ node_of Matcher items.now }
-{
-    let Some((pattern, items)) = take_node(items) else {
-        return no_node();
-    };
-    let Some((body, _)) = take_node(items) else {
-        return no_node();
-    };
-    Node::Matcher { pattern, body }
-}
-
-/// The node of a final pattern.
-fn final_pattern(alloc: Global, items: &[Item]) -> Result<Node, Memory>
-    ensures { IfOk result (λ node. node ≡ node_of Final items.now) }
-{
-    let Some((word, items)) = take_word(items) else {
-        return Ok(no_node());
-    };
-    Ok(Node::Final(Word::copy_of(alloc, word.as_str())?, first_node(items)))
-}
-
-/// The node of a var pattern.
-fn var_pattern(alloc: Global, items: &[Item]) -> Result<Node, Memory>
-    ensures { IfOk result (λ node. node ≡ node_of Var items.now) }
-{
-    let Some((word, items)) = take_word(items) else {
-        return Ok(no_node());
-    };
-    Ok(Node::Var(Word::copy_of(alloc, word.as_str())?, first_node(items)))
-}
-
-/// The node of a pattern that asks another object.
-fn via(items: &[Item]) -> Node
-    ensures { result ≡ node_of Via items.now }
-{
-    let Some((value, items)) = take_node(items) else {
-        return no_node();
-    };
-    let Some((pattern, _)) = take_node(items) else {
-        return no_node();
-    };
-    Node::Via(value, pattern)
-}
-
-/// The node of the name of an object.
-fn object_name(alloc: Global, items: &[Item]) -> Result<Node, Memory>
-    ensures { IfOk result (λ node. node ≡ node_of FinalName items.now) }
-{
-    let Some((word, _)) = take_word(items) else {
-        return Ok(no_node());
-    };
-    Ok(Node::Final(Word::copy_of(alloc, word.as_str())?, None))
-}
-
-/// The node of a shape with these items.
+/// The node of a shape with these items. Where they do not fit it, the node stands for none.
 pub(crate) fn node_of(alloc: Global, head: Head, items: &[Item]) -> Result<Node, Memory>
     ensures { IfOk result (λ node. node ≡ node_of head items.now) }
 {
-    match head {
-        Head::Lit => lit(alloc, items),
-        Head::Noun => noun(alloc, items),
-        Head::Set => set(alloc, items),
-        Head::Def => Ok(definition(items)),
-        Head::DefExit => Ok(definition_with_exit(items)),
-        Head::Call => call(alloc, items),
-        Head::Seq => Ok(Node::Sequence(numbers(alloc, items)?)),
-        Head::If => Ok(condition(items)),
-        Head::Escape => Ok(escape(items)),
-        Head::Try => Ok(attempt(items)),
-        Head::Finally => Ok(finally(items)),
-        Head::Hide => Ok(hide(items)),
-        Head::Match => Ok(match_bind(items)),
-        Head::Object => object(alloc, items),
-        Head::Method => method(alloc, items),
-        Head::Matcher => Ok(matcher(items)),
-        Head::Final => final_pattern(alloc, items),
-        Head::Var => var_pattern(alloc, items),
-        Head::Any => Ok(Node::Any(first_node(items))),
-        Head::List => Ok(Node::ListPattern(numbers(alloc, items)?)),
-        Head::Via => Ok(via(items)),
-        Head::FinalName => object_name(alloc, items),
-        Head::NoName => Ok(Node::Any(None)),
-        Head::Group(_) => Ok(no_node()),
+    if fit(head, items) {
+        built(alloc, head, items)
+    } else {
+        Ok(Node::Hide(NodeId(0)))
     }
 }

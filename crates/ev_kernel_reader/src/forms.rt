@@ -1,14 +1,12 @@
 //! Forms that are read.
 
-ghost use Rattle.std.specs.Prelude.{◌≡◌, ◌+◌, length, IfOk};
-ghost use Rattle.def_kernel_form.specs.Reading.{started, step, read};
-ghost use Rattle.ev_kernel_reader.specs.Answers.{Answers, finished_with};
-ghost use Rattle.ev_kernel_reader.specs.Reached.{in_mode};
+ghost use Rattle.def_kernel_form.specs.Reading.{read};
+ghost use Rattle.ev_kernel_reader.specs.Answers.{Answers};
 
-use crate::machine::Reached;
-use crate::readings::step_in;
+use crate::reached::{Reached, Stage};
+use crate::readings::step;
 use def_kernel::kernel::Kernel;
-use def_kernel_form::reader::{Frames, Mode, State};
+use def_kernel_form::reader::Frames;
 use def_kernel_form::shape::Kind;
 use ev_base::{Memory, Seq};
 use std::alloc::Global;
@@ -50,69 +48,27 @@ impl From<Memory> for FormFault {
     }
 }
 
-/// The state in which this is to come.
-fn turned(reached: Reached, mode: Mode) -> State
-    ensures { result ≡ in_mode reached mode }
-{
-    State {
-        frames: reached.frames,
-        nodes: Seq::of(reached.nodes),
-        mode,
-    }
-}
-
-/// The state behind a character, where some form goes on with it.
-fn step(alloc: Global, c: char, state: State) -> Result<Option<State>, Memory>
-    ensures { IfOk result (λ next. next ≡ step c state) }
-{
-    let State {
-        frames,
-        nodes,
-        mode,
-    } = state;
-    let mut reached = Reached {
-        frames,
-        nodes: nodes.into_vec(),
-    };
-    match step_in(alloc, mode, c, &mut reached)? {
-        None => Ok(None),
-        Some(mode) => Ok(Some(turned(reached, mode))),
-    }
-}
-
-/// The state before the first character.
-fn start(alloc: Global) -> State
-    ensures { result ≡ started }
-{
-    State {
-        frames: Frames::new(alloc),
-        nodes: Seq::new(alloc),
-        mode: Mode::Opening(Kind::Expression),
-    }
-}
-
-/// The tree, or the end of the text where it is no form yet.
-fn finish(state: State, place: u64) -> Result<Kernel, FormFault>
-    ensures { Answers result (finished_with place state) }
-{
-    match state.mode {
-        Mode::Whole => Ok(Kernel::of(state.nodes)),
-        _ => Err(FormFault::At(place)),
-    }
-}
-
 /// The tree of a form. Its nodes are numbered as their forms begin.
 pub fn read_form(alloc: Global, text: &str) -> Result<Kernel, FormFault>
     ensures { Answers result (read text.now) }
 {
-    let mut state = start(alloc);
+    let mut reached = Reached {
+        frames: Frames::new(alloc),
+        nodes: Vec::new(alloc),
+        word: String::new(alloc),
+    };
+    let mut stage = Stage::Opening(Kind::Expression);
     let mut place = 0u64;
     for c in text.chars() {
-        match step(alloc, c, state)? {
+        match step(alloc, stage, c, &mut reached)? {
             None => return Err(FormFault::At(place)),
-            Some(next) => state = next,
+            Some(next) => stage = next,
         }
         place += c.len_utf8() as u64;
     }
-    finish(state, place)
+    if stage.is_whole() {
+        Ok(Kernel::of(Seq::of(reached.nodes)))
+    } else {
+        Err(FormFault::At(place))
+    }
 }

@@ -2,11 +2,11 @@
 #![tactic(auto)]
 
 pub mod build;
+pub mod characters;
 pub mod forms;
-pub mod lexical;
 pub mod machine;
+pub mod reached;
 pub mod readings;
-pub mod steps;
 pub mod table;
 
 pub use forms::{FormFault, read_form};

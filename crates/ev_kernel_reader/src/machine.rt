@@ -1,64 +1,76 @@
-//! The state behind one more character of a form.
+//! Forms that begin, take items and end.
 
-ghost use Rattle.std.specs.Prelude.{◌≡◌, slice_set, IfOk};
-ghost use Rattle.def_kernel_form.specs.Reading.{begin, close_in, close_frame, close, step_behind, item_ends, is_digit, literal_begins, item_begins, open_wanted, begin_wanted, step_before, ends_word, begin_head, step_heading, step_exiting, step_bare};
-ghost use Rattle.ev_kernel_reader.specs.Reached.{in_mode, stood, then_in};
+ghost use Rattle.std.specs.Prelude.{◌≡◌, slice_set, IfOk, OnOk};
+ghost use Rattle.def_kernel_form.specs.Reading.{begin, close_in, close_frame, close, step_behind, item_ends, add_item, with_exit};
+ghost use Rattle.ev_kernel_reader.specs.Reached.{at_stage, stood, then_at};
 
-use crate::build::{no_node, node_of};
-use crate::steps::{
-    add_item, extended, front, innermost_ends, is_front_of_head, may_exit, next_wanted, numbers,
-    set_exit,
-};
-use crate::table::head_of;
-use def_kernel::node::{Literal, Node};
-use def_kernel_form::reader::{Frame, Frames, Item, Mode};
-use def_kernel_form::shape::{Head, Kind, Want};
+use crate::build::{node_of, numbers};
+use crate::reached::{Reached, Stage};
+use crate::table::innermost_outlook;
+use def_kernel::node::Node;
+use def_kernel_form::reader::{Frame, Frames, Item};
+use def_kernel_form::shape::Head;
 use ev_base::{Memory, NodeId, Seq};
-use ev_text::is_identifier;
 use std::alloc::Global;
 
-/// Where reading stands but for what is to come: what is dropped where no form goes on has no case for each mode.
-#[derive(Drop)]
-pub(crate) struct Reached {
-    pub frames: Frames,
-    pub nodes: Vec<Node>,
+/// An item was read.
+pub(crate) fn add_item(item: Item, frames: &mut Frames) -> Result<(), Memory>
+    ensures { OnOk result (frames.new ≡ add_item item frames.old) }
+{
+    if let Some(mut frame) = frames.pop() {
+        frame.items.push(item)?;
+        frames.push(frame)?;
+    }
+    Ok(())
 }
 
-/// A tree or a group begins.
-pub(crate) fn begin(alloc: Global, head: Head, reached: &mut Reached) -> Result<Mode, Memory>
-    ensures { IfOk result (λ mode. in_mode reached.new mode ≡ begin head (stood reached.old)) }
+/// The definition has an ejector.
+pub(crate) fn set_exit(frames: &mut Frames) -> Result<(), Memory>
+    ensures { OnOk result (frames.new ≡ with_exit frames.old) }
 {
+    if let Some(mut frame) = frames.pop() {
+        frame.head = Head::DefExit;
+        frames.push(frame)?;
+    }
+    Ok(())
+}
+
+/// A tree or a group begins. The node of a tree stands for none until the tree is closed; a group has no node.
+pub(crate) fn begin(alloc: Global, head: Head, reached: &mut Reached) -> Result<Stage, Memory>
+    ensures { IfOk result (λ stage. at_stage reached.new stage ≡ begin head (stood reached.old)) }
+{
+    let items = Seq::new(alloc);
     match head {
-        Head::Group(kind) => {
+        Head::Group(_) => {
             reached.frames.push(Frame {
                 number: 0,
-                head: Head::Group(kind),
-                items: Seq::new(alloc),
+                head,
+                items,
             })?;
-            Ok(Mode::Grouping)
+            Ok(Stage::Grouping)
         }
         _ => {
             let number = reached.nodes.len() as u64;
             reached.frames.push(Frame {
                 number,
                 head,
-                items: Seq::new(alloc),
+                items,
             })?;
-            reached.nodes.push(no_node())?;
-            Ok(Mode::Behind)
+            reached.nodes.push(Node::Hide(NodeId(0)))?;
+            Ok(Stage::Behind)
         }
     }
 }
 
 /// The closed form is an item of the form round it.
-fn close_in(item: Item, reached: &mut Reached) -> Result<Option<Mode>, Memory>
-    ensures { IfOk result (λ mode. then_in reached.new mode ≡ close_in reached.old.frames item reached.old.nodes.items) }
+fn close_in(item: Item, reached: &mut Reached) -> Result<Option<Stage>, Memory>
+    ensures { IfOk result (λ stage. then_at reached.new stage ≡ close_in reached.old.frames item reached.old.nodes.items) }
 {
     if reached.frames.top().is_none() {
-        return Ok(Some(Mode::Whole));
+        return Ok(Some(Stage::Whole));
     }
     add_item(item, &mut reached.frames)?;
-    Ok(Some(Mode::Behind))
+    Ok(Some(Stage::Behind))
 }
 
 /// Another node stands at a place.
@@ -72,16 +84,14 @@ fn set_node(nodes: &mut Vec<Node>, number: u64, node: Node)
 }
 
 /// The form is closed.
-fn close_frame(alloc: Global, frame: Frame, reached: &mut Reached) -> Result<Option<Mode>, Memory>
-    ensures { IfOk result (λ mode. then_in reached.new mode ≡ close_frame frame.head frame.number frame.items reached.old.frames reached.old.nodes.items) }
+fn close_frame(alloc: Global, frame: &Frame, reached: &mut Reached) -> Result<Option<Stage>, Memory>
+    ensures { IfOk result (λ stage. then_at reached.new stage ≡ close_frame frame.now.head frame.now.number frame.now.items reached.old.frames reached.old.nodes.items) }
 {
+    let items = frame.items.as_slice();
     match frame.head {
-        Head::Group(_) => {
-            let ids = numbers(alloc, frame.items.as_slice())?;
-            close_in(Item::Nodes(ids), reached)
-        }
+        Head::Group(_) => close_in(Item::Nodes(numbers(alloc, items, 0)?), reached),
         _ => {
-            let node = node_of(alloc, frame.head, frame.items.as_slice())?;
+            let node = node_of(alloc, frame.head, items)?;
             set_node(&mut reached.nodes, frame.number, node);
             close_in(Item::Node(NodeId(frame.number)), reached)
         }
@@ -89,15 +99,15 @@ fn close_frame(alloc: Global, frame: Frame, reached: &mut Reached) -> Result<Opt
 }
 
 /// The innermost form is closed, where it may end.
-pub(crate) fn close(alloc: Global, reached: &mut Reached) -> Result<Option<Mode>, Memory>
-    ensures { IfOk result (λ mode. then_in reached.new mode ≡ close (stood reached.old)) }
+pub(crate) fn close(alloc: Global, reached: &mut Reached) -> Result<Option<Stage>, Memory>
+    ensures { IfOk result (λ stage. then_at reached.new stage ≡ close (stood reached.old)) }
 {
-    if !innermost_ends(&reached.frames) {
+    if !innermost_outlook(&reached.frames).ends {
         return Ok(None);
     }
     match reached.frames.pop() {
         None => Ok(None),
-        Some(frame) => close_frame(alloc, frame, reached),
+        Some(frame) => close_frame(alloc, &frame, reached),
     }
 }
 
@@ -106,29 +116,18 @@ pub(crate) fn step_behind(
     alloc: Global,
     c: char,
     reached: &mut Reached,
-) -> Result<Option<Mode>, Memory>
-    ensures { IfOk result (λ mode. then_in reached.new mode ≡ step_behind c (stood reached.old)) }
+) -> Result<Option<Stage>, Memory>
+    ensures { IfOk result (λ stage. then_at reached.new stage ≡ step_behind c (stood reached.old)) }
 {
     if c == ')' {
-        close(alloc, reached)
-    } else if c == ' ' && (next_wanted(&reached.frames).is_some() || may_exit(&reached.frames)) {
-        Ok(Some(Mode::Before))
+        return close(alloc, reached);
+    }
+    let next = innermost_outlook(&reached.frames);
+    if c == ' ' && (next.wanted.is_some() || next.exit) {
+        Ok(Some(Stage::Before))
     } else {
         Ok(None)
     }
-}
-
-/// A form begins, and its word ends before the character.
-pub(crate) fn step_begun(
-    alloc: Global,
-    head: Head,
-    c: char,
-    reached: &mut Reached,
-) -> Result<Option<Mode>, Memory>
-    ensures { IfOk result (λ mode. then_in reached.new mode ≡ step_behind c (begin head (stood reached.old))) }
-{
-    let _begun = begin(alloc, head, reached)?;
-    step_behind(alloc, c, reached)
 }
 
 /// The item ends before the character.
@@ -137,8 +136,8 @@ pub(crate) fn item_ends(
     item: Item,
     c: char,
     reached: &mut Reached,
-) -> Result<Option<Mode>, Memory>
-    ensures { IfOk result (λ mode. then_in reached.new mode ≡ item_ends item c (stood reached.old)) }
+) -> Result<Option<Stage>, Memory>
+    ensures { IfOk result (λ stage. then_at reached.new stage ≡ item_ends item c (stood reached.old)) }
 {
     add_item(item, &mut reached.frames)?;
     step_behind(alloc, c, reached)

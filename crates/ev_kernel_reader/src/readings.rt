@@ -1,75 +1,104 @@
-//! Reading a form.
+//! Reading one character of a form.
 
-ghost use Rattle.std.specs.Prelude.{◌≡◌, [], ◌∷◌, IfOk};
-ghost use Rattle.def_kernel_form.specs.Reading.{open_wanted, begin_wanted, step_before, begin_head, step_heading, step_exiting, step_bare, step_digits, step_negative, step_text, step_text_escape, step_character, step_character_escape, step_character_end, step_grouping, step_in};
-ghost use Rattle.ev_kernel_reader.specs.Reached.{stood, then_in};
-ghost use Rattle.ev_kernel_reader.specs.declared.machine.Reached.{Reached};
+ghost use Rattle.std.specs.Prelude.{◌≡◌, [], Some, IfOk, string_bytes};
+ghost use Rattle.def_kernel_form.specs.Reading.{step_behind, begin, open_wanted, begin_wanted, step_before, step_heading, step_exiting, step_bare, step_digits, step_negative, step_text, step_text_escape, step_character, step_character_escape, step_character_end, step_grouping, step_in, step};
+ghost use Rattle.ev_kernel_reader.specs.Reached.{stood, then_at, at_stage, mode_of};
+ghost use Rattle.ev_kernel_reader.specs.declared.reached.Reached.{Reached};
 
-use crate::lexical::{
-    character_digit, character_letter, digit_value, ends_word, is_digit, is_zero, item_begins,
-    letter_escape, may_end_text, number_digit, text_digit, text_item, with_digit,
+use crate::characters::{
+    digit_value, ends_word, is_digit, is_zero, letter_escape, literal_begins, number_digit,
+    with_digit,
 };
-use crate::machine::{Reached, begin, close, item_ends, step_begun, step_behind};
-use crate::steps::{add_item, extended, front, is_front_of_head, may_exit, next_wanted, set_exit};
-use crate::table::head_of;
+use crate::machine::{add_item, begin, close, item_ends, set_exit, step_behind};
+use crate::reached::{Reached, Stage};
+use crate::table::{head_of, innermost_outlook, is_front_of_head};
 use def_kernel::node::Literal;
-use def_kernel_form::reader::{Item, Mode, Place};
+use def_kernel_form::reader::{Digit, Item, Place};
 use def_kernel_form::shape::{Head, Kind, Want};
 use ev_base::{Memory, Str};
-use ev_text::{continues_identifier, is_identifier};
+use ev_text::{begins_identifier, continues_identifier, is_identifier};
+use ev_word::Text;
 use std::alloc::Global;
+use std::mem;
+
+/// The word that was read.
+fn take_word(alloc: Global, word: &mut String) -> Str
+    ensures { result ≡ string_bytes word.old }
+{
+    Str::of(mem::replace(word, String::new(alloc)))
+}
 
 /// A bracket opens a tree or a group where one is wanted.
 fn open_wanted(
     alloc: Global,
     want: Option<Want>,
     reached: &mut Reached,
-) -> Result<Option<Mode>, Memory>
-    ensures { IfOk result (λ mode. then_in reached.new mode ≡ open_wanted want (stood reached.old)) }
+) -> Result<Option<Stage>, Memory>
+    ensures { IfOk result (λ stage. then_at reached.new stage ≡ open_wanted want (stood reached.old)) }
 {
     match want {
-        Some(Want::Tree(kind)) => Ok(Some(Mode::Heading(kind, Str::new(alloc)))),
+        Some(Want::Tree(kind)) => {
+            reached.word.clear();
+            Ok(Some(Stage::Heading(kind)))
+        }
         Some(Want::Group(kind)) => Ok(Some(begin(alloc, Head::Group(kind), reached)?)),
         _ => Ok(None),
     }
 }
 
-/// An item that is no bracket begins where one is wanted.
-fn begin_wanted(alloc: Global, want: Option<Want>, c: char) -> Result<Option<Mode>, Memory>
-    ensures { IfOk result (λ mode. (r : Reached) → then_in r mode ≡ begin_wanted want c (stood r)) }
+/// A bare word begins.
+fn word_begins(c: char, reached: &mut Reached) -> Result<Option<Stage>, Memory>
+    ensures { IfOk result (λ stage. then_at reached.new stage ≡ begin_wanted (Some Want.Name) c (stood reached.old)) }
 {
-    match want {
-        None => Ok(None),
-        Some(want) => item_begins(alloc, want, c),
+    if !begins_identifier(c) {
+        return Ok(None);
     }
+    reached.word.clear();
+    reached.word.push(c)?;
+    Ok(Some(Stage::Bare))
 }
 
-/// The first character of the word `exit`.
-fn exit_begins(alloc: Global) -> Result<Mode, Memory>
-    ensures { IfOk result (λ mode. mode ≡ Mode.Exiting (101 ∷ [])) }
+/// An item that is no bracket begins where one is wanted.
+fn begin_wanted(want: Option<Want>, c: char, reached: &mut Reached) -> Result<Option<Stage>, Memory>
+    ensures { IfOk result (λ stage. then_at reached.new stage ≡ begin_wanted want c (stood reached.old)) }
 {
-    Ok(Mode::Exiting(Str::copy_of(alloc, "e")?))
+    match want {
+        Some(Want::Name) => word_begins(c, reached),
+        Some(Want::Verb) => {
+            if c == '"' {
+                reached.word.clear();
+                Ok(Some(Stage::Text(true)))
+            } else {
+                word_begins(c, reached)
+            }
+        }
+        Some(Want::Literal) => {
+            reached.word.clear();
+            Ok(literal_begins(c))
+        }
+        _ => Ok(None),
+    }
 }
 
 /// Behind a space.
-fn step_before(alloc: Global, c: char, reached: &mut Reached) -> Result<Option<Mode>, Memory>
-    ensures { IfOk result (λ mode. then_in reached.new mode ≡ step_before c (stood reached.old)) }
+fn step_before(alloc: Global, c: char, reached: &mut Reached) -> Result<Option<Stage>, Memory>
+    ensures { IfOk result (λ stage. then_at reached.new stage ≡ step_before c (stood reached.old)) }
 {
+    let next = innermost_outlook(&reached.frames);
     if c == '(' {
-        let want = next_wanted(&reached.frames);
-        return open_wanted(alloc, want, reached);
+        return open_wanted(alloc, next.wanted, reached);
     }
-    if c == 'e' && may_exit(&reached.frames) {
-        let mode = exit_begins(alloc)?;
-        return Ok(Some(mode));
+    if c == 'e' && next.exit {
+        reached.word.clear();
+        reached.word.push_str("e")?;
+        return Ok(Some(Stage::Exiting));
     }
-    let want = next_wanted(&reached.frames);
-    begin_wanted(alloc, want, c)
+    begin_wanted(next.wanted, c, reached)
 }
 
 /// Behind the bracket of a group.
-fn step_grouping(alloc: Global, c: char, reached: &mut Reached) -> Result<Option<Mode>, Memory>
-    ensures { IfOk result (λ mode. then_in reached.new mode ≡ step_grouping c (stood reached.old)) }
+fn step_grouping(alloc: Global, c: char, reached: &mut Reached) -> Result<Option<Stage>, Memory>
+    ensures { IfOk result (λ stage. then_at reached.new stage ≡ step_grouping c (stood reached.old)) }
 {
     if c == ')' {
         close(alloc, reached)
@@ -78,75 +107,71 @@ fn step_grouping(alloc: Global, c: char, reached: &mut Reached) -> Result<Option
     }
 }
 
-/// The word behind a bracket ends.
-fn begin_head(
+/// A tree begins, and its word ends before the character.
+fn step_begun(
     alloc: Global,
-    head: Option<Head>,
+    head: Head,
     c: char,
     reached: &mut Reached,
-) -> Result<Option<Mode>, Memory>
-    ensures { IfOk result (λ mode. then_in reached.new mode ≡ begin_head head c (stood reached.old)) }
+) -> Result<Option<Stage>, Memory>
+    ensures { IfOk result (λ stage. then_at reached.new stage ≡ step_behind c (begin head (stood reached.old))) }
 {
-    match head {
-        None => Ok(None),
-        Some(head) => step_begun(alloc, head, c, reached),
-    }
+    let _begun = begin(alloc, head, reached)?;
+    step_behind(alloc, c, reached)
 }
 
 /// In the word behind a bracket.
 fn step_heading(
     alloc: Global,
     kind: Kind,
-    word: Str,
     c: char,
     reached: &mut Reached,
-) -> Result<Option<Mode>, Memory>
-    ensures { IfOk result (λ mode. then_in reached.new mode ≡ step_heading kind word c (stood reached.old)) }
+) -> Result<Option<Stage>, Memory>
+    ensures { IfOk result (λ stage. then_at reached.new stage ≡ step_heading kind (string_bytes reached.old.word) c (stood reached.old)) }
 {
     if ends_word(c) {
-        return begin_head(alloc, head_of(kind, word.as_str()), c, reached);
+        return match head_of(kind, reached.word.as_str()) {
+            None => Ok(None),
+            Some(head) => step_begun(alloc, head, c, reached),
+        };
     }
-    let longer = extended(word, c)?;
-    if is_front_of_head(longer.as_str(), kind) {
-        Ok(Some(Mode::Heading(kind, longer)))
+    reached.word.push(c)?;
+    if is_front_of_head(reached.word.as_str(), kind) {
+        Ok(Some(Stage::Heading(kind)))
     } else {
         Ok(None)
     }
 }
 
 /// In the word `exit`.
-fn step_exiting(word: Str, c: char, reached: &mut Reached) -> Result<Option<Mode>, Memory>
-    ensures { IfOk result (λ mode. then_in reached.new mode ≡ step_exiting word c (stood reached.old)) }
+fn step_exiting(c: char, reached: &mut Reached) -> Result<Option<Stage>, Memory>
+    ensures { IfOk result (λ stage. then_at reached.new stage ≡ step_exiting (string_bytes reached.old.word) c (stood reached.old)) }
 {
-    if c == ' ' && word.as_str() == "exit" {
+    if c == ' ' && reached.word.as_str() == "exit" {
         set_exit(&mut reached.frames)?;
-        return Ok(Some(Mode::Before));
+        return Ok(Some(Stage::Before));
     }
-    let longer = extended(word, c)?;
-    if front("exit", longer.as_str()) {
-        Ok(Some(Mode::Exiting(longer)))
+    reached.word.push(c)?;
+    if "exit".as_bytes().starts_with(reached.word.as_bytes()) {
+        Ok(Some(Stage::Exiting))
     } else {
         Ok(None)
     }
 }
 
 /// In a noun or a bare verb.
-fn step_bare(
-    alloc: Global,
-    word: Str,
-    c: char,
-    reached: &mut Reached,
-) -> Result<Option<Mode>, Memory>
-    ensures { IfOk result (λ mode. then_in reached.new mode ≡ step_bare word c (stood reached.old)) }
+fn step_bare(alloc: Global, c: char, reached: &mut Reached) -> Result<Option<Stage>, Memory>
+    ensures { IfOk result (λ stage. then_at reached.new stage ≡ step_bare (string_bytes reached.old.word) c (stood reached.old)) }
 {
     if ends_word(c) {
-        if is_identifier(word.as_str()) {
-            item_ends(alloc, Item::Word(word), c, reached)
-        } else {
-            Ok(None)
+        if !is_identifier(reached.word.as_str()) {
+            return Ok(None);
         }
+        let word = take_word(alloc, &mut reached.word);
+        item_ends(alloc, Item::Word(word), c, reached)
     } else if continues_identifier(c) {
-        Ok(Some(Mode::Bare(extended(word, c)?)))
+        reached.word.push(c)?;
+        Ok(Some(Stage::Bare))
     } else {
         Ok(None)
     }
@@ -159,8 +184,8 @@ fn step_digits(
     number: i128,
     c: char,
     reached: &mut Reached,
-) -> Result<Option<Mode>, Memory>
-    ensures { IfOk result (λ mode. then_in reached.new mode ≡ step_digits minus number c (stood reached.old)) }
+) -> Result<Option<Stage>, Memory>
+    ensures { IfOk result (λ stage. then_at reached.new stage ≡ step_digits minus number c (stood reached.old)) }
 {
     if !is_digit(c) {
         return item_ends(alloc, Item::Literal(Literal::Int(number)), c, reached);
@@ -170,166 +195,172 @@ fn step_digits(
     }
     match with_digit(minus, digit_value(c), number) {
         None => Ok(None),
-        Some(longer) => Ok(Some(Mode::Digits(minus, longer))),
+        Some(longer) => Ok(Some(Stage::Digits(minus, longer))),
     }
 }
 
 /// Behind a `-`.
-fn step_negative(c: char) -> Option<Mode>
-    ensures { (r : Reached) → then_in r result ≡ step_negative c (stood r) }
+fn step_negative(c: char) -> Option<Stage>
+    ensures { (r : Reached) → then_at r result ≡ step_negative c (stood r) }
 {
     if is_digit(c) && c != '0' {
-        Some(Mode::Digits(true, -digit_value(c)))
+        Some(Stage::Digits(true, -digit_value(c)))
     } else {
         None
     }
 }
 
-/// The quote behind a text, which ends it where it may end.
-fn text_ends(
-    alloc: Global,
-    verb: bool,
-    word: Str,
-    reached: &mut Reached,
-) -> Result<Option<Mode>, Memory>
-    ensures { IfOk result (λ mode. then_in reached.new mode ≡ step_text verb word 34 (stood reached.old)) }
+/// The quote behind a text, which ends it where it may end: a verb that is an identifier stands bare.
+fn text_ends(alloc: Global, verb: bool, reached: &mut Reached) -> Result<Option<Stage>, Memory>
+    ensures { IfOk result (λ stage. then_at reached.new stage ≡ step_text verb (string_bytes reached.old.word) 34 (stood reached.old)) }
 {
-    if !may_end_text(verb, &word) {
+    if verb && is_identifier(reached.word.as_str()) {
         return Ok(None);
     }
-    let item = text_item(alloc, verb, word)?;
-    add_item(item, &mut reached.frames)?;
-    Ok(Some(Mode::Behind))
+    let word = take_word(alloc, &mut reached.word);
+    if verb {
+        add_item(Item::Word(word), &mut reached.frames)?;
+    } else {
+        let text = Text::of(alloc, word)?;
+        add_item(Item::Literal(Literal::Text(text)), &mut reached.frames)?;
+    }
+    Ok(Some(Stage::Behind))
 }
 
 /// In a text.
 fn step_text(
     alloc: Global,
     verb: bool,
-    word: Str,
     c: char,
     reached: &mut Reached,
-) -> Result<Option<Mode>, Memory>
-    ensures { IfOk result (λ mode. then_in reached.new mode ≡ step_text verb word c (stood reached.old)) }
+) -> Result<Option<Stage>, Memory>
+    ensures { IfOk result (λ stage. then_at reached.new stage ≡ step_text verb (string_bytes reached.old.word) c (stood reached.old)) }
 {
     if c == '"' {
-        text_ends(alloc, verb, word, reached)
+        text_ends(alloc, verb, reached)
     } else if c == '\\' {
-        Ok(Some(Mode::TextEscape(verb, word)))
+        Ok(Some(Stage::TextEscape(verb)))
     } else if c < ' ' {
         Ok(None)
     } else {
-        Ok(Some(Mode::Text(verb, extended(word, c)?)))
+        reached.word.push(c)?;
+        Ok(Some(Stage::Text(verb)))
     }
 }
 
 /// Behind a backslash in a text.
-fn step_text_escape(verb: bool, word: Str, c: char) -> Result<Option<Mode>, Memory>
-    ensures { IfOk result (λ mode. (r : Reached) → then_in r mode ≡ step_text_escape verb word c (stood r)) }
+fn step_text_escape(verb: bool, c: char, reached: &mut Reached) -> Result<Option<Stage>, Memory>
+    ensures { IfOk result (λ stage. then_at reached.new stage ≡ step_text_escape verb (string_bytes reached.old.word) c (stood reached.old)) }
 {
     if c == 'u' {
-        return Ok(Some(Mode::TextNumber(verb, word, Place::First)));
+        return Ok(Some(Stage::TextNumber(verb, Place::First)));
     }
     match letter_escape(c) {
         None => Ok(None),
-        Some(e) => Ok(Some(Mode::Text(verb, extended(word, e)?))),
+        Some(e) => {
+            reached.word.push(e)?;
+            Ok(Some(Stage::Text(verb)))
+        }
+    }
+}
+
+/// In an escape of a text by a number.
+fn step_text_number(
+    verb: bool,
+    place: Place,
+    c: char,
+    reached: &mut Reached,
+) -> Result<Option<Stage>, Memory>
+    ensures { IfOk result (λ stage. then_at reached.new stage ≡ step_in (mode_of (Stage.TextNumber verb place) (string_bytes reached.old.word)) c (stood reached.old)) }
+{
+    match number_digit(place, c) {
+        None => Ok(None),
+        Some(Digit::More(next)) => Ok(Some(Stage::TextNumber(verb, next))),
+        Some(Digit::Made(e)) => {
+            reached.word.push(e)?;
+            Ok(Some(Stage::Text(verb)))
+        }
     }
 }
 
 /// Behind the first quote of a character.
-fn step_character(c: char) -> Option<Mode>
-    ensures { (r : Reached) → then_in r result ≡ step_character c (stood r) }
+fn step_character(c: char) -> Option<Stage>
+    ensures { (r : Reached) → then_at r result ≡ step_character c (stood r) }
 {
     if c == '\\' {
-        Some(Mode::CharacterEscape)
+        Some(Stage::CharacterEscape)
     } else if c == '\'' || c == '"' || c < ' ' {
         None
     } else {
-        Some(Mode::CharacterEnd(c))
+        Some(Stage::CharacterEnd(c))
     }
 }
 
-/// Behind a backslash between `'`.
-fn step_character_escape(c: char) -> Option<Mode>
-    ensures { (r : Reached) → then_in r result ≡ step_character_escape c (stood r) }
+/// Behind a backslash between `'`, which has an escape of its own there.
+fn step_character_escape(c: char) -> Option<Stage>
+    ensures { (r : Reached) → then_at r result ≡ step_character_escape c (stood r) }
 {
-    if c == 'u' {
-        return Some(Mode::CharacterNumber(Place::First));
+    match c {
+        'u' => Some(Stage::CharacterNumber(Place::First)),
+        '\'' => Some(Stage::CharacterEnd('\'')),
+        _ => match letter_escape(c) {
+            None => None,
+            Some(e) => Some(Stage::CharacterEnd(e)),
+        },
     }
-    match character_letter(c) {
+}
+
+/// In an escape of a character by a number.
+fn step_character_number(place: Place, c: char) -> Option<Stage>
+    ensures { (r : Reached) → then_at r result ≡ step_in (mode_of (Stage.CharacterNumber place) []) c (stood r) }
+{
+    match number_digit(place, c) {
         None => None,
-        Some(e) => Some(Mode::CharacterEnd(e)),
+        Some(Digit::More(next)) => Some(Stage::CharacterNumber(next)),
+        Some(Digit::Made(e)) => Some(Stage::CharacterEnd(e)),
     }
 }
 
 /// Behind a character.
-fn step_character_end(e: char, c: char, reached: &mut Reached) -> Result<Option<Mode>, Memory>
-    ensures { IfOk result (λ mode. then_in reached.new mode ≡ step_character_end e c (stood reached.old)) }
+fn step_character_end(e: char, c: char, reached: &mut Reached) -> Result<Option<Stage>, Memory>
+    ensures { IfOk result (λ stage. then_at reached.new stage ≡ step_character_end e c (stood reached.old)) }
 {
     if c != '\'' {
         return Ok(None);
     }
     add_item(Item::Literal(Literal::Char(e)), &mut reached.frames)?;
-    Ok(Some(Mode::Behind))
+    Ok(Some(Stage::Behind))
 }
 
-/// In an escape of a text by a number.
-fn step_text_number(verb: bool, word: Str, place: Place, c: char) -> Result<Option<Mode>, Memory>
-    ensures { IfOk result (λ mode. (r : Reached) → then_in r mode ≡ step_in (Mode.TextNumber verb word place) c (stood r)) }
-{
-    match number_digit(place, c) {
-        None => Ok(None),
-        Some(digit) => Ok(Some(text_digit(verb, word, digit)?)),
-    }
-}
-
-/// In an escape of a character by a number.
-fn step_character_number(place: Place, c: char) -> Option<Mode>
-    ensures { (r : Reached) → then_in r result ≡ step_in (Mode.CharacterNumber place) c (stood r) }
-{
-    match number_digit(place, c) {
-        None => None,
-        Some(digit) => Some(character_digit(digit)),
-    }
-}
-
-/// The bracket of the root.
-fn step_opening(alloc: Global, kind: Kind, c: char) -> Option<Mode>
-    ensures { (r : Reached) → then_in r result ≡ step_in (Mode.Opening kind) c (stood r) }
-{
-    if c == '(' {
-        Some(Mode::Heading(kind, Str::new(alloc)))
-    } else {
-        None
-    }
-}
-
-/// The state behind a character in a mode, where some form goes on with it.
-pub(crate) fn step_in(
+/// The stage behind a character, where some form goes on with it.
+pub(crate) fn step(
     alloc: Global,
-    mode: Mode,
+    stage: Stage,
     c: char,
     reached: &mut Reached,
-) -> Result<Option<Mode>, Memory>
-    ensures { IfOk result (λ next. then_in reached.new next ≡ step_in mode c (stood reached.old)) }
+) -> Result<Option<Stage>, Memory>
+    ensures { IfOk result (λ next. then_at reached.new next ≡ step c (at_stage reached.old stage)) }
 {
-    match mode {
-        Mode::Opening(kind) => Ok(step_opening(alloc, kind, c)),
-        Mode::Heading(kind, word) => step_heading(alloc, kind, word, c, reached),
-        Mode::Behind => step_behind(alloc, c, reached),
-        Mode::Before => step_before(alloc, c, reached),
-        Mode::Grouping => step_grouping(alloc, c, reached),
-        Mode::Exiting(word) => step_exiting(word, c, reached),
-        Mode::Bare(word) => step_bare(alloc, word, c, reached),
-        Mode::Negative => Ok(step_negative(c)),
-        Mode::Digits(minus, number) => step_digits(alloc, minus, number, c, reached),
-        Mode::Text(verb, word) => step_text(alloc, verb, word, c, reached),
-        Mode::TextEscape(verb, word) => step_text_escape(verb, word, c),
-        Mode::TextNumber(verb, word, place) => step_text_number(verb, word, place, c),
-        Mode::Character => Ok(step_character(c)),
-        Mode::CharacterEscape => Ok(step_character_escape(c)),
-        Mode::CharacterNumber(place) => Ok(step_character_number(place, c)),
-        Mode::CharacterEnd(e) => step_character_end(e, c, reached),
-        Mode::Whole => Ok(None),
+    match stage {
+        Stage::Opening(kind) => match c {
+            '(' => open_wanted(alloc, Some(Want::Tree(kind)), reached),
+            _ => Ok(None),
+        },
+        Stage::Heading(kind) => step_heading(alloc, kind, c, reached),
+        Stage::Behind => step_behind(alloc, c, reached),
+        Stage::Before => step_before(alloc, c, reached),
+        Stage::Grouping => step_grouping(alloc, c, reached),
+        Stage::Exiting => step_exiting(c, reached),
+        Stage::Bare => step_bare(alloc, c, reached),
+        Stage::Negative => Ok(step_negative(c)),
+        Stage::Digits(minus, number) => step_digits(alloc, minus, number, c, reached),
+        Stage::Text(verb) => step_text(alloc, verb, c, reached),
+        Stage::TextEscape(verb) => step_text_escape(verb, c, reached),
+        Stage::TextNumber(verb, place) => step_text_number(verb, place, c, reached),
+        Stage::Character => Ok(step_character(c)),
+        Stage::CharacterEscape => Ok(step_character_escape(c)),
+        Stage::CharacterNumber(place) => Ok(step_character_number(place, c)),
+        Stage::CharacterEnd(e) => step_character_end(e, c, reached),
+        Stage::Whole => Ok(None),
     }
 }

@@ -1,54 +1,148 @@
 //! What stands in a form, by its head.
 
-ghost use Rattle.std.specs.Prelude.{◌≡◌};
-ghost use Rattle.def_kernel_form.specs.Reading.{heads, head_of, is_front_of_head, fixed, tail, more, wanted, tail_ends, ends, takes_exit};
+ghost use Rattle.std.specs.Prelude.{◌≡◌, map};
+ghost use Rattle.def_kernel_form.specs.Reading.{heads, head_of, is_front_of_head, fixed, tail, more, tail_ends, next_wanted, innermost_ends, may_exit, wanted, ends, takes_exit};
+ghost use Rattle.ev_kernel_reader.specs.Table.{entries, outlook_of};
 
+use def_kernel_form::reader::Frames;
 use def_kernel_form::shape::{Head, Kind, Tail, Want};
 
 const EXPRESSION: Want = Want::Tree(Kind::Expression);
 
 const PATTERN: Want = Want::Tree(Kind::Pattern);
 
-/// The shape of a word with which an expression begins.
+/// A word with which a tree may begin, and the shape that it stands for.
+struct Entry {
+    word: &'static str,
+    head: Head,
+}
+
+/// The words with which a tree of a kind may begin.
+fn heads(kind: Kind) -> &'static [Entry]
+    ensures { entries result.now ≡ heads kind }
+{
+    match kind {
+        Kind::Expression => &[
+            Entry {
+                word: "lit",
+                head: Head::Lit,
+            },
+            Entry {
+                word: "noun",
+                head: Head::Noun,
+            },
+            Entry {
+                word: "set",
+                head: Head::Set,
+            },
+            Entry {
+                word: "def",
+                head: Head::Def,
+            },
+            Entry {
+                word: "call",
+                head: Head::Call,
+            },
+            Entry {
+                word: "seq",
+                head: Head::Seq,
+            },
+            Entry {
+                word: "if",
+                head: Head::If,
+            },
+            Entry {
+                word: "escape",
+                head: Head::Escape,
+            },
+            Entry {
+                word: "try",
+                head: Head::Try,
+            },
+            Entry {
+                word: "finally",
+                head: Head::Finally,
+            },
+            Entry {
+                word: "hide",
+                head: Head::Hide,
+            },
+            Entry {
+                word: "match",
+                head: Head::Match,
+            },
+            Entry {
+                word: "object",
+                head: Head::Object,
+            },
+        ],
+        Kind::Pattern => &[
+            Entry {
+                word: "final",
+                head: Head::Final,
+            },
+            Entry {
+                word: "var",
+                head: Head::Var,
+            },
+            Entry {
+                word: "any",
+                head: Head::Any,
+            },
+            Entry {
+                word: "list",
+                head: Head::List,
+            },
+            Entry {
+                word: "via",
+                head: Head::Via,
+            },
+        ],
+        Kind::Member => &[
+            Entry {
+                word: "method",
+                head: Head::Method,
+            },
+            Entry {
+                word: "matcher",
+                head: Head::Matcher,
+            },
+        ],
+        Kind::Naming => &[
+            Entry {
+                word: "final",
+                head: Head::FinalName,
+            },
+            Entry {
+                word: "any",
+                head: Head::NoName,
+            },
+        ],
+    }
+}
+
+/// The shape of a word with which a tree of the kind begins.
 pub(crate) fn head_of(kind: Kind, word: &str) -> Option<Head>
     ensures { result ≡ head_of (heads kind) word.now }
 {
-    match kind {
-        Kind::Expression => match word {
-            "lit" => Some(Head::Lit),
-            "noun" => Some(Head::Noun),
-            "set" => Some(Head::Set),
-            "def" => Some(Head::Def),
-            "call" => Some(Head::Call),
-            "seq" => Some(Head::Seq),
-            "if" => Some(Head::If),
-            "escape" => Some(Head::Escape),
-            "try" => Some(Head::Try),
-            "finally" => Some(Head::Finally),
-            "hide" => Some(Head::Hide),
-            "match" => Some(Head::Match),
-            "object" => Some(Head::Object),
-            _ => None,
-        },
-        Kind::Pattern => match word {
-            "final" => Some(Head::Final),
-            "var" => Some(Head::Var),
-            "any" => Some(Head::Any),
-            "list" => Some(Head::List),
-            "via" => Some(Head::Via),
-            _ => None,
-        },
-        Kind::Member => match word {
-            "method" => Some(Head::Method),
-            "matcher" => Some(Head::Matcher),
-            _ => None,
-        },
-        Kind::Naming => match word {
-            "final" => Some(Head::FinalName),
-            "any" => Some(Head::NoName),
-            _ => None,
-        },
+    for entry in heads(kind) {
+        if word == entry.word {
+            return Some(entry.head);
+        }
     }
+    None
+}
+
+/// Whether a tree of the kind begins with a word that begins so.
+pub(crate) fn is_front_of_head(word: &str, kind: Kind) -> bool
+    ensures { result ≡ is_front_of_head word.now kind }
+{
+    for entry in heads(kind) {
+        if entry.word.as_bytes().starts_with(word.as_bytes()) {
+            return true;
+        }
+    }
+    false
 }
 
 /// What must stand behind the word, in order.
@@ -74,7 +168,7 @@ pub(crate) fn fixed(head: Head) -> &'static [Want]
 }
 
 /// What may stand behind that.
-pub(crate) fn tail(head: Head) -> Tail
+fn tail(head: Head) -> Tail
     ensures { result ≡ tail head }
 {
     match head {
@@ -88,54 +182,59 @@ pub(crate) fn tail(head: Head) -> Tail
     }
 }
 
-/// What may stand behind so many items of the tail.
-fn more(tail: Tail, count: usize) -> Option<Want>
-    ensures { result ≡ more tail count }
+/// What may stand behind so many items of the tail, and whether they are all.
+fn more(tail: Tail, count: usize) -> (Option<Want>, bool)
+    ensures { result ≡ (more tail count, tail_ends tail count) }
 {
     match (tail, count) {
-        (Tail::Many(kind), _) => Some(Want::Tree(kind)),
-        (Tail::Guard, 0) | (Tail::Caught, 1) => Some(EXPRESSION),
-        (Tail::Caught, 0) => Some(PATTERN),
-        _ => None,
+        (Tail::Many(kind), _) => (Some(Want::Tree(kind)), true),
+        (Tail::Guard, 0) => (Some(EXPRESSION), true),
+        (Tail::Caught, 0) => (Some(PATTERN), true),
+        (Tail::Caught, 1) => (Some(EXPRESSION), false),
+        _ => (None, true),
     }
 }
 
-/// What may stand behind so many items.
-pub(crate) fn wanted(head: Head, count: usize) -> Option<Want>
-    ensures { result ≡ wanted head count }
+/// What may come next in a form.
+#[derive(Clone, Copy)]
+pub(crate) struct Outlook {
+    pub wanted: Option<Want>,
+    /// Whether the form may end.
+    pub ends: bool,
+    /// Whether an ejector may come.
+    pub exit: bool,
+}
+
+/// What may come next behind so many items.
+fn outlook_of(head: Head, count: usize) -> Outlook
+    ensures { result ≡ outlook_of head count }
 {
+    let exit = matches!(head, Head::Def) && count == 1;
     let must = fixed(head);
     if count < must.len() {
-        must.get(count).copied()
-    } else {
-        more(tail(head), count - must.len())
+        let wanted = must.get(count).copied();
+        return Outlook {
+            wanted,
+            ends: false,
+            exit,
+        };
     }
+    let (wanted, ends) = more(tail(head), count - must.len());
+    Outlook { wanted, ends, exit }
 }
 
-/// Whether so many items of the tail are all.
-fn tail_ends(tail: Tail, count: usize) -> bool
-    ensures { result ≡ tail_ends tail count }
+/// What may come next in the innermost form.
+pub(crate) fn innermost_outlook(frames: &Frames) -> Outlook
+    ensures wanted { result.wanted ≡ next_wanted frames.now }
+    ensures ends { result.ends ≡ innermost_ends frames.now }
+    ensures exit { result.exit ≡ may_exit frames.now }
 {
-    match tail {
-        Tail::Caught => count != 1,
-        _ => true,
-    }
-}
-
-/// Whether so many items are all that the shape wants.
-pub(crate) fn ends(head: Head, count: usize) -> bool
-    ensures { result ≡ ends head count }
-{
-    let must = fixed(head).len();
-    must <= count && tail_ends(tail(head), count - must)
-}
-
-/// Whether an ejector may stand behind so many items.
-pub(crate) fn takes_exit(head: Head, count: usize) -> bool
-    ensures { result ≡ takes_exit head count }
-{
-    match head {
-        Head::Def => count == 1,
-        _ => false,
+    match frames.top() {
+        None => Outlook {
+            wanted: None,
+            ends: false,
+            exit: false,
+        },
+        Some(frame) => outlook_of(frame.head, frame.items.len()),
     }
 }
