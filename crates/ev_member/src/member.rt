@@ -33,12 +33,22 @@ use ev_word::Word;
 use std::alloc::Global;
 
 /// A vat with what it has for its peers. After a call that answered an error it is of no use any more.
-#[derive(Drop)]
 pub struct Member {
     pub(crate) vat: Vat,
     pub(crate) learnt: LearntTable,
     /// By the number of the peer; the vat's own is unused.
     pub(crate) connections: Vec<Connection>,
+}
+
+// By hand: a derived one is opened down to the last table in each function that owns one, and costs its proof seconds at each way out.
+impl Drop for Member {
+    fn drop(self) {
+        let Self {
+            vat: _vat,
+            learnt: _learnt,
+            connections: _connections,
+        } = self;
+    }
 }
 
 impl Member {
