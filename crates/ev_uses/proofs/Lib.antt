@@ -1,1 +1,11 @@
 pub mod Least
+pub mod Known
+pub mod Calling
+pub mod Giving
+pub mod Adding
+pub mod Leading
+pub mod Finding
+pub mod Reaching
+pub mod Comparing
+pub mod Deciding
+pub mod Walking

@@ -1,1 +1,10 @@
 pub mod Earlier
+pub mod Using
+pub mod Calls
+pub mod Kept
+pub mod Places
+pub mod Lines
+pub mod Left
+pub mod Finding
+pub mod Onward
+pub mod Sought

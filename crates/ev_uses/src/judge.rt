@@ -4,10 +4,11 @@ ghost use Rattle.std.specs.Prelude.{◌≡◌, IfOk};
 ghost use Rattle.def_trace.specs.Uses.{JudgesUses};
 ghost use Rattle.ev_uses.specs.Earlier.{earlier};
 
+use crate::changed::first_changed;
+use crate::unknown::first_unknown;
+use crate::unsent::first_unsent;
 use def_trace::Trace;
 use ev_base::Memory;
-use ev_uses_calls::first_unknown;
-use ev_uses_messages::{first_changed, first_unsent};
 use std::alloc::Global;
 
 /// The lesser of two numbers, where there are any.

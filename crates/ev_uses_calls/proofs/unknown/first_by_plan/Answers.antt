@@ -1,4 +1,0 @@
-use Rattle.ev_uses_calls.proofs.unknown.first_by_plan.Goals as goal
-
-pub returns : goal.returns
-returns c planned = c.first_by_known.ensures (c.new-knowledge.ensures.stands planned)

@@ -1,8 +1,0 @@
--- Those so far are known or made.
-use Rattle.std.proofs.Common.{take, true}
-use Rattle.def_trace.specs.Uses.{names}
-use Rattle.ev_uses_calls.specs.Using.{DecidesAll}
-use Rattle.ev_uses_calls.proofs.using.are_known.Given as goal
-
-abbrev pub invariant-loop-value : goal.invariant-loop-value
-invariant-loop-value l = DecidesAll l.fn.knowledge l.knowledge l.activation l.made (names (take l.value-index l.values)) true

@@ -1,3 +1,0 @@
-pub mod Using
-pub mod Calls
-pub mod Kept

@@ -1,4 +1,0 @@
-use Rattle.ev_uses_messages.proofs.changed.is_taken_sent.Goals as goal
-
-pub returns : goal.returns
-returns c past stand o = c.is_taken_as.ensures c.args.events.now past o (c.in_ok-sent.ensures stand)
