@@ -17,6 +17,7 @@ use Rattle.ev_known.specs.contracts.facts.FactPartialEq.TheImpl.{eq-value as fac
 use Rattle.ev_links.specs.Label.{label}
 use Rattle.ev_known.specs.Telling.{key}
 use Rattle.ev_links.proofs.Among.{IsExact}
+use Rattle.ev_links.proofs.Spreading.{exact_label}
 
 -- ---- what a label stands for
 
@@ -85,9 +86,6 @@ among_keys f (g ∷ fs) =
 
 -- ---- tests of keys
 
-label_is : (a b : Label) → IsTrue (label_eq.it a b) ↔ (a ≡ b)
-label_is a b = search rules
-
 activation_is : (a b : Activation) → IsTrue (activation_eq.it a b) ↔ (a ≡ b)
 activation_is a b = search rules
 
@@ -101,26 +99,29 @@ both_so true true h k = refl
 both_so true false h k = absurd cc
 both_so false b h k = absurd cc
 
+unlike : false ≡ true → ⊥
+unlike e = cc
+
 fact_same : (a b : Fact) → fact_eq.it a b ≡ true → a ≡ b
 fact_same (fact.Begun a) (fact.Begun b) h = ap fact.Begun ((activation_is a b).0 h)
 fact_same (fact.Opened a) (fact.Opened b) h = ap fact.Opened ((activation_is a b).0 h)
 fact_same (fact.Given a t) (fact.Given b u) h =
     let p = both (activation_eq.it a b) (label_eq.it t u) h in
-    ap (λ (x : Activation). fact.Given x t) ((activation_is a b).0 p.0) ∙ ap (fact.Given b) ((label_is t u).0 p.1)
-fact_same (fact.Made n) (fact.Made m) h = ap fact.Made ((label_is n m).0 h)
+    ap (λ (x : Activation). fact.Given x t) ((activation_is a b).0 p.0) ∙ ap (fact.Given b) (exact_label.same t u p.1)
+fact_same (fact.Made n) (fact.Made m) h = ap fact.Made (exact_label.same n m h)
 fact_same (fact.Captured n t) (fact.Captured m u) h =
     let p = both (label_eq.it n m) (label_eq.it t u) h in
-    ap (λ (x : Label). fact.Captured x t) ((label_is n m).0 p.0) ∙ ap (fact.Captured m) ((label_is t u).0 p.1)
-fact_same (fact.Audition n) (fact.Audition m) h = ap fact.Audition ((label_is n m).0 h)
-fact_same a b h = absurd cc
+    ap (λ (x : Label). fact.Captured x t) (exact_label.same n m p.0) ∙ ap (fact.Captured m) (exact_label.same t u p.1)
+fact_same (fact.Audition n) (fact.Audition m) h = ap fact.Audition (exact_label.same n m h)
+fact_same a b h = absurd (unlike h)
 
 fact_itself : (a : Fact) → fact_eq.it a a ≡ true
 fact_itself (fact.Begun a) = (activation_is a a).1 refl
 fact_itself (fact.Opened a) = (activation_is a a).1 refl
-fact_itself (fact.Given a t) = both_so (activation_eq.it a a) (label_eq.it t t) ((activation_is a a).1 refl) ((label_is t t).1 refl)
-fact_itself (fact.Made n) = (label_is n n).1 refl
-fact_itself (fact.Captured n t) = both_so (label_eq.it n n) (label_eq.it t t) ((label_is n n).1 refl) ((label_is t t).1 refl)
-fact_itself (fact.Audition n) = (label_is n n).1 refl
+fact_itself (fact.Given a t) = both_so (activation_eq.it a a) (label_eq.it t t) ((activation_is a a).1 refl) (exact_label.itself t)
+fact_itself (fact.Made n) = exact_label.itself n
+fact_itself (fact.Captured n t) = both_so (label_eq.it n n) (label_eq.it t t) (exact_label.itself n) (exact_label.itself t)
+fact_itself (fact.Audition n) = exact_label.itself n
 
 pub exact_fact : IsExact fact_eq.it
 exact_fact = record { same = fact_same; itself = fact_itself }

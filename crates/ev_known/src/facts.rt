@@ -37,9 +37,14 @@ pub enum Fact {
 }
 
 /// Facts that were told. Contracts see them as a list, in which each stands once.
-#[derive(Drop)]
 pub struct Facts {
     told: IndexSet<Fact>,
+}
+
+impl Drop for Facts {
+    fn drop(self) {
+        let Self { told: _told } = self;
+    }
 }
 
 impl Model for Facts {
@@ -49,31 +54,6 @@ impl Model for Facts {
     ghost Value = { List Fact };
 
     ghost view = { λ f. f.told.keys };
-}
-
-/// Whether a set has a fact.
-#[tactic(auto, unfolding(crate::specs::Telling::is_told))]
-fn has(told: &IndexSet<Fact>, fact: Fact) -> bool
-    ensures { result ≡ is_told told.now.keys fact }
-{
-    told.contains(&fact)
-}
-
-/// Adds a fact to a set.
-#[tactic(auto, unfolding(crate::specs::Telling::with_fact))]
-fn add(told: &mut IndexSet<Fact>, fact: Fact) -> Result<(), Memory>
-    ensures { OnOk result (told.new.keys ≡ with_fact told.old.keys fact) }
-{
-    told.insert_full(fact)?;
-    Ok(())
-}
-
-/// The fact of a number.
-fn fact_at(told: &IndexSet<Fact>, index: usize) -> Fact
-    requires { index < length told.now.keys }
-    ensures { slice_get told.now.keys index ≡ Some result }
-{
-    told.as_slice()[index]
 }
 
 /// The activation of a number at a place.
@@ -95,10 +75,11 @@ impl Facts {
     }
 
     /// Whether a fact was told.
+    #[tactic(auto, unfolding(crate::specs::Telling::is_told))]
     pub fn has(&self, fact: Fact) -> bool
         ensures { result ≡ is_told self.now fact }
     {
-        has(&self.told, fact)
+        self.told.contains(&fact)
     }
 
     /// How many were told.
@@ -113,14 +94,16 @@ impl Facts {
         requires { index < length self.now }
         ensures { slice_get self.now index ≡ Some result }
     {
-        fact_at(&self.told, index)
+        self.told.as_slice()[index]
     }
 
     /// A fact is told.
+    #[tactic(auto, unfolding(crate::specs::Telling::with_fact))]
     fn tell(&mut self, fact: Fact) -> Result<(), Memory>
         ensures { OnOk result (self.new ≡ with_fact self.old fact) }
     {
-        add(&mut self.told, fact)
+        self.told.insert_full(fact)?;
+        Ok(())
     }
 
     /// An activation is given what a value is.

@@ -25,9 +25,14 @@ pub enum Goal {
 }
 
 /// What the first line of a kind gives for each name at each place.
-#[derive(Drop)]
 pub struct Firsts {
     given: IndexMap<Spot, Goal>,
+}
+
+impl Drop for Firsts {
+    fn drop(self) {
+        let Self { given: _given } = self;
+    }
 }
 
 impl Model for Firsts {
@@ -38,33 +43,6 @@ impl Model for Firsts {
     ghost Value = { List (Spot × Goal) };
 
     ghost view = { λ f. f.given.entries };
-}
-
-/// What is given at a spot.
-#[tactic(auto, unfolding(crate::specs::Following::goal_at))]
-fn find_in(given: &IndexMap<Spot, Goal>, spot: Spot) -> Option<Goal>
-    ensures { result ≡ goal_at given.now.entries spot }
-{
-    given.get(&spot).copied()
-}
-
-/// Puts what is given at a spot, which has none.
-#[tactic(auto, unfolding(crate::specs::Following::goal_at))]
-fn insert_in(given: &mut IndexMap<Spot, Goal>, spot: Spot, goal: Goal) -> Result<(), Memory>
-    ensures { OnOk result (Puts spot goal given.old.entries given.new.entries) }
-{
-    given.insert(spot, goal)?;
-    Ok(())
-}
-
-/// Notes what is given at a spot, unless something was.
-fn note_in(given: &mut IndexMap<Spot, Goal>, spot: Spot, goal: Goal) -> Result<(), Memory>
-    ensures { OnOk result (Noted spot goal (is_some (goal_at given.old.entries spot)) given.old.entries given.new.entries) }
-{
-    if find_in(given, spot).is_some() {
-        return Ok(());
-    }
-    insert_in(given, spot, goal)
 }
 
 /// What a value gives.
@@ -89,17 +67,30 @@ impl Firsts {
     }
 
     /// What is given for a name at a place.
+    #[tactic(auto, unfolding(crate::specs::Following::goal_at))]
     fn find(&self, at: u64, name: Label) -> Option<Goal>
         ensures { result ≡ goal_at self.now (record { at = at; name = name }) }
     {
-        find_in(&self.given, Spot { at, name })
+        self.given.get(&Spot { at, name }).copied()
+    }
+
+    /// Puts what is given for a name at a place, which has none.
+    #[tactic(auto, unfolding(crate::specs::Following::goal_at))]
+    fn put(&mut self, at: u64, name: Label, goal: Goal) -> Result<(), Memory>
+        ensures { OnOk result (Puts (record { at = at; name = name }) goal self.old self.new) }
+    {
+        self.given.insert(Spot { at, name }, goal)?;
+        Ok(())
     }
 
     /// Notes what is given for a name at a place, unless something was.
     fn note(&mut self, at: u64, name: Label, goal: Goal) -> Result<(), Memory>
         ensures { OnOk result (Noted (record { at = at; name = name }) goal (is_some (goal_at self.old (record { at = at; name = name }))) self.old self.new) }
     {
-        note_in(&mut self.given, Spot { at, name }, goal)
+        if self.find(at, name).is_some() {
+            return Ok(());
+        }
+        self.put(at, name, goal)
     }
 }
 
@@ -160,9 +151,9 @@ fn stride(
     }
 }
 
-/// The object to which a name leads at a place. There is none where it comes to data, to an end, or back.
+/// The object to which a name leads at a place, where no name was seen yet. There is none where it comes to data, to an end, or back.
 fn follow_in(
-    alloc: Global,
+    seen: &mut Labels,
     settled: &Firsts,
     viewed: &Firsts,
     plan: &Plan,
@@ -170,9 +161,8 @@ fn follow_in(
     at: u64,
     name: Label,
 ) -> Result<Option<Label>, Memory>
-    ensures { ChainsStand plan.now told.now settled.now → IfOk result (λ object. FollowsTo settled.now viewed.now at name object) }
+    ensures { seen.old ≡ [] → ChainsStand plan.now told.now settled.now → IfOk result (λ object. FollowsTo settled.now viewed.now at name object) }
 {
-    let mut seen = Labels::new(alloc);
     let mut current = name;
     while !is_object(&current) {
         let _count = seen.len();
@@ -295,12 +285,22 @@ fn tell_chain(
 
 /// What names settled to and have as their views, by the first line that says so of each at each place. Of chains that were planned,
 /// how far they have come.
-#[derive(Drop)]
 pub struct Following {
     settled: Firsts,
     viewed: Firsts,
     plan: Plan,
     told: Ends,
+}
+
+impl Drop for Following {
+    fn drop(self) {
+        let Self {
+            settled: _settled,
+            viewed: _viewed,
+            plan: _plan,
+            told: _told,
+        } = self;
+    }
 }
 
 impl Model for Following {
@@ -341,8 +341,9 @@ impl Following {
         ensures { (past : List Line) → TablesStand self.now past → IfOk result (λ object. FollowedAs past at name.now object) }
     {
         let start = name_label(name);
+        let mut seen = Labels::new(alloc);
         follow_in(
-            alloc,
+            &mut seen,
             &self.settled,
             &self.viewed,
             &self.plan,

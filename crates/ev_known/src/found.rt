@@ -18,9 +18,14 @@ pub struct Finding {
 }
 
 /// What was found. Contracts see it as a list, in which each stands once.
-#[derive(Drop)]
 pub struct Found {
     set: IndexSet<Finding>,
+}
+
+impl Drop for Found {
+    fn drop(self) {
+        let Self { set: _set } = self;
+    }
 }
 
 impl Model for Found {
@@ -30,23 +35,6 @@ impl Model for Found {
     ghost Value = { List Finding };
 
     ghost view = { λ f. f.set.keys };
-}
-
-/// Whether a set has it.
-#[tactic(auto, unfolding(crate::specs::Found::is_found))]
-fn has_in(set: &IndexSet<Finding>, finding: Finding) -> bool
-    ensures { result ≡ is_found set.now.keys finding }
-{
-    set.contains(&finding)
-}
-
-/// Adds it to a set.
-#[tactic(auto, unfolding(crate::specs::Found::with_found))]
-fn add_in(set: &mut IndexSet<Finding>, finding: Finding) -> Result<(), Memory>
-    ensures { OnOk result (set.new.keys ≡ with_found set.old.keys finding) }
-{
-    set.insert_full(finding)?;
-    Ok(())
 }
 
 impl Found {
@@ -60,10 +48,11 @@ impl Found {
     }
 
     /// Whether it was found.
+    #[tactic(auto, unfolding(crate::specs::Found::is_found))]
     pub fn has(&self, finding: Finding) -> bool
         ensures { result ≡ is_found self.now finding }
     {
-        has_in(&self.set, finding)
+        self.set.contains(&finding)
     }
 
     /// How much was found.
@@ -73,10 +62,19 @@ impl Found {
         self.set.len()
     }
 
+    /// What was found is let go. The memory is kept.
+    pub fn clear(&mut self)
+        ensures { self.new ≡ [] }
+    {
+        self.set.clear();
+    }
+
     /// It is found.
+    #[tactic(auto, unfolding(crate::specs::Found::with_found))]
     pub fn add(&mut self, finding: Finding) -> Result<(), Memory>
         ensures { OnOk result (self.new ≡ with_found self.old finding) }
     {
-        add_in(&mut self.set, finding)
+        self.set.insert_full(finding)?;
+        Ok(())
     }
 }

@@ -1,7 +1,8 @@
 //! What activations know by the lines so far.
 
-ghost use Rattle.std.specs.Prelude.{◌≡◌, ◌↔◌, ◌∷◌, ◌<◌, [], ◌&&◌, List, IfOk, IsTrue, OnOk, length};
-ghost use Rattle.def_trace.specs.Uses.{AName, Line, Knows};
+ghost use Rattle.std.specs.Prelude.{◌≡◌, false, ◌↔◌, ◌∷◌, ◌<◌, [], ◌&&◌, List, IfOk, IsTrue, OnOk, length};
+ghost use Rattle.def_trace.specs.Uses.{AName, Line, Knows, Thing};
+ghost use Rattle.ev_links.specs.Label.{label as label_of};
 ghost use Rattle.ev_links.specs.Chains.{PlanStands};
 ghost use Rattle.ev_known.specs.Knowing.{KnownStand, LeadsToAudition, Searched, any_leads, has_captured, has_in, is_chained, is_led, is_root_label, knows_in, leads_from};
 ghost use Rattle.ev_known.specs.Telling.{is_told};
@@ -20,7 +21,6 @@ use std::alloc::Global;
 use std::marker::Model;
 
 /// What the lines so far tell of who knows what.
-#[derive(Drop)]
 pub struct Knowledge {
     facts: Facts,
     following: Following,
@@ -32,6 +32,19 @@ pub struct Knowledge {
 
 /// So many findings are kept at most, which take some 20 MB.
 const MOST_FOUND: usize = 262_144;
+
+impl Drop for Knowledge {
+    fn drop(self) {
+        let Self {
+            facts: _facts,
+            following: _following,
+            runs: _runs,
+            links: _links,
+            marks: _marks,
+            found: _found,
+        } = self;
+    }
+}
 
 impl Model for Knowledge {
     ghost use Rattle.ev_known.specs.Knowing.{Known};
@@ -74,7 +87,6 @@ fn has_captured(facts: &Facts, object: Option<Label>, label: Label) -> bool
 impl Knowledge {
     /// Before the first line, with a plan of the chains of the whole history. It may be any: by chains that are not in it,
     /// names are sought from one to the next. It takes no memory.
-    #[tactic(auto, using(crate::proofs::Knowing::none_known))]
     pub fn new(alloc: Global, plan: Plan) -> Knowledge
         ensures stands { PlanStands plan → KnownStand result [] }
         ensures plan { result.following.plan ≡ plan }
@@ -197,13 +209,13 @@ impl Knowledge {
 
     /// Makes room for one more finding: what was found is let go where it is much, and is sought again when it is used.
     #[tactic(auto, using(crate::proofs::Knowing::none_found_stand))]
-    fn make_room(&mut self, alloc: Global)
+    fn make_room(&mut self)
         ensures { (past : List Line) → KnownStand self.old past → KnownStand self.new past }
     {
         if self.found.len() < MOST_FOUND {
             return;
         }
-        self.found = Found::new(alloc);
+        self.found.clear();
     }
 
     /// Keeps that an activation knows a thing, where something that it knows already leads to it.
@@ -222,7 +234,6 @@ impl Knowledge {
     /// The same for the labels up to a place, from there back to the first.
     fn keep_back(
         &mut self,
-        alloc: Global,
         activation: Activation,
         labels: &Labels,
         last: usize,
@@ -231,10 +242,29 @@ impl Knowledge {
         ensures { (past : List Line) → KnownStand self.old past → OnOk result (KnownStand self.new past) }
     {
         for back in 0..=last {
-            self.make_room(alloc);
+            self.make_room();
             self.keep(activation, labels.at(last - back))?;
         }
         Ok(())
+    }
+
+    /// Whether something that an activation knows already leads to a thing, from one to the next. What is found on the way is kept.
+    /// No label is given yet.
+    fn seek(
+        &mut self,
+        labels: &mut Labels,
+        activation: Activation,
+        label: Label,
+    ) -> Result<bool, Memory>
+        ensures { (past : List Line) (thing : Thing) → KnownStand self.old past → labels.old ≡ [] → label ≡ label_of thing → knows_in self.old activation label ≡ false
+            → IfOk result (λ known. (IsTrue known ↔ Knows past (record { at = activation.at; number = activation.number }) thing) × KnownStand self.new past) }
+    {
+        labels.add(label)?;
+        let Some(place) = self.search(activation, labels)? else {
+            return Ok(false);
+        };
+        self.keep_back(activation, labels, place)?;
+        Ok(true)
     }
 
     /// Whether an activation knows a name by the lines so far. What is found on the way is kept.
@@ -254,12 +284,7 @@ impl Knowledge {
             return Ok(true);
         }
         let mut labels = Labels::new(alloc);
-        labels.add(label)?;
-        let Some(place) = self.search(activation, &mut labels)? else {
-            return Ok(false);
-        };
-        self.keep_back(alloc, activation, &labels, place)?;
-        Ok(true)
+        self.seek(&mut labels, activation, label)
     }
 
     /// Whether a name leads to an audition at a place by the lines so far. Time grows with the names on the way.

@@ -30,9 +30,14 @@ pub struct Mark {
 }
 
 /// Where the first name stands in a chain that its holder has. Contracts see each with its holder and its chain.
-#[derive(Drop)]
 pub struct Marks {
     places: IndexMap<Mark, u64>,
+}
+
+impl Drop for Marks {
+    fn drop(self) {
+        let Self { places: _places } = self;
+    }
 }
 
 impl Model for Marks {
@@ -42,23 +47,6 @@ impl Model for Marks {
     ghost Value = { List (Mark × ℕ) };
 
     ghost view = { λ m. m.places.entries };
-}
-
-/// The place that is marked.
-#[tactic(auto, unfolding(crate::specs::Marks::mark_at))]
-fn find_in(places: &IndexMap<Mark, u64>, mark: Mark) -> Option<u64>
-    ensures { result ≡ mark_at places.now.entries mark }
-{
-    places.get(&mark).copied()
-}
-
-/// Marks a place.
-#[tactic(auto, unfolding(crate::specs::Marks::mark_at))]
-fn put_in(places: &mut IndexMap<Mark, u64>, mark: Mark, place: u64) -> Result<(), Memory>
-    ensures { OnOk result (PutsMark mark place places.old.entries places.new.entries) }
-{
-    places.insert(mark, place)?;
-    Ok(())
 }
 
 /// Whether a place is marked, and no other one comes before it.
@@ -82,17 +70,20 @@ impl Marks {
     }
 
     /// The place that is marked.
+    #[tactic(auto, unfolding(crate::specs::Marks::mark_at))]
     fn find(&self, mark: Mark) -> Option<u64>
         ensures { result ≡ mark_at self.now mark }
     {
-        find_in(&self.places, mark)
+        self.places.get(&mark).copied()
     }
 
     /// Marks a place.
+    #[tactic(auto, unfolding(crate::specs::Marks::mark_at))]
     fn put(&mut self, mark: Mark, place: u64) -> Result<(), Memory>
         ensures { OnOk result (PutsMark mark place self.old self.new) }
     {
-        put_in(&mut self.places, mark, place)
+        self.places.insert(mark, place)?;
+        Ok(())
     }
 
     /// Whether the holder has something that stands there, or before that in the same chain.

@@ -16,9 +16,14 @@ use std::alloc::Global;
 use std::marker::Model;
 
 /// The object whose code each activation runs.
-#[derive(Drop)]
 pub struct Runs {
     objects: IndexMap<Activation, Label>,
+}
+
+impl Drop for Runs {
+    fn drop(self) {
+        let Self { objects: _objects } = self;
+    }
 }
 
 impl Model for Runs {
@@ -29,27 +34,6 @@ impl Model for Runs {
     ghost Value = { List (Activation × Label) };
 
     ghost view = { λ r. r.objects.entries };
-}
-
-/// The object of an activation.
-#[tactic(auto, unfolding(crate::specs::Runs::runner))]
-fn find_in(objects: &IndexMap<Activation, Label>, activation: Activation) -> Option<Label>
-    ensures { result ≡ runner objects.now.entries activation }
-{
-    objects.get(&activation).copied()
-}
-
-/// Puts the object of an activation.
-#[tactic(auto, unfolding(crate::specs::Runs::runner))]
-fn put_in(
-    objects: &mut IndexMap<Activation, Label>,
-    activation: Activation,
-    object: Label,
-) -> Result<(), Memory>
-    ensures { OnOk result (RunsPut activation object objects.old.entries objects.new.entries) }
-{
-    objects.insert(activation, object)?;
-    Ok(())
 }
 
 impl Runs {
@@ -64,17 +48,20 @@ impl Runs {
     }
 
     /// The object whose code an activation runs.
+    #[tactic(auto, unfolding(crate::specs::Runs::runner))]
     pub fn find(&self, activation: Activation) -> Option<Label>
         ensures { result ≡ runner self.now activation }
     {
-        find_in(&self.objects, activation)
+        self.objects.get(&activation).copied()
     }
 
     /// An activation runs the code of an object.
+    #[tactic(auto, unfolding(crate::specs::Runs::runner))]
     fn put(&mut self, activation: Activation, object: Label) -> Result<(), Memory>
         ensures { OnOk result (RunsPut activation object self.old self.new) }
     {
-        put_in(&mut self.objects, activation, object)
+        self.objects.insert(activation, object)?;
+        Ok(())
     }
 
     /// An activation begins with a target, unless it has begun.

@@ -5,17 +5,17 @@ use Rattle.ev_known.proofs.Walking.{Walking, walking_init, walking_step, walking
 use Rattle.ev_known.proofs.following.follow_in.Goals as goal
 
 pub loop-seen-init : goal.loop-seen-init
-loop-seen-init c h =
-    subst (λ (ls : List Label). Walking c.args.settled.now c.args.viewed.now c.args.at c.args.name ls c.args.name) (sym c.new-seen.ensures)
+loop-seen-init c empty h =
+    subst (λ (ls : List Label). Walking c.args.settled.now c.args.viewed.now c.args.at c.args.name ls c.args.name) (sym empty)
     (walking_init c.args.settled.now c.args.viewed.now c.args.at c.args.name)
 
 pub returns-then-has : goal.returns-then-has
-returns-then-has c h =
-    walking_back c.args.settled.now c.args.viewed.now c.args.at c.args.name c.loop-seen.seen c.loop-seen.current (c.loop-seen.invariant h) (sym c.has.ensures ∙ c.if-has.true)
+returns-then-has c empty h =
+    walking_back c.args.settled.now c.args.viewed.now c.args.at c.args.name c.loop-seen.seen c.loop-seen.current (c.loop-seen.invariant empty h) (sym c.has.ensures ∙ c.if-has.true)
 
 pub returns-in_default : goal.returns-in_default
-returns-in_default c h =
-    walking_end c.args.settled.now c.args.viewed.now c.args.at c.args.name c.loop-seen.seen c.loop-seen.current (c.loop-seen.invariant h) (sym c.is_object.ensures ∙ c.loop-seen-test.true)
+returns-in_default c empty h =
+    walking_end c.args.settled.now c.args.viewed.now c.args.at c.args.name c.loop-seen.seen c.loop-seen.current (c.loop-seen.invariant empty h) (sym c.is_object.ensures ∙ c.loop-seen-test.true)
     (subst (StridesTo c.args.settled.now c.args.viewed.now c.args.at c.loop-seen.current) c.in_default.is
     (c.stride.ensures (sym c.is_object.ensures ∙ c.loop-seen-test.true) h))
 
@@ -26,12 +26,12 @@ loop-seen-smaller c =
     omega (arith, c.len-count.ensures)
 
 pub loop-seen-preserved : goal.loop-seen-preserved
-loop-seen-preserved c h =
-    walking_step c.args.settled.now c.args.viewed.now c.args.at c.args.name c.loop-seen.seen c.add.new.self c.loop-seen.current c.in-Some.next (c.loop-seen.invariant h)
+loop-seen-preserved c empty h =
+    walking_step c.args.settled.now c.args.viewed.now c.args.at c.args.name c.loop-seen.seen c.add.new.self c.loop-seen.current c.in-Some.next (c.loop-seen.invariant empty h)
     c.in_ok-add.ensures
     (subst (StridesTo c.args.settled.now c.args.viewed.now c.args.at c.loop-seen.current) c.in-Some.is
     (c.stride.ensures (sym c.is_object.ensures ∙ c.loop-seen-test.true) h))
 
 pub returns : goal.returns
-returns c h =
-    walking_there c.args.settled.now c.args.viewed.now c.args.at c.args.name c.loop-seen.seen c.loop-seen.current (c.loop-seen.invariant h) (sym c.is_object.ensures ∙ c.loop-seen-test.false)
+returns c empty h =
+    walking_there c.args.settled.now c.args.viewed.now c.args.at c.args.name c.loop-seen.seen c.loop-seen.current (c.loop-seen.invariant empty h) (sym c.is_object.ensures ∙ c.loop-seen-test.false)

@@ -13,4 +13,4 @@ returns c past h =
     λ object leads.
     followed_as t past c.args.at c.args.name.now object inside
     (subst (λ (l : Label). FollowsTo t.settled t.viewed c.args.at l object) c.name_label-start.ensures leads)
-    ) (c.follow_in.ensures inside.chains)
+    ) (c.follow_in.ensures c.new-seen.ensures inside.chains)
