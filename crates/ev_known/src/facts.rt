@@ -37,9 +37,14 @@ pub enum Fact {
 }
 
 /// Facts that were told. Contracts see them as a list, in which each stands once.
-#[derive(Drop)]
 pub struct Facts {
     told: IndexSet<Fact>,
+}
+
+impl Drop for Facts {
+    fn drop(self) {
+        let Self { told: _told } = self;
+    }
 }
 
 impl Model for Facts {

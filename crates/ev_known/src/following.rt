@@ -25,9 +25,14 @@ pub enum Goal {
 }
 
 /// What the first line of a kind gives for each name at each place.
-#[derive(Drop)]
 pub struct Firsts {
     given: IndexMap<Spot, Goal>,
+}
+
+impl Drop for Firsts {
+    fn drop(self) {
+        let Self { given: _given } = self;
+    }
 }
 
 impl Model for Firsts {
@@ -280,12 +285,22 @@ fn tell_chain(
 
 /// What names settled to and have as their views, by the first line that says so of each at each place. Of chains that were planned,
 /// how far they have come.
-#[derive(Drop)]
 pub struct Following {
     settled: Firsts,
     viewed: Firsts,
     plan: Plan,
     told: Ends,
+}
+
+impl Drop for Following {
+    fn drop(self) {
+        let Self {
+            settled: _settled,
+            viewed: _viewed,
+            plan: _plan,
+            told: _told,
+        } = self;
+    }
 }
 
 impl Model for Following {

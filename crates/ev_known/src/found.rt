@@ -18,9 +18,14 @@ pub struct Finding {
 }
 
 /// What was found. Contracts see it as a list, in which each stands once.
-#[derive(Drop)]
 pub struct Found {
     set: IndexSet<Finding>,
+}
+
+impl Drop for Found {
+    fn drop(self) {
+        let Self { set: _set } = self;
+    }
 }
 
 impl Model for Found {

@@ -21,7 +21,6 @@ use std::alloc::Global;
 use std::marker::Model;
 
 /// What the lines so far tell of who knows what.
-#[derive(Drop)]
 pub struct Knowledge {
     facts: Facts,
     following: Following,
@@ -33,6 +32,19 @@ pub struct Knowledge {
 
 /// So many findings are kept at most, which take some 20 MB.
 const MOST_FOUND: usize = 262_144;
+
+impl Drop for Knowledge {
+    fn drop(self) {
+        let Self {
+            facts: _facts,
+            following: _following,
+            runs: _runs,
+            links: _links,
+            marks: _marks,
+            found: _found,
+        } = self;
+    }
+}
 
 impl Model for Knowledge {
     ghost use Rattle.ev_known.specs.Knowing.{Known};
@@ -75,7 +87,6 @@ fn has_captured(facts: &Facts, object: Option<Label>, label: Label) -> bool
 impl Knowledge {
     /// Before the first line, with a plan of the chains of the whole history. It may be any: by chains that are not in it,
     /// names are sought from one to the next. It takes no memory.
-    #[tactic(auto, using(crate::proofs::Knowing::none_known))]
     pub fn new(alloc: Global, plan: Plan) -> Knowledge
         ensures stands { PlanStands plan → KnownStand result [] }
         ensures plan { result.following.plan ≡ plan }

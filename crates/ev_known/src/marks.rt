@@ -30,9 +30,14 @@ pub struct Mark {
 }
 
 /// Where the first name stands in a chain that its holder has. Contracts see each with its holder and its chain.
-#[derive(Drop)]
 pub struct Marks {
     places: IndexMap<Mark, u64>,
+}
+
+impl Drop for Marks {
+    fn drop(self) {
+        let Self { places: _places } = self;
+    }
 }
 
 impl Model for Marks {

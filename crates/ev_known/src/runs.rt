@@ -16,9 +16,14 @@ use std::alloc::Global;
 use std::marker::Model;
 
 /// The object whose code each activation runs.
-#[derive(Drop)]
 pub struct Runs {
     objects: IndexMap<Activation, Label>,
+}
+
+impl Drop for Runs {
+    fn drop(self) {
+        let Self { objects: _objects } = self;
+    }
 }
 
 impl Model for Runs {

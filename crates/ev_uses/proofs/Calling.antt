@@ -38,10 +38,9 @@ pub put_back : (a : Activation) (calls xs : List OpenedCall) (old mid new : Stac
 put_back a calls xs old mid new none is put q =
     put_if (eq-value.it a q) calls (stack new q) (stack mid q) (stack old q) (put q ∙ ap (λ (ys : List OpenedCall). cond (eq-value.it a q) ys (stack mid q)) is) (none q)
 
-pub opened : (past : List Line) (at : ℕ) (c : Called) (inside now new : Stacks) (b : Bool) → inside ≡ now → (b ≡ true) ↔ AsksAudition at (record { call = c; before = past })
-    → HasStack (record { at = at; number = c.activation }) (record { begun = c.begun; asks_audition = b } ∷ stack inside (record { at = at; number = c.activation })) inside new → Opens past at c now new
-opened past at c inside now new b is asks has =
-    subst (λ (rows : Stacks). Opens past at c rows new) is (record { begun = c.begun; asks_audition = b }, (refl, asks), has)
+pub opened : (past : List Line) (at : ℕ) (c : Called) (old new : Stacks) (b : Bool) → (b ≡ true) ↔ AsksAudition at (record { call = c; before = past })
+    → HasStack (record { at = at; number = c.activation }) (record { begun = c.begun; asks_audition = b } ∷ stack old (record { at = at; number = c.activation })) old new → Opens past at c old new
+opened past at c old new b asks has = (record { begun = c.begun; asks_audition = b }, (refl, asks), has)
 
 -- ---- a line that begins or ends a call of one activation
 

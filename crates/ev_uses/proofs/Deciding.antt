@@ -26,10 +26,6 @@ pub nothing_carried : (past : List Line) (d : Option (Msg × List Thing)) → me
 nothing_carried past None e = (λ h. tt, λ h. refl)
 nothing_carried past (Some x) e = absurd cc
 
-pub carried_with : (d : Option (Msg × List Thing)) (m : Msg) → message_of d ≡ Some m → Some (m, things_with d) ≡ d
-carried_with None m is = absurd cc
-carried_with (Some x) m is = let same : x.0 ≡ m = cc in ap (λ (n : Msg). Some (n, x.1)) (sym same)
-
 carried_decided : (rows : List (Label × List Link)) (past : List Line) (d : Option (Msg × List Thing)) (m : Msg) (ts : List Thing) (carried old known : List Label) (b : Bool)
     → OnwardStand rows past → message_of d ≡ Some m → AddsThings (things_with d) [] carried → AddsThings ts [] old → ts ≡ line_before past m → AreReached rows All old known
     → b ≡ has_sought NoGifts known carried → (b ≡ true) ↔ CarriesThese past d

@@ -7,15 +7,15 @@ use Rattle.def_event.specs.declared.note.ShownNote.TheVariants.{Deliver, Deliver
 use Rattle.def_event.specs.declared.event.Event.{Event}
 use Rattle.def_event.specs.declared.event.Event.TheVariants.{Carry, Send, SendOnly, When}
 use Rattle.def_trace.specs.Uses.{Line, Thing, arguments_in, carried_with, delivered_with, first_of, had, last_of, line_before, of_delivered, of_message, or_else, same_message, sent_with}
-use Rattle.ev_uses.specs.declared.places.MessageKey.{MessageKey}
-use Rattle.ev_uses.specs.contracts.places.MessageKeyPartialEq.TheImpl.{eq-value}
-use Rattle.ev_uses.specs.Places.{Notes, NotesFor, PutsFor, Table, message_key, place_in}
+use Rattle.ev_base.specs.contracts.names.MsgPartialEq.TheImpl.{eq-value}
+use Rattle.ev_uses.specs.declared.sources.Sources.{Sources}
+use Rattle.ev_uses.specs.Places.{Notes, NotesFor, PutsFor, Table, place_in}
 use Rattle.ev_uses.specs.Lines.{carries, given_by, holds, message_of, sends, things_with}
-use Rattle.ev_uses.specs.Finding.{Finds, FindsBefore, Having, SourcesStand, SourceTables, found_at, things_at, things_by}
+use Rattle.ev_uses.specs.Finding.{Finds, FindsBefore, Having, SourcesStand, found_at, things_at, things_by}
 
--- ---- messages and their keys
+-- ---- messages as keys
 
-key_is : (a b : MessageKey) → IsTrue (eq-value.it a b) ↔ (a ≡ b)
+key_is : (a b : Msg) → IsTrue (eq-value.it a b) ↔ (a ≡ b)
 key_is a b = search rules
 
 both : (a b : Bool) → (a && b) ≡ true → (a ≡ true) × (b ≡ true)
@@ -28,16 +28,16 @@ both_so true true h k = refl
 both_so true false h k = absurd cc
 both_so false b h k = absurd cc
 
-same_is : (m n : Msg) → same_message m n ≡ true → message_key n ≡ message_key m
+same_is : (m n : Msg) → same_message m n ≡ true → n ≡ m
 same_is m n h =
     let p = both (m.sender == n.sender) (m.number == n.number) h in
     ap (λ (s : ℕ). record { sender = s; number = n.number }) (sym (eqb-true m.sender n.sender p.0)) ∙ ap (λ (k : ℕ). record { sender = m.sender; number = k }) (sym (eqb-true m.number n.number p.1))
 
-is_same : (m n : Msg) → message_key n ≡ message_key m → same_message m n ≡ true
+is_same : (m n : Msg) → n ≡ m → same_message m n ≡ true
 is_same m n h =
     both_so (m.sender == n.sender) (m.number == n.number)
-    (eq-eqb m.sender n.sender (sym (ap (λ (k : MessageKey). k.sender) h)))
-    (eq-eqb m.number n.number (sym (ap (λ (k : MessageKey). k.number) h)))
+    (eq-eqb m.sender n.sender (sym (ap (λ (k : Msg). k.sender) h)))
+    (eq-eqb m.number n.number (sym (ap (λ (k : Msg). k.number) h)))
 
 same_bools : (a b : Bool) → (a ≡ true → b ≡ true) → (b ≡ true → a ≡ true) → a ≡ b
 same_bools true b f g = sym (f refl)
@@ -45,10 +45,10 @@ same_bools false true f g = g refl
 same_bools false false f g = refl
 
 -- the test of keys is the test of messages
-key_test : (m n : Msg) → eq-value.it (message_key n) (message_key m) ≡ same_message m n
+key_test : (m n : Msg) → eq-value.it n m ≡ same_message m n
 key_test m n =
-    let both_ways = key_is (message_key n) (message_key m) in
-    same_bools (eq-value.it (message_key n) (message_key m)) (same_message m n) (λ e. is_same m n (both_ways.0 e)) (λ e. both_ways.1 (same_is m n e))
+    let both_ways = key_is n m in
+    same_bools (eq-value.it n m) (same_message m n) (λ e. is_same m n (both_ways.0 e)) (λ e. both_ways.1 (same_is m n e))
 
 -- ---- what lines have, by their messages
 
@@ -93,11 +93,11 @@ module _ (of : Having) (es : List Event) (i : ℕ) (e : Event) (at : slice_get e
       ap (found_at of es) put ∙ ap (λ (b : Bool). or_else (if b then Some ts else None) (found_at of es was)) (sym same)
 
   put_for : (o : Option (Msg × List Thing)) (m : Msg) (old new : Table) → of e ≡ o → PutsFor (message_of o) i old new
-      → found_at of es (place_in new (message_key m)) ≡ or_else (of_delivered m o) (found_at of es (place_in old (message_key m)))
-  put_for None m old new is put = ap (λ (t : Table). found_at of es (place_in t (message_key m))) put
+      → found_at of es (place_in new m) ≡ or_else (of_delivered m o) (found_at of es (place_in old m))
+  put_for None m old new is put = ap (λ (t : Table). found_at of es (place_in t m)) put
   put_for (Some d) m old new is put =
-      put_if (same_message m d.0) m d.0 d.1 (place_in old (message_key m)) (place_in new (message_key m)) is refl
-      (put (message_key m) ∙ ap (λ (b : Bool). cond b (Some i) (place_in old (message_key m))) (key_test m d.0))
+      put_if (same_message m d.0) m d.0 d.1 (place_in old m) (place_in new m) is refl
+      (put m ∙ ap (λ (b : Bool). cond b (Some i) (place_in old m)) (key_test m d.0))
 
   -- a table in which there was none
   note_if : (b : Bool) (m n : Msg) (ts : List Thing) (was now : Option ℕ) → of e ≡ Some (n, ts) → same_message m n ≡ b → now ≡ cond b (Some i) was → (b ≡ true → was ≡ None)
@@ -125,22 +125,22 @@ module _ (of : Having) (es : List Event) (i : ℕ) (e : Event) (at : slice_get e
   noted_some false m n ts o same has =
       else_none (found_at of es o) ∙ ap (λ (b : Bool). or_else (found_at of es o) (if b then Some ts else None)) (sym same)
 
-  note_by : (b : Bool) (m n : Msg) (ts : List Thing) (old new : Table) → of e ≡ Some (n, ts) → is_some (place_in old (message_key n)) ≡ b → Notes (message_key n) i b old new
-      → found_at of es (place_in new (message_key m)) ≡ or_else (found_at of es (place_in old (message_key m))) (of_message m n ts)
+  note_by : (b : Bool) (m n : Msg) (ts : List Thing) (old new : Table) → of e ≡ Some (n, ts) → is_some (place_in old n) ≡ b → Notes n i b old new
+      → found_at of es (place_in new m) ≡ or_else (found_at of es (place_in old m)) (of_message m n ts)
   note_by true m n ts old new is has noted =
-      ap (λ (t : Table). found_at of es (place_in t (message_key m))) noted
-      ∙ noted_some (same_message m n) m n ts (place_in old (message_key m)) refl
-      (λ same. ap (λ (k : MessageKey). is_some (place_in old k)) (sym (same_is m n same)) ∙ has)
+      ap (λ (t : Table). found_at of es (place_in t m)) noted
+      ∙ noted_some (same_message m n) m n ts (place_in old m) refl
+      (λ same. ap (λ (k : Msg). is_some (place_in old k)) (sym (same_is m n same)) ∙ has)
   note_by false m n ts old new is has noted =
-      note_if (same_message m n) m n ts (place_in old (message_key m)) (place_in new (message_key m)) is refl
-      (noted (message_key m) ∙ ap (λ (b : Bool). cond b (Some i) (place_in old (message_key m))) (key_test m n))
-      (λ same. ap (place_in old) (sym (same_is m n same)) ∙ none_is (place_in old (message_key n)) has)
+      note_if (same_message m n) m n ts (place_in old m) (place_in new m) is refl
+      (noted m ∙ ap (λ (b : Bool). cond b (Some i) (place_in old m)) (key_test m n))
+      (λ same. ap (place_in old) (sym (same_is m n same)) ∙ none_is (place_in old n) has)
 
   note_for : (o : Option (Msg × List Thing)) (m : Msg) (old new : Table) → of e ≡ o → NotesFor (message_of o) i old new
-      → found_at of es (place_in new (message_key m)) ≡ or_else (found_at of es (place_in old (message_key m))) (of_delivered m o)
+      → found_at of es (place_in new m) ≡ or_else (found_at of es (place_in old m)) (of_delivered m o)
   note_for None m old new is noted =
-      ap (λ (t : Table). found_at of es (place_in t (message_key m))) noted ∙ else_none (found_at of es (place_in old (message_key m)))
-  note_for (Some d) m old new is noted = note_by (is_some (place_in old (message_key d.0))) m d.0 d.1 old new is refl noted
+      ap (λ (t : Table). found_at of es (place_in t m)) noted ∙ else_none (found_at of es (place_in old m))
+  note_for (Some d) m old new is noted = note_by (is_some (place_in old d.0)) m d.0 d.1 old new is refl noted
 
 -- ---- the last line before
 
@@ -157,7 +157,7 @@ before_step es i at e past old new get put h = record {
       ∙ ap (λ (o : Option (List Thing)). or_else o (first_of (had m) (map (λ (l : Line). l.event) past))) (sym (had_is m e));
 }
 
-pub before_is : (es : List Event) (table : Table) (past : List Line) (m : Msg) → FindsBefore es table past → unwrap_or (found_at holds es (place_in table (message_key m))) [] ≡ line_before past m
+pub before_is : (es : List Event) (table : Table) (past : List Line) (m : Msg) → FindsBefore es table past → unwrap_or (found_at holds es (place_in table m)) [] ≡ line_before past m
 before_is es table past m h = ap (λ (o : Option (List Thing)). unwrap_or o []) (h.each m)
 
 -- ---- the last and the first line of a whole history
@@ -177,14 +177,14 @@ module _ {A : Type 0} (f : Event → Option A) where
   first_take (x ∷ es) zero e h = let same : x ≡ e = cc in sym (else_none (f x)) ∙ ap f same
   first_take (x ∷ es) (suc i) e h = ap (or_else (f x)) (first_take es i e h) ∙ sym (else_assoc (f x) (first_of f (take i es)) (f e))
 
-pub none_found : (es : List Event) (carried sent : Table) → carried ≡ [] → sent ≡ [] → SourcesStand es (record { carried = carried; sent = sent }) []
+pub none_found : (es : List Event) (tables : Sources) → tables.carried ≡ [] → tables.sent ≡ [] → SourcesStand es tables []
 unfolding place_in
-none_found es carried sent c s = record {
+none_found es tables c s = record {
   carried = subst (λ (t : Table). Finds carries es t (λ m. None)) (sym c) (record { each = λ m. refl });
   sent = subst (λ (t : Table). Finds sends es t (λ m. None)) (sym s) (record { each = λ m. refl });
 }
 
-pub source_step : (es : List Event) (i : ℕ) (e : Event) (old new : SourceTables) → slice_get es i ≡ Some e → PutsFor (message_of (carries e)) i old.carried new.carried
+pub source_step : (es : List Event) (i : ℕ) (e : Event) (old new : Sources) → slice_get es i ≡ Some e → PutsFor (message_of (carries e)) i old.carried new.carried
     → NotesFor (message_of (sends e)) i old.sent new.sent → SourcesStand es old (take i es) → SourcesStand es new (take (i + 1) es)
 source_step es i e old new get put note h =
     let next : suc i ≡ i + 1 = omega arith in
@@ -207,26 +207,26 @@ source_step es i e old new get put note h =
 
 -- ---- what a message was sent with
 
-arguments_are : (es : List Event) (tables : SourceTables) (m : Msg) → SourcesStand es tables es
-    → unwrap_or (or_else (found_at carries es (place_in tables.carried (message_key m))) (found_at sends es (place_in tables.sent (message_key m)))) [] ≡ arguments_in es m
+arguments_are : (es : List Event) (tables : Sources) (m : Msg) → SourcesStand es tables es
+    → unwrap_or (or_else (found_at carries es (place_in tables.carried m)) (found_at sends es (place_in tables.sent m))) [] ≡ arguments_in es m
 arguments_are es tables m h =
-    ap (λ (o : Option (List Thing)). unwrap_or (or_else o (found_at sends es (place_in tables.sent (message_key m)))) []) (h.carried.each m)
+    ap (λ (o : Option (List Thing)). unwrap_or (or_else o (found_at sends es (place_in tables.sent m))) []) (h.carried.each m)
     ∙ ap (λ (o : Option (List Thing)). unwrap_or (or_else (last_of (carried_with m) es) o) []) (h.sent.each m)
 
-module _ (es : List Event) (tables : SourceTables) (m : Msg) (h : SourcesStand es tables es) where
-  pub source_carried : (i : ℕ) (o : Option ℕ) → o ≡ place_in tables.carried (message_key m) → o ≡ Some i → things_at carries es i ≡ arguments_in es m
+module _ (es : List Event) (tables : Sources) (m : Msg) (h : SourcesStand es tables es) where
+  pub source_carried : (i : ℕ) (o : Option ℕ) → o ≡ place_in tables.carried m → o ≡ Some i → things_at carries es i ≡ arguments_in es m
   source_carried i o find is =
-      ap (λ (p : Option ℕ). unwrap_or (or_else (found_at carries es p) (found_at sends es (place_in tables.sent (message_key m)))) []) (sym is ∙ find) ∙ arguments_are es tables m h
+      ap (λ (p : Option ℕ). unwrap_or (or_else (found_at carries es p) (found_at sends es (place_in tables.sent m))) []) (sym is ∙ find) ∙ arguments_are es tables m h
 
-  pub source_sent : (i : ℕ) (o p : Option ℕ) → o ≡ place_in tables.carried (message_key m) → o ≡ None → p ≡ place_in tables.sent (message_key m) → p ≡ Some i
+  pub source_sent : (i : ℕ) (o p : Option ℕ) → o ≡ place_in tables.carried m → o ≡ None → p ≡ place_in tables.sent m → p ≡ Some i
       → things_at sends es i ≡ arguments_in es m
   source_sent i o p find none find_sent is =
       ap (λ (q : Option ℕ). unwrap_or (or_else (found_at carries es None) (found_at sends es q)) []) (sym is ∙ find_sent)
-      ∙ ap (λ (q : Option ℕ). unwrap_or (or_else (found_at carries es q) (found_at sends es (place_in tables.sent (message_key m)))) []) (sym none ∙ find)
+      ∙ ap (λ (q : Option ℕ). unwrap_or (or_else (found_at carries es q) (found_at sends es (place_in tables.sent m))) []) (sym none ∙ find)
       ∙ arguments_are es tables m h
 
-  pub source_none : (o p : Option ℕ) → o ≡ place_in tables.carried (message_key m) → o ≡ None → p ≡ place_in tables.sent (message_key m) → p ≡ None → [] ≡ arguments_in es m
+  pub source_none : (o p : Option ℕ) → o ≡ place_in tables.carried m → o ≡ None → p ≡ place_in tables.sent m → p ≡ None → [] ≡ arguments_in es m
   source_none o p find none find_sent none_sent =
       ap (λ (q : Option ℕ). unwrap_or (or_else (found_at carries es None) (found_at sends es q)) []) (sym none_sent ∙ find_sent)
-      ∙ ap (λ (q : Option ℕ). unwrap_or (or_else (found_at carries es q) (found_at sends es (place_in tables.sent (message_key m)))) []) (sym none ∙ find)
+      ∙ ap (λ (q : Option ℕ). unwrap_or (or_else (found_at carries es q) (found_at sends es (place_in tables.sent m))) []) (sym none ∙ find)
       ∙ arguments_are es tables m h

@@ -1,5 +1,5 @@
 pub mod Least
-pub mod Using
+pub mod Known
 pub mod Calling
 pub mod Giving
 pub mod Adding

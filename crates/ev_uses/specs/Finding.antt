@@ -3,7 +3,8 @@ use Rattle.std.specs.Prelude.{◌≡◌, ℕ, List, [], map, Option, Some, None,
 use Rattle.ev_base.specs.declared.names.Msg.{Msg}
 use Rattle.def_event.specs.declared.event.Event.{Event}
 use Rattle.def_trace.specs.Uses.{Line, Thing, carried_with, first_of, had, last_of, sent_with}
-use Rattle.ev_uses.specs.Places.{Table, message_key, place_in}
+use Rattle.ev_uses.specs.declared.sources.Sources.{Sources}
+use Rattle.ev_uses.specs.Places.{Table, place_in}
 use Rattle.ev_uses.specs.Lines.{carries, holds, sends, things_with}
 
 abbrev pub Having : Type 0
@@ -23,14 +24,10 @@ found_at of es (Some i) = Some (things_at of es i)
 
 -- the lines at the places of the table have what is to be found for the messages
 pub record Finds (of : Having) (es : List Event) (table : Table) (found : Msg → Option (List Thing)) : Type 0 where
-  pub each : (m : Msg) → found_at of es (place_in table (message_key m)) ≡ found m
-
-pub record SourceTables : Type 0 where
-  pub carried : Table
-  pub sent : Table
+  pub each : (m : Msg) → found_at of es (place_in table m) ≡ found m
 
 -- they find what these lines carry last and send first with each message
-pub record SourcesStand (es : List Event) (tables : SourceTables) (lines : List Event) : Type 0 where
+pub record SourcesStand (es : List Event) (tables : Sources) (lines : List Event) : Type 0 where
   pub carried : Finds carries es tables.carried (λ m. last_of (carried_with m) lines)
   pub sent : Finds sends es tables.sent (λ m. first_of (sent_with m) lines)
 

@@ -14,9 +14,14 @@ use std::alloc::Global;
 use std::marker::Model;
 
 /// The open calls of each activation. Contracts see the stacks, each with its activation.
-#[derive(Drop)]
 pub struct Calls {
     stacks: IndexMap<Activation, Stack>,
+}
+
+impl Drop for Calls {
+    fn drop(self) {
+        let Self { stacks: _stacks } = self;
+    }
 }
 
 impl Model for Calls {
@@ -27,72 +32,6 @@ impl Model for Calls {
     ghost Value = { List (Activation × List OpenedCall) };
 
     ghost view = { λ c. c.stacks.entries };
-}
-
-/// The stack of an activation, taken out.
-#[tactic(auto, unfolding(crate::specs::Calls::stack))]
-fn take_stack(
-    alloc: Global,
-    stacks: &mut IndexMap<Activation, Stack>,
-    activation: Activation,
-) -> Stack
-    ensures calls { result ≡ stack stacks.old.entries activation }
-    ensures others { HasStack activation [] stacks.old.entries stacks.new.entries }
-{
-    match stacks.swap_remove(&activation) {
-        Some(calls) => calls,
-        None => Stack::new(alloc),
-    }
-}
-
-/// An activation has these open calls from now on.
-fn put_in(
-    stacks: &mut IndexMap<Activation, Stack>,
-    activation: Activation,
-    calls: Stack,
-) -> Result<(), Memory>
-    ensures { OnOk result (HasStack activation calls stacks.old.entries stacks.new.entries) }
-{
-    stacks.insert(activation, calls)?;
-    Ok(())
-}
-
-/// A call of an activation begins.
-fn push_in(
-    alloc: Global,
-    stacks: &mut IndexMap<Activation, Stack>,
-    activation: Activation,
-    call: OpenedCall,
-) -> Result<(), Memory>
-    ensures { OnOk result (HasStack activation (call ∷ stack stacks.old.entries activation) stacks.old.entries stacks.new.entries) }
-{
-    let mut calls = take_stack(alloc, stacks, activation);
-    calls.push(call)?;
-    put_in(stacks, activation, calls)
-}
-
-/// The innermost call of an activation ends, if one is open.
-fn pop_in(
-    alloc: Global,
-    stacks: &mut IndexMap<Activation, Stack>,
-    activation: Activation,
-) -> Result<(), Memory>
-    ensures { OnOk result (HasStack activation (drop 1 (stack stacks.old.entries activation)) stacks.old.entries stacks.new.entries) }
-{
-    let mut calls = take_stack(alloc, stacks, activation);
-    calls.pop();
-    put_in(stacks, activation, calls)
-}
-
-/// The innermost open call of an activation.
-#[tactic(auto, unfolding(crate::specs::Calls::stack))]
-fn innermost_in(stacks: &IndexMap<Activation, Stack>, activation: Activation) -> Option<OpenedCall>
-    ensures { result ≡ slice_get (stack stacks.now.entries activation) 0 }
-{
-    match stacks.get(&activation) {
-        Some(calls) => calls.innermost(),
-        None => None,
-    }
 }
 
 /// The name that a call asks for a guard, if it asks one.
@@ -136,10 +75,48 @@ impl Calls {
     }
 
     /// The innermost open call of an activation.
+    #[tactic(auto, unfolding(crate::specs::Calls::stack))]
     pub fn innermost(&self, activation: Activation) -> Option<OpenedCall>
         ensures { result ≡ slice_get (stack self.now activation) 0 }
     {
-        innermost_in(&self.stacks, activation)
+        match self.stacks.get(&activation) {
+            Some(calls) => calls.innermost(),
+            None => None,
+        }
+    }
+
+    /// The stack of an activation, taken out.
+    #[tactic(auto, unfolding(crate::specs::Calls::stack))]
+    fn take(&mut self, alloc: Global, activation: Activation) -> Stack
+        ensures calls { result ≡ stack self.old activation }
+        ensures others { HasStack activation [] self.old self.new }
+    {
+        match self.stacks.swap_remove(&activation) {
+            Some(calls) => calls,
+            None => Stack::new(alloc),
+        }
+    }
+
+    /// An activation has these open calls from now on.
+    fn put(&mut self, activation: Activation, calls: Stack) -> Result<(), Memory>
+        ensures { OnOk result (HasStack activation calls self.old self.new) }
+    {
+        self.stacks.insert(activation, calls)?;
+        Ok(())
+    }
+
+    /// A call of an activation begins.
+    fn push(
+        &mut self,
+        alloc: Global,
+        activation: Activation,
+        call: OpenedCall,
+    ) -> Result<(), Memory>
+        ensures { OnOk result (HasStack activation (call ∷ stack self.old activation) self.old self.new) }
+    {
+        let mut calls = self.take(alloc, activation);
+        calls.push(call)?;
+        self.put(activation, calls)
     }
 
     /// A call begins.
@@ -158,14 +135,17 @@ impl Calls {
             begun: called.begun,
             asks_audition: asks,
         };
-        push_in(alloc, &mut self.stacks, Activation { at, number }, call)
+        self.push(alloc, Activation { at, number }, call)
     }
 
     /// The innermost call of an activation ends, if one is open.
     fn close(&mut self, alloc: Global, at: u64, number: u64) -> Result<(), Memory>
         ensures { OnOk result (Closes at number self.old self.new) }
     {
-        pop_in(alloc, &mut self.stacks, Activation { at, number })
+        let activation = Activation { at, number };
+        let mut calls = self.take(alloc, activation);
+        calls.pop();
+        self.put(activation, calls)
     }
 
     /// What an event at a place begins or ends.

@@ -1,6 +1,6 @@
 //! The first message that is taken with other arguments than it was sent with.
 
-ghost use Rattle.std.specs.Prelude.{◌≡◌, ◌↔◌, [], List, IfOk, IsTrue, OnOk};
+ghost use Rattle.std.specs.Prelude.{◌≡◌, ◌↔◌, [], List, IfOk, IsTrue};
 ghost use Rattle.def_event.specs.declared.event.Addressed.{Addressed as Taking};
 ghost use Rattle.def_event.specs.declared.event.Event.{Event as Told};
 ghost use Rattle.def_event.specs.declared.event.Event.TheVariants.{Take as TakeLine};
@@ -12,34 +12,11 @@ ghost use Rattle.ev_uses.specs.Onward.{OnwardStand};
 use crate::onward::tell_onward;
 use crate::parts::add_values;
 use crate::sought::{Sought, are_same, has_sought};
-use crate::sources::{Sources, sources_of};
-use def_event::{Addressed, Event, Shown};
-use ev_base::{Memory, Msg};
+use crate::sources::Sources;
+use def_event::{Addressed, Event};
+use ev_base::Memory;
 use ev_links::{Labels, Links, Scope, place_after};
 use std::alloc::Global;
-
-/// The names and lists in values.
-fn parts_of(alloc: Global, values: &[Shown]) -> Result<Labels, Memory>
-    ensures { IfOk result (λ labels. AddsThings (all_parts values.now) [] labels) }
-{
-    let mut labels = Labels::new(alloc);
-    add_values(alloc, &mut labels, values)?;
-    Ok(labels)
-}
-
-/// The names and lists in what a message was sent with.
-fn parts_sent(
-    alloc: Global,
-    events: &[Event],
-    sources: &Sources,
-    message: &Msg,
-) -> Result<Labels, Memory>
-    ensures { SourcesStand events.now sources.now events.now → IfOk result (λ labels. AddsThings (arguments_in events.now message.now) [] labels) }
-{
-    let mut labels = Labels::new(alloc);
-    sources.add_arguments(alloc, &mut labels, events, message)?;
-    Ok(labels)
-}
 
 /// Whether the same names stand in two lots of labels with what lists among them have. No list is taken apart where both are the same.
 fn have_same_names(links: &Links, there: &mut Labels, sent: &mut Labels) -> Result<bool, Memory>
@@ -57,18 +34,22 @@ fn have_same_names(links: &Links, there: &mut Labels, sent: &mut Labels) -> Resu
     Ok(has_sought(there, Sought::Names, sent.as_slice()))
 }
 
-/// Whether the same names stand in the arguments of a message as in what it was sent with.
+/// Whether the same names stand in the arguments of a message as in what it was sent with. No label is given yet.
 fn is_taken_as(
     alloc: Global,
+    events: &[Event],
+    sources: &Sources,
     links: &Links,
     taken: &Addressed,
+    there: &mut Labels,
     sent: &mut Labels,
 ) -> Result<bool, Memory>
-    ensures { (events : List Told) (past : List Line) → OnwardStand links.now past → AddsThings (arguments_in events taken.now.message) [] sent.old
-        → IfOk result (λ same. IsTrue same ↔ TakesSent events past (TakeLine taken.now)) }
+    ensures { (past : List Line) → there.old ≡ [] → sent.old ≡ [] → SourcesStand events.now sources.now events.now → OnwardStand links.now past
+        → IfOk result (λ same. IsTrue same ↔ TakesSent events.now past (TakeLine taken.now)) }
 {
-    let mut there = parts_of(alloc, taken.args.as_slice())?;
-    have_same_names(links, &mut there, sent)
+    add_values(alloc, there, taken.args.as_slice())?;
+    sources.add_arguments(alloc, sent, events, &taken.message)?;
+    have_same_names(links, there, sent)
 }
 
 /// Whether a message is taken with what it was sent with.
@@ -82,8 +63,9 @@ fn is_taken_sent(
     ensures { (past : List Line) → SourcesStand events.now sources.now events.now → OnwardStand links.now past
         → IfOk result (λ sent. IsTrue sent ↔ TakesSent events.now past (TakeLine taken.now)) }
 {
-    let mut sent = parts_sent(alloc, events, sources, &taken.message)?;
-    is_taken_as(alloc, links, taken, &mut sent)
+    let mut there = Labels::new(alloc);
+    let mut sent = Labels::new(alloc);
+    is_taken_as(alloc, events, sources, links, taken, &mut there, &mut sent)
 }
 
 /// Whether a message that a line takes is taken with what it was sent with.
@@ -125,12 +107,26 @@ fn first_taken_otherwise(
     Ok(None)
 }
 
+/// The same, where no place is known yet of what messages were sent with.
+fn first_by_sources(
+    alloc: Global,
+    events: &[Event],
+    sources: &mut Sources,
+    links: &mut Links,
+) -> Result<Option<u64>, Memory>
+    ensures { sources.old.carried ≡ [] → sources.old.sent ≡ [] → OnwardStand links.old []
+        → IfOk result (λ answer. IsFirstFailing (λ past l. TakesSent events.now past l.event) events.now answer) }
+{
+    sources.put_lines(events)?;
+    first_taken_otherwise(alloc, events, sources, links)
+}
+
 /// The first line of a history, counted from 1, that takes a message in whose arguments not the same names stand as in those that
 /// it was sent with: those of its last carry line in the whole history, else of the first line that sends it.
 pub fn first_changed(alloc: Global, events: &[Event]) -> Result<Option<u64>, Memory>
     ensures { IfOk result (λ answer. IsFirstFailing (λ past l. TakesSent events.now past l.event) events.now answer) }
 {
-    let sources = sources_of(alloc, events)?;
+    let mut sources = Sources::new(alloc);
     let mut links = Links::new(alloc);
-    first_taken_otherwise(alloc, events, &sources, &mut links)
+    first_by_sources(alloc, events, &mut sources, &mut links)
 }

@@ -1,78 +1,31 @@
 //! Places of lines in a history, by the messages that they speak of.
 
 ghost use Rattle.std.specs.Prelude.{◌≡◌, [], OnOk, is_some};
-ghost use Rattle.ev_uses.specs.Places.{Notes, NotesFor, Puts, PutsFor, message_key, place_in};
+ghost use Rattle.ev_uses.specs.Places.{Notes, NotesFor, Puts, PutsFor, place_in};
 
 use ev_base::{Memory, Msg};
 use indexmap::IndexMap;
 use std::alloc::Global;
 use std::marker::Model;
 
-/// A message as a key: the number of the vat that sent it, and its number there.
-#[derive(Clone, Copy, PartialEq, Eq, Hash)]
-pub struct MessageKey {
-    pub sender: u8,
-    pub number: u64,
-}
-
-/// The key of a message.
-fn key_of(message: &Msg) -> MessageKey
-    ensures { result ≡ message_key message.now }
-{
-    MessageKey {
-        sender: message.sender.0,
-        number: message.number,
-    }
-}
-
 /// The place of a line for each message, counted from 0.
-#[derive(Drop)]
 pub struct Places {
-    places: IndexMap<MessageKey, usize>,
+    places: IndexMap<Msg, usize>,
+}
+
+impl Drop for Places {
+    fn drop(self) {
+        let Self { places: _places } = self;
+    }
 }
 
 impl Model for Places {
     ghost use Rattle.std.specs.Prelude.{List, ℕ};
-    ghost use Rattle.ev_uses.specs.declared.places.MessageKey.{MessageKey};
+    ghost use Rattle.ev_base.specs.declared.names.Msg.{Msg};
 
-    ghost Value = { List (MessageKey × ℕ) };
+    ghost Value = { List (Msg × ℕ) };
 
     ghost view = { λ p. p.places.entries };
-}
-
-/// The place under a key.
-#[tactic(auto, unfolding(crate::specs::Places::place_in))]
-fn find_in(places: &IndexMap<MessageKey, usize>, key: MessageKey) -> Option<usize>
-    ensures { result ≡ place_in places.now.entries key }
-{
-    places.get(&key).copied()
-}
-
-/// Puts a place under a key.
-#[tactic(auto, unfolding(crate::specs::Places::place_in))]
-fn put_in(
-    places: &mut IndexMap<MessageKey, usize>,
-    key: MessageKey,
-    place: usize,
-) -> Result<(), Memory>
-    ensures { OnOk result (Puts key place places.old.entries places.new.entries) }
-{
-    places.insert(key, place)?;
-    Ok(())
-}
-
-/// Puts a place under a key, unless there is one.
-fn note_in(
-    places: &mut IndexMap<MessageKey, usize>,
-    key: MessageKey,
-    place: usize,
-) -> Result<(), Memory>
-    ensures { OnOk result (Notes key place (is_some (place_in places.old.entries key)) places.old.entries places.new.entries) }
-{
-    if find_in(places, key).is_some() {
-        return Ok(());
-    }
-    put_in(places, key, place)
 }
 
 impl Places {
@@ -86,10 +39,20 @@ impl Places {
     }
 
     /// The place of a message, where it has one.
+    #[tactic(auto, unfolding(crate::specs::Places::place_in))]
     pub fn find(&self, message: &Msg) -> Option<usize>
-        ensures { result ≡ place_in self.now (message_key message.now) }
+        ensures { result ≡ place_in self.now message.now }
     {
-        find_in(&self.places, key_of(message))
+        self.places.get(message).copied()
+    }
+
+    /// Puts the place of a message.
+    #[tactic(auto, unfolding(crate::specs::Places::place_in))]
+    fn set(&mut self, message: Msg, place: usize) -> Result<(), Memory>
+        ensures { OnOk result (Puts message place self.old self.new) }
+    {
+        self.places.insert(message, place)?;
+        Ok(())
     }
 
     /// Puts the place of a line for the message that it speaks of, if it speaks of one.
@@ -97,7 +60,7 @@ impl Places {
         ensures { OnOk result (PutsFor message place self.old self.new) }
     {
         match message {
-            Some(message) => put_in(&mut self.places, key_of(&message), place),
+            Some(message) => self.set(message, place),
             None => Ok(()),
         }
     }
@@ -106,9 +69,12 @@ impl Places {
     pub fn note(&mut self, message: Option<Msg>, place: usize) -> Result<(), Memory>
         ensures { OnOk result (NotesFor message place self.old self.new) }
     {
-        match message {
-            Some(message) => note_in(&mut self.places, key_of(&message), place),
-            None => Ok(()),
+        let Some(message) = message else {
+            return Ok(());
+        };
+        if self.find(&message).is_some() {
+            return Ok(());
         }
+        self.set(message, place)
     }
 }

@@ -1,6 +1,6 @@
 //! What a whole history carries last, and sends first, with each message.
 
-ghost use Rattle.std.specs.Prelude.{◌≡◌, [], IfOk, OnOk};
+ghost use Rattle.std.specs.Prelude.{◌≡◌, [], OnOk};
 ghost use Rattle.def_trace.specs.Uses.{arguments_in};
 ghost use Rattle.ev_uses.specs.Finding.{SourcesStand, things_at};
 ghost use Rattle.ev_uses.specs.Lines.{AddsThings, carries, sends};
@@ -11,42 +11,12 @@ use def_event::Event;
 use ev_base::{Memory, Msg};
 use ev_links::Labels;
 use std::alloc::Global;
-use std::marker::Model;
 
 /// The places of the last line that carries each message, and of the first line that sends it.
 #[derive(Drop)]
 pub struct Sources {
     carried: Places,
     sent: Places,
-}
-
-impl Model for Sources {
-    ghost use Rattle.ev_uses.specs.Finding.{SourceTables};
-
-    ghost Value = { SourceTables };
-
-    ghost view = { λ s. record { carried = s.carried; sent = s.sent } };
-}
-
-/// Puts the places of the lines of a whole history into tables that have none.
-fn put_lines(carried: &mut Places, sent: &mut Places, events: &[Event]) -> Result<(), Memory>
-    ensures { carried.old ≡ [] → sent.old ≡ [] → OnOk result (SourcesStand events.now (record { carried = carried.new; sent = sent.new }) events.now) }
-{
-    for (index, event) in events.iter().enumerate() {
-        carried.put(carried_message(event), index)?;
-        sent.note(sent_message(event), index)?;
-    }
-    Ok(())
-}
-
-/// The places in a whole history, which is gone through once.
-pub fn sources_of(alloc: Global, events: &[Event]) -> Result<Sources, Memory>
-    ensures { IfOk result (λ sources. SourcesStand events.now sources events.now) }
-{
-    let mut carried = Places::new(alloc);
-    let mut sent = Places::new(alloc);
-    put_lines(&mut carried, &mut sent, events)?;
-    Ok(Sources { carried, sent })
 }
 
 /// Adds what the line at a place carries.
@@ -81,27 +51,29 @@ fn add_sent_at(
     }
 }
 
-/// Adds what the line at one table's place of a message carries, else what that at the other's sends.
-fn add_found(
-    alloc: Global,
-    labels: &mut Labels,
-    events: &[Event],
-    carried: &Places,
-    sent: &Places,
-    message: &Msg,
-) -> Result<(), Memory>
-    ensures { SourcesStand events.now (record { carried = carried.now; sent = sent.now }) events.now → OnOk result (AddsThings (arguments_in events.now message.now) labels.old labels.new) }
-{
-    if let Some(place) = carried.find(message) {
-        return add_carried_at(alloc, labels, events, place);
-    }
-    let Some(place) = sent.find(message) else {
-        return Ok(());
-    };
-    add_sent_at(alloc, labels, events, place)
-}
-
 impl Sources {
+    /// No places. It takes no memory.
+    pub fn new(alloc: Global) -> Sources
+        ensures carried { result.carried ≡ [] }
+        ensures sent { result.sent ≡ [] }
+    {
+        Sources {
+            carried: Places::new(alloc),
+            sent: Places::new(alloc),
+        }
+    }
+
+    /// Puts the places of the lines of a whole history, where there are none.
+    pub fn put_lines(&mut self, events: &[Event]) -> Result<(), Memory>
+        ensures { self.old.carried ≡ [] → self.old.sent ≡ [] → OnOk result (SourcesStand events.now self.new events.now) }
+    {
+        for (index, event) in events.iter().enumerate() {
+            self.carried.put(carried_message(event), index)?;
+            self.sent.note(sent_message(event), index)?;
+        }
+        Ok(())
+    }
+
     /// Adds what a message of the history was sent with: what its last carry line has, else what the first line that sends it has.
     pub fn add_arguments(
         &self,
@@ -112,6 +84,12 @@ impl Sources {
     ) -> Result<(), Memory>
         ensures { SourcesStand events.now self.now events.now → OnOk result (AddsThings (arguments_in events.now message.now) labels.old labels.new) }
     {
-        add_found(alloc, labels, events, &self.carried, &self.sent, message)
+        if let Some(place) = self.carried.find(message) {
+            return add_carried_at(alloc, labels, events, place);
+        }
+        let Some(place) = self.sent.find(message) else {
+            return Ok(());
+        };
+        add_sent_at(alloc, labels, events, place)
     }
 }

@@ -1,9 +1,9 @@
 //! The first line that carries what was not there before.
 
-ghost use Rattle.std.specs.Prelude.{◌≡◌, ◌↔◌, [], List, Some, IfOk, IsTrue, OnOk, unwrap_or};
-ghost use Rattle.def_trace.specs.Uses.{CarriesSent, CarriesThese, IsFirstFailing, Line, Thing, delivered};
-ghost use Rattle.ev_uses.specs.Finding.{FindsBefore, found_at, things_at};
-ghost use Rattle.ev_uses.specs.Lines.{AddsThings, holds, things_with};
+ghost use Rattle.std.specs.Prelude.{◌≡◌, ◌↔◌, [], List, IfOk, IsTrue, OnOk, unwrap_or};
+ghost use Rattle.def_trace.specs.Uses.{CarriesSent, CarriesThese, IsFirstFailing, Line, delivered};
+ghost use Rattle.ev_uses.specs.Finding.{FindsBefore, found_at};
+ghost use Rattle.ev_uses.specs.Lines.{AddsThings, holds};
 ghost use Rattle.ev_uses.specs.Onward.{OnwardStand};
 ghost use Rattle.ev_uses.specs.Sought.{ReachesSought};
 
@@ -12,33 +12,27 @@ use crate::onward::tell_onward;
 use crate::places::Places;
 use crate::sought::{Sought, has_sought};
 use def_event::{Event, ShownNote};
-use ev_base::{Memory, Msg};
+use ev_base::Memory;
 use ev_links::{Label, Labels, Links, Scope, place_after};
 use std::alloc::Global;
 
-/// The names and lists that a note has with the message that it delivers.
-fn carried_by(alloc: Global, note: &ShownNote) -> Result<Labels, Memory>
-    ensures { IfOk result (λ labels. AddsThings (things_with (delivered note.now)) [] labels) }
-{
-    let mut labels = Labels::new(alloc);
-    add_delivered(alloc, &mut labels, note)?;
-    Ok(labels)
-}
-
-/// What the line at a place has of its message, where there is one.
+/// Adds what the line at a place has of its message, where there is one.
 #[tactic(auto, using(crate::proofs::Adding::none_added), unfolding(crate::specs::Finding::things_at))]
-fn held_at(alloc: Global, events: &[Event], place: Option<usize>) -> Result<Labels, Memory>
-    ensures { IfOk result (λ labels. AddsThings (unwrap_or (found_at holds events.now place) []) [] labels) }
+fn add_held_at(
+    alloc: Global,
+    labels: &mut Labels,
+    events: &[Event],
+    place: Option<usize>,
+) -> Result<(), Memory>
+    ensures { OnOk result (AddsThings (unwrap_or (found_at holds events.now place) []) labels.old labels.new) }
 {
-    let mut labels = Labels::new(alloc);
     let Some(place) = place else {
-        return Ok(labels);
+        return Ok(());
     };
-    let Some(event) = events.get(place) else {
-        return Ok(labels);
-    };
-    add_held(alloc, &mut labels, event)?;
-    Ok(labels)
+    match events.get(place) {
+        Some(event) => add_held(alloc, labels, event),
+        None => Ok(()),
+    }
 }
 
 /// Adds to labels what is reached from them, the nearest first, until those of others that are no gifts are all there, or all is.
@@ -59,23 +53,28 @@ fn reach_sought(links: &Links, labels: &mut Labels, others: &[Label]) -> Result<
     Ok(has_sought(labels, Sought::NoGifts, others))
 }
 
-/// Whether each name among labels is that of a gift, or is reached from what the line before of a message has.
-fn are_sent_before(
+/// Whether each name that a note carries is a gift, or is reached from what the line before of its message has. No label is given yet.
+fn is_carried_sent(
     alloc: Global,
     events: &[Event],
     before: &Places,
     links: &Links,
-    message: &Msg,
-    carried: &[Label],
+    note: &ShownNote,
+    carried: &mut Labels,
+    known: &mut Labels,
 ) -> Result<bool, Memory>
-    ensures { (past : List Line) (things : List Thing) → FindsBefore events.now before.now past → OnwardStand links.now past → AddsThings things [] carried.now
-        → IfOk result (λ sent. IsTrue sent ↔ CarriesThese past (Some (message.now, things))) }
+    ensures { (past : List Line) → carried.old ≡ [] → known.old ≡ [] → FindsBefore events.now before.now past → OnwardStand links.now past
+        → IfOk result (λ sent. IsTrue sent ↔ CarriesThese past (delivered note.now)) }
 {
-    let mut known = held_at(alloc, events, before.find(message))?;
-    reach_sought(links, &mut known, carried)
+    let Some(message) = delivered_message(note) else {
+        return Ok(true);
+    };
+    add_delivered(alloc, carried, note)?;
+    add_held_at(alloc, known, events, before.find(&message))?;
+    reach_sought(links, known, carried.as_slice())
 }
 
-/// Whether each name that a note carries is a gift, or is reached from what the line before of its message has.
+/// The same, with room for what is carried and for what is reached.
 fn is_note_sent(
     alloc: Global,
     events: &[Event],
@@ -86,11 +85,9 @@ fn is_note_sent(
     ensures { (past : List Line) → FindsBefore events.now before.now past → OnwardStand links.now past
         → IfOk result (λ sent. IsTrue sent ↔ CarriesThese past (delivered note.now)) }
 {
-    let Some(message) = delivered_message(note) else {
-        return Ok(true);
-    };
-    let carried = carried_by(alloc, note)?;
-    are_sent_before(alloc, events, before, links, &message, carried.as_slice())
+    let mut carried = Labels::new(alloc);
+    let mut known = Labels::new(alloc);
+    is_carried_sent(alloc, events, before, links, note, &mut carried, &mut known)
 }
 
 /// Whether a line carries only gifts and what is reached from what the line before of its message has.

@@ -39,7 +39,7 @@ fn is_name_known(
 }
 
 /// Whether what a value names is known or made.
-#[tactic(auto, using(crate::proofs::Using::decides_none), unfolding(def_trace::specs::Uses::names_of))]
+#[tactic(auto, using(crate::proofs::Known::decides_none), unfolding(def_trace::specs::Uses::names_of))]
 fn is_known(
     knowledge: &mut Knowledge,
     alloc: Global,

@@ -2,4 +2,4 @@ use Rattle.ev_uses.proofs.Walking.{no_links_stand}
 use Rattle.ev_uses.proofs.changed.first_changed.Goals as goal
 
 pub returns : goal.returns
-returns c = c.first_taken_otherwise.ensures c.in_ok-sources.ensures (no_links_stand c.new-links.result c.new-links.ensures)
+returns c = c.first_by_sources.ensures c.new-sources.ensures.carried c.new-sources.ensures.sent (no_links_stand c.new-links.result c.new-links.ensures)

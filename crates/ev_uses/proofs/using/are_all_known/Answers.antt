@@ -2,7 +2,7 @@ use Rattle.std.proofs.Common.{subst}
 use Rattle.std.proofs.lemmas.Result.{IfOk-weaker}
 use Rattle.def_trace.specs.Uses.{names}
 use Rattle.ev_uses.specs.Using.{DecidesAll}
-use Rattle.ev_uses.proofs.Using.{decides_both, decides_left}
+use Rattle.ev_uses.proofs.Known.{decides_both, decides_left}
 use Rattle.ev_uses.proofs.using.are_all_known.Goals as goal
 
 pub returns-then-not-branch : goal.returns-then-not-branch

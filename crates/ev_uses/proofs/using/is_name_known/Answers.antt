@@ -1,6 +1,6 @@
 use Rattle.std.proofs.Common.{◌≡◌, true, false, Some, sym, ap, ◌∙◌}
 use Rattle.ev_links.specs.declared.label.Label.{Label}
-use Rattle.ev_uses.proofs.Using.{made_decides, name_found}
+use Rattle.ev_uses.proofs.Known.{made_decides, name_found}
 use Rattle.ev_uses.proofs.using.is_name_known.Goals as goal
 
 pub returns-then-is_made : goal.returns-then-is_made

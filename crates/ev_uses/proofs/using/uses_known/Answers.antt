@@ -3,7 +3,7 @@ use Rattle.std.proofs.lemmas.Result.{IfOk-weaker}
 use Rattle.ev_base.specs.declared.names.Name.{Name}
 use Rattle.ev_known.specs.declared.facts.Activation.{Activation}
 use Rattle.ev_uses.specs.Using.{DecidesAll}
-use Rattle.ev_uses.proofs.Using.{line_decided}
+use Rattle.ev_uses.proofs.Known.{line_decided}
 use Rattle.ev_uses.proofs.using.uses_known.Goals as goal
 
 pub returns : goal.returns

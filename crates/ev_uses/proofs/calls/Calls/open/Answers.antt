@@ -4,5 +4,4 @@ use Rattle.ev_uses.proofs.calls.Calls.open.Goals as goal
 
 pub returns : goal.returns
 returns c past h =
-    on_ok_weaker c.push_in.result
-    (opened past c.args.at c.args.called.now c.self.inside.stacks.entries c.args.self.now c.push_in.new.stacks.entries c.in_ok-asks.asks c.self.view_is (c.in_ok-asks.ensures past h)) c.push_in.ensures
+    on_ok_weaker c.push.result (opened past c.args.at c.args.called.now c.args.self.now c.push.new.self c.in_ok-asks.asks (c.in_ok-asks.ensures past h)) c.push.ensures
