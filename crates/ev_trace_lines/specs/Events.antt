@@ -1,6 +1,6 @@
 -- What a line of a run says, by its words. Rule 42 fails where the words are no line, and rule 43 where they are one of a
 -- run in which frames were put on links by hand.
-use Rattle.std.specs.Prelude.{ℕ, ◌+◌, ◌==◌, nat_lt, nat_le, Bool, true, false, ◌&&◌, ◌||◌, if◌then◌else◌, List, [], ◌∷◌, take, drop, length, position, unwrap_or, codes, Some, None, option_map, Result, Ok, Err}
+use Rattle.std.specs.Prelude.{ℕ, ◌+◌, ◌==◌, nat_lt, nat_le, Bool, true, false, not, ◌&&◌, ◌||◌, if◌then◌else◌, List, [], ◌∷◌, take, drop, length, position, unwrap_or, codes, Some, None, option_map, Result, Ok, Err}
 use Rattle.std.specs.declared.option.Option.{Option}
 use Rattle.std.specs.List.{list_all}
 use Rattle.std.specs.Result.{result_ok}
@@ -72,6 +72,7 @@ send_of a m s answer = Send (record { activation = a; message = m; target = s.ta
 abbrev pub when_of : ℕ → Msg → Shown × Shown → Name → Event
 when_of a m x answer = When (record { activation = a; message = m; value = x.0; reaction = x.1; answer = answer })
 
+-- what an activation does with a value, and with a var slot and a value
 abbrev pub valued : ℕ → List ℕ → Shown → Option Event
 valued a word x =
     if bytes_eq word (codes "back") then Some (Back a x)
@@ -83,41 +84,29 @@ valued a word x =
     else if bytes_eq word (codes "threw") then Some (Threw a x)
     else None
 
-abbrev pub gone : ℕ → Words → Result Event ℕ
-gone a [] = Ok (Gone a)
-gone a _ = Err 42
+abbrev pub slotted : ℕ → List ℕ → ℕ × ℕ → Shown → Option Event
+slotted a word slot x =
+    if bytes_eq word (codes "slot") then Some (Slot a slot x)
+    else if bytes_eq word (codes "read") then Some (Read a slot x)
+    else if bytes_eq word (codes "wrote") then Some (Wrote a slot x)
+    else None
 
-abbrev pub idle : ℕ → Words → Result Event ℕ
-idle k [] = Ok (Idle k)
-idle k _ = Err 42
-
-abbrev pub injected_by : List ℕ → Result Event ℕ
-injected_by bytes = if nat_lt 4096 (length bytes) then Err 42 else Err 43
-
-abbrev pub injected : List ℕ → Result Event ℕ
-injected word = do
-  bytes ← bytes_of word
-  injected_by bytes
+-- an event of these words alone
+abbrev pub alone : Event → Words → Result Event ℕ
+alone event [] = Ok event
+alone event _ = Err 42
 
 -- the bytes of a frame that was put by hand, 1 to 4,096 of them, or `cut`
 abbrev pub injection : List ℕ → Result Event ℕ
-injection word = if bytes_eq word (codes "cut") then Err 43 else injected word
+injection word =
+    if bytes_eq word (codes "cut") then Err 43
+    else bytes_of word >>= (λ bytes. if nat_lt 4096 (length bytes) then Err 42 else Err 43)
 
 -- a note that no vat makes: a frame that is malformed at this place, or one that goes to a hostile vat
-abbrev pub malformed : List ℕ → Result ShownNote ℕ
-malformed what = do
-  place ← rule 42 (count what)
-  Err 43
-
-abbrev pub raw : List ℕ → Result ShownNote ℕ
-raw what = do
-  bytes ← bytes_of what
-  Err 43
-
 abbrev pub strange_of : List ℕ → List ℕ → Result ShownNote ℕ
 strange_of kind what =
-    if bytes_eq kind (codes "malformed") then malformed what
-    else if bytes_eq kind (codes "bytes") then raw what
+    if bytes_eq kind (codes "malformed") then rule 42 (count what) >>= (λ place. Err 43)
+    else if bytes_eq kind (codes "bytes") then bytes_of what >>= (λ bytes. Err 43)
     else Err 42
 
 abbrev pub strange_note : Words → Result ShownNote ℕ
@@ -125,13 +114,10 @@ strange_note words = do
   w ← rule 42 (two_words words)
   strange_of w.0 w.1
 
-abbrev pub is_strange : Words → Bool
-is_strange [] = false
-is_strange (kind ∷ rest) = bytes_eq kind (codes "malformed") || bytes_eq kind (codes "bytes")
-
-abbrev pub is_raw : Words → Bool
-is_raw [] = false
-is_raw (kind ∷ rest) = bytes_eq kind (codes "bytes")
+-- one that is malformed is never left on a link
+abbrev pub is_strange : Bool → Words → Bool
+is_strange left [] = false
+is_strange left (kind ∷ rest) = bytes_eq kind (codes "bytes") || (not left && bytes_eq kind (codes "malformed"))
 
 abbrev pub frame : Words → Result Event ℕ
 frame (word ∷ []) = do
@@ -144,10 +130,6 @@ lost_how m word =
     if bytes_eq word (codes "cut") then Some (LostCut m)
     else if bytes_eq word (codes "broken") then Some (LostBroken m)
     else None
-
-abbrev pub ended : Words → Result Event ℕ
-ended [] = Ok End
-ended _ = Err 42
 
 module _ (names : List (List ℕ)) where
   abbrev pub vat : List ℕ → Result ℕ ℕ
@@ -195,35 +177,15 @@ module _ (names : List (List ℕ)) where
     d ← delivery words
     if only then Ok (DeliverOnly d.message d.target d.verb d.args) else Ok (Deliver d.message d.target d.verb d.args)
 
-  abbrev pub elsewhere : Words → Result ShownNote ℕ
-  elsewhere words = do
-    n ← name_and_vat words
-    Ok (Elsewhere n.0 n.1)
-
-  abbrev pub opening : Words → Result ShownNote ℕ
-  opening words = do
-    n ← two_names words
-    Ok (Opens n.0 n.1)
-
-  abbrev pub asking : Words → Result ShownNote ℕ
-  asking words = do
-    n ← name_and_vat words
-    Ok (Ask n.0 n.1)
-
-  abbrev pub shortening : Words → Result ShownNote ℕ
-  shortening words = do
-    n ← two_names words
-    Ok (Shorten n.0 n.1)
-
   abbrev pub note_of : List ℕ → Words → Result ShownNote ℕ
   note_of kind rest =
       if bytes_eq kind (codes "deliver") then delivering false rest
       else if bytes_eq kind (codes "deliveronly") then delivering true rest
       else if bytes_eq kind (codes "settled") then settled_note rest
-      else if bytes_eq kind (codes "elsewhere") then elsewhere rest
-      else if bytes_eq kind (codes "open") then opening rest
-      else if bytes_eq kind (codes "ask") then asking rest
-      else if bytes_eq kind (codes "shorten") then shortening rest
+      else if bytes_eq kind (codes "elsewhere") then name_and_vat rest >>= (λ n. Ok (Elsewhere n.0 n.1))
+      else if bytes_eq kind (codes "open") then two_names rest >>= (λ n. Ok (Opens n.0 n.1))
+      else if bytes_eq kind (codes "ask") then name_and_vat rest >>= (λ n. Ok (Ask n.0 n.1))
+      else if bytes_eq kind (codes "shorten") then two_names rest >>= (λ n. Ok (Shorten n.0 n.1))
       else Err 42
 
   abbrev pub note : Words → Result ShownNote ℕ
@@ -239,17 +201,6 @@ module _ (names : List (List ℕ)) where
     Ok (first, second)
 
   -- ---- what an activation does
-
-  abbrev pub one_value : Words → Result Shown ℕ
-  one_value (x ∷ []) = value names x
-  one_value _ = Err 42
-
-  abbrev pub slot_and_value : Words → Result ((ℕ × ℕ) × Shown) ℕ
-  slot_and_value words = do
-    w ← rule 42 (two_words words)
-    slot ← rule 42 (numbered names 38 w.0)
-    held ← value names w.1
-    Ok (slot, held)
 
   abbrev pub list_and_members : Words → Result ((ℕ × ℕ) × List Shown) ℕ
   list_and_members [] = Err 42
@@ -342,60 +293,27 @@ module _ (names : List (List ℕ)) where
     Ok (when_of a id both answer)
   reacting a _ = Err 42
 
-  -- an act of one value
+  -- an act of one value, which may be that of a var slot
   abbrev pub act_on_value : ℕ → List ℕ → Words → Result Event ℕ
-  act_on_value a word rest = do
-    x ← one_value rest
-    rule 42 (valued a word x)
-
-  abbrev pub take_of : ℕ → Words → Result Event ℕ
-  take_of a words = do
-    m ← addressed a words
-    Ok (Take m)
-
-  abbrev pub slot_made : ℕ → Words → Result Event ℕ
-  slot_made a words = do
-    s ← slot_and_value words
-    Ok (Slot a s.0 s.1)
-
-  abbrev pub slot_read : ℕ → Words → Result Event ℕ
-  slot_read a words = do
-    s ← slot_and_value words
-    Ok (Read a s.0 s.1)
-
-  abbrev pub slot_wrote : ℕ → Words → Result Event ℕ
-  slot_wrote a words = do
-    s ← slot_and_value words
-    Ok (Wrote a s.0 s.1)
-
-  abbrev pub list_made : ℕ → Words → Result Event ℕ
-  list_made a words = do
-    l ← list_and_members words
-    Ok (ListMade a l.0 l.1)
-
-  abbrev pub promised : ℕ → Words → Result Event ℕ
-  promised a words = do
-    p ← name_and_value words
-    Ok (Promise a p.0 p.1)
-
-  abbrev pub sent_only : ℕ → Words → Result Event ℕ
-  sent_only a words = do
-    m ← addressed a words
-    Ok (SendOnly m)
+  act_on_value a word (x ∷ []) = do
+    held ← value names x
+    rule 42 (valued a word held)
+  act_on_value a word (s ∷ x ∷ []) = do
+    slot ← rule 42 (numbered names 38 s)
+    held ← value names x
+    rule 42 (slotted a word slot held)
+  act_on_value a word _ = Err 42
 
   abbrev pub act_of : ℕ → List ℕ → Words → Result Event ℕ
   act_of a word rest =
-      if bytes_eq word (codes "take") then take_of a rest
+      if bytes_eq word (codes "take") then addressed a rest >>= (λ m. Ok (Take m))
       else if bytes_eq word (codes "call") then called a rest
-      else if bytes_eq word (codes "gone") then gone a rest
-      else if bytes_eq word (codes "slot") then slot_made a rest
-      else if bytes_eq word (codes "read") then slot_read a rest
-      else if bytes_eq word (codes "wrote") then slot_wrote a rest
-      else if bytes_eq word (codes "list") then list_made a rest
-      else if bytes_eq word (codes "promise") then promised a rest
+      else if bytes_eq word (codes "gone") then alone (Gone a) rest
+      else if bytes_eq word (codes "list") then list_and_members rest >>= (λ l. Ok (ListMade a l.0 l.1))
+      else if bytes_eq word (codes "promise") then name_and_value rest >>= (λ p. Ok (Promise a p.0 p.1))
       else if bytes_eq word (codes "made") then made a rest
       else if bytes_eq word (codes "send") then sent a rest
-      else if bytes_eq word (codes "sendonly") then sent_only a rest
+      else if bytes_eq word (codes "sendonly") then addressed a rest >>= (λ m. Ok (SendOnly m))
       else if bytes_eq word (codes "when") then reacting a rest
       else act_on_value a word rest
 
@@ -423,42 +341,26 @@ module _ (names : List (List ℕ)) where
     to ← vat w.1.0
     injection w.1.1
 
-  abbrev pub carried : Words → Result ShownNote ℕ
-  carried words = if is_strange words then strange_note words else note words
+  -- a note that is carried, or left on a link
+  abbrev pub any_note : Bool → Words → Result ShownNote ℕ
+  any_note left words = if is_strange left words then strange_note words else note words
 
-  abbrev pub waiting : Words → Result ShownNote ℕ
-  waiting words = if is_raw words then strange_note words else note words
-
-  abbrev pub carry : ℕ → Words → Result Event ℕ
-  carry k (v ∷ w ∷ rest) = do
+  -- the two vats of a link, and a note that is carried or left on it
+  abbrev pub on_link : Bool → Words → Result (ℕ × ℕ × ShownNote) ℕ
+  on_link left (v ∷ w ∷ rest) = do
     from ← vat v
     to ← vat w
-    n ← carried rest
-    Ok (Carry k from to n)
-  carry k _ = Err 42
-
-  abbrev pub turn_of : ℕ → Words → Result Event ℕ
-  turn_of k words = do
-    v ← one_vat words
-    Ok (Turn k v)
-
-  abbrev pub cut_of : ℕ → Words → Result Event ℕ
-  cut_of k words = do
-    p ← two_vats words
-    Ok (Cut k p.0 p.1)
-
-  abbrev pub notice_of : ℕ → Words → Result Event ℕ
-  notice_of k words = do
-    p ← two_vats words
-    Ok (Notice k p.0 p.1)
+    n ← any_note left rest
+    Ok (from, to, n)
+  on_link left _ = Err 42
 
   abbrev pub entry_of : ℕ → List ℕ → Words → Result Event ℕ
   entry_of k word rest =
-      if bytes_eq word (codes "turn") then turn_of k rest
-      else if bytes_eq word (codes "idle") then idle k rest
-      else if bytes_eq word (codes "carry") then carry k rest
-      else if bytes_eq word (codes "cut") then cut_of k rest
-      else if bytes_eq word (codes "notice") then notice_of k rest
+      if bytes_eq word (codes "turn") then one_vat rest >>= (λ v. Ok (Turn k v))
+      else if bytes_eq word (codes "idle") then alone (Idle k) rest
+      else if bytes_eq word (codes "carry") then on_link false rest >>= (λ n. Ok (Carry k n.0 n.1 n.2))
+      else if bytes_eq word (codes "cut") then two_vats rest >>= (λ p. Ok (Cut k p.0 p.1))
+      else if bytes_eq word (codes "notice") then two_vats rest >>= (λ p. Ok (Notice k p.0 p.1))
       else if bytes_eq word (codes "inject") then inject rest
       else Err 42
 
@@ -497,62 +399,29 @@ module _ (names : List (List ℕ)) where
     id ← rule 42 (message names w.1.1)
     Ok (LeftWait host awaited id)
 
-  abbrev pub left_link : Words → Result Event ℕ
-  left_link (v ∷ w ∷ rest) = do
-    from ← vat v
-    to ← vat w
-    n ← waiting rest
-    Ok (LeftLink from to n)
-  left_link _ = Err 42
-
   abbrev pub left_of : List ℕ → Words → Result Event ℕ
   left_of word rest =
       if bytes_eq word (codes "queue") then left_queue rest
       else if bytes_eq word (codes "held") then left_held rest
       else if bytes_eq word (codes "wait") then left_wait rest
-      else if bytes_eq word (codes "link") then left_link rest
+      else if bytes_eq word (codes "link") then on_link true rest >>= (λ n. Ok (LeftLink n.0 n.1 n.2))
       else Err 42
 
   abbrev pub left : Words → Result Event ℕ
   left [] = Err 42
   left (word ∷ rest) = left_of word rest
 
-  abbrev pub opened : Words → Result Event ℕ
-  opened words = do
-    v ← one_vat words
-    Ok (Open v)
-
-  abbrev pub arrived : Words → Result Event ℕ
-  arrived words = do
-    l ← list_and_members words
-    Ok (Arrived l.0 l.1)
-
-  abbrev pub settled : Words → Result Event ℕ
-  settled words = do
-    p ← name_and_value words
-    Ok (Settle p.0 p.1)
-
-  abbrev pub waited : Words → Result Event ℕ
-  waited words = do
-    n ← two_names words
-    Ok (Wait n.0 n.1)
-
-  abbrev pub viewed : Words → Result Event ℕ
-  viewed words = do
-    n ← two_names words
-    Ok (View n.0 n.1)
-
   abbrev pub other_line : List ℕ → Words → Result Event ℕ
   other_line word rest =
-      if bytes_eq word (codes "open") then opened rest
+      if bytes_eq word (codes "open") then one_vat rest >>= (λ v. Ok (Open v))
       else if bytes_eq word (codes "frame") then frame rest
-      else if bytes_eq word (codes "list") then arrived rest
-      else if bytes_eq word (codes "settle") then settled rest
-      else if bytes_eq word (codes "wait") then waited rest
-      else if bytes_eq word (codes "view") then viewed rest
+      else if bytes_eq word (codes "list") then list_and_members rest >>= (λ l. Ok (Arrived l.0 l.1))
+      else if bytes_eq word (codes "settle") then name_and_value rest >>= (λ p. Ok (Settle p.0 p.1))
+      else if bytes_eq word (codes "wait") then two_names rest >>= (λ n. Ok (Wait n.0 n.1))
+      else if bytes_eq word (codes "view") then two_names rest >>= (λ n. Ok (View n.0 n.1))
       else if bytes_eq word (codes "lost") then lost rest
       else if bytes_eq word (codes "left") then left rest
-      else if bytes_eq word (codes "end") then ended rest
+      else if bytes_eq word (codes "end") then alone End rest
       else Err 42
 
   -- ---- a line: an activation's, an entry, or another

@@ -1,26 +1,19 @@
 //! Lines that say what an activation does.
 
-ghost use Rattle.std.specs.Prelude.{◌≡◌, ◌≤◌, IfOk, length, option_map};
-ghost use Rattle.ev_script.specs.Script.{Reads};
-ghost use Rattle.ev_trace_lines.specs.Events.{act, act_of, act_on_value, addressed, answered, arrow_name, asked, asked_with, before_word, begun, behind_word, call_of, called, captures, gone, list_and_members, list_made, made, made_with, name_and_value, one_value, part_behind, place_of_word, promised, reacting, send_of, sent, sent_only, slot_and_value, slot_made, slot_read, slot_wrote, some_values, take_of, two_values, valued, when_of};
+ghost use Rattle.std.specs.Prelude.{◌≡◌, ◌≤◌, Ok, length, option_map};
+ghost use Rattle.ev_script.specs.Script.{Reads, rule};
+ghost use Rattle.ev_trace_lines.specs.Events.{act, act_of, act_on_value, addressed, answered, arrow_name, asked, asked_with, before_word, begun, behind_word, call_of, called, captures, list_and_members, made, made_with, name_and_value, part_behind, place_of_word, reacting, send_of, sent, slotted, some_values, two_values, valued, when_of};
 
 use crate::notes::{message, name, two_words};
 use def_event::boxed::Boxed;
 use def_event::event::{Addressed, Called, Event, MadeObject, Reacting, Sent};
 use def_event::shown::Shown;
-use ev_base::{Memory, Msg, Name, Seq, Str, VatId};
+use ev_base::{Msg, Name, Seq, Str, VatId};
 use ev_script::ScriptFault;
 use ev_trace_words::parts::{activation, numbered};
 use ev_trace_words::texts::{object_name, verb};
 use ev_trace_words::values::{value, values};
 use std::alloc::Global;
-
-/// A part of an event in memory of its own.
-pub(crate) fn boxed<T: Drop>(alloc: Global, part: T) -> Result<Boxed<T>, Memory>
-    ensures { IfOk result (λ b. b ≡ part) }
-{
-    Boxed::new(alloc, part)
-}
 
 /// The place of the first such word, or the count of the words.
 fn place_of_word(words: &[Str], word: &str) -> usize
@@ -53,34 +46,6 @@ fn behind_word<'w>(words: &'w [Str], word: &str) -> Option<&'w [Str]>
     } else {
         None
     }
-}
-
-fn one_value(alloc: Global, names: &[Str], words: &[Str]) -> Result<Shown, ScriptFault>
-    requires { length names.now ≤ 16 }
-    ensures { Reads result (one_value names.now words.now) }
-{
-    match words {
-        [x] => value(alloc, names, x.as_str()),
-        _ => Err(ScriptFault::Rule(42)),
-    }
-}
-
-fn slot_and_value(
-    alloc: Global,
-    names: &[Str],
-    words: &[Str],
-) -> Result<((VatId, u64), Shown), ScriptFault>
-    requires { length names.now ≤ 16 }
-    ensures { Reads result (slot_and_value names.now words.now) }
-{
-    let Some((slot, x)) = two_words(words) else {
-        return Err(ScriptFault::Rule(42));
-    };
-    let Some(slot) = numbered(names, slot, '&') else {
-        return Err(ScriptFault::Rule(42));
-    };
-    let held = value(alloc, names, x)?;
-    Ok((slot, held))
 }
 
 /// A list by its number, and its members.
@@ -208,8 +173,8 @@ fn call_of(
     activation: u64,
     call: Request,
     begun: Option<u64>,
-) -> Result<Event, Memory>
-    ensures { IfOk result (λ event. event ≡ call_of activation call begun) }
+) -> Result<Event, ScriptFault>
+    ensures { Reads result (Ok (call_of activation call begun)) }
 {
     let Request { target, verb, args } = call;
     let call = Called {
@@ -219,7 +184,7 @@ fn call_of(
         args,
         begun,
     };
-    Ok(Event::Call(boxed(alloc, call)?))
+    Ok(Event::Call(Boxed::new(alloc, call)?))
 }
 
 fn called(alloc: Global, names: &[Str], a: u64, words: &[Str]) -> Result<Event, ScriptFault>
@@ -231,7 +196,7 @@ fn called(alloc: Global, names: &[Str], a: u64, words: &[Str]) -> Result<Event, 
             let args = before_word(rest, "as");
             let call = asked(alloc, names, target.as_str(), verb.as_str(), args)?;
             let begun = begun(behind_word(rest, "as"))?;
-            Ok(call_of(alloc, a, call, begun)?)
+            call_of(alloc, a, call, begun)
         }
         _ => Err(ScriptFault::Rule(42)),
     }
@@ -311,7 +276,7 @@ fn made(alloc: Global, names: &[Str], a: u64, words: &[Str]) -> Result<Event, Sc
             let object = value(alloc, names, object.as_str())?;
             let name = object_name(alloc, called.as_str())?;
             let made = made_with(alloc, names, a, object, name, rest)?;
-            Ok(Event::Made(boxed(alloc, made)?))
+            Ok(Event::Made(Boxed::new(alloc, made)?))
         }
         _ => Err(ScriptFault::Rule(42)),
     }
@@ -334,8 +299,8 @@ fn send_of(
     message: Msg,
     send: Request,
     answer: Name,
-) -> Result<Event, Memory>
-    ensures { IfOk result (λ event. event ≡ send_of activation message send answer) }
+) -> Result<Event, ScriptFault>
+    ensures { Reads result (Ok (send_of activation message send answer)) }
 {
     let Request { target, verb, args } = send;
     let sent = Sent {
@@ -346,7 +311,7 @@ fn send_of(
         args,
         answer,
     };
-    Ok(Event::Send(boxed(alloc, sent)?))
+    Ok(Event::Send(Boxed::new(alloc, sent)?))
 }
 
 fn sent(alloc: Global, names: &[Str], a: u64, words: &[Str]) -> Result<Event, ScriptFault>
@@ -359,7 +324,7 @@ fn sent(alloc: Global, names: &[Str], a: u64, words: &[Str]) -> Result<Event, Sc
             let args = before_word(rest, "->");
             let send = asked(alloc, names, target.as_str(), verb.as_str(), args)?;
             let answer = answered(names, behind_word(rest, "->"))?;
-            Ok(send_of(alloc, a, message, send, answer)?)
+            send_of(alloc, a, message, send, answer)
         }
         _ => Err(ScriptFault::Rule(42)),
     }
@@ -403,8 +368,8 @@ fn when_of(
     message: Msg,
     values: (Shown, Shown),
     answer: Name,
-) -> Result<Event, Memory>
-    ensures { IfOk result (λ event. event ≡ when_of activation message values answer) }
+) -> Result<Event, ScriptFault>
+    ensures { Reads result (Ok (when_of activation message values answer)) }
 {
     let (value, reaction) = values;
     let reacting = Reacting {
@@ -414,7 +379,7 @@ fn when_of(
         reaction,
         answer,
     };
-    Ok(Event::When(boxed(alloc, reacting)?))
+    Ok(Event::When(Boxed::new(alloc, reacting)?))
 }
 
 fn reacting(alloc: Global, names: &[Str], a: u64, words: &[Str]) -> Result<Event, ScriptFault>
@@ -426,28 +391,41 @@ fn reacting(alloc: Global, names: &[Str], a: u64, words: &[Str]) -> Result<Event
             let message = message(names, id.as_str())?;
             let values = two_values(alloc, names, awaited.as_str(), reaction.as_str())?;
             let answer = arrow_name(names, rest)?;
-            Ok(when_of(alloc, a, message, values, answer)?)
+            when_of(alloc, a, message, values, answer)
         }
         _ => Err(ScriptFault::Rule(42)),
     }
 }
 
 /// What an activation does with a value.
-fn valued(a: u64, word: &str, x: Shown) -> Option<Event>
-    ensures { result ≡ valued a word.now x }
+fn valued(a: u64, word: &str, x: Shown) -> Result<Event, ScriptFault>
+    ensures { Reads result (rule 42 (valued a word.now x)) }
 {
     match word {
-        "back" => Some(Event::Back(a, x)),
-        "thrown" => Some(Event::Thrown(a, x)),
-        "got" => Some(Event::Got(a, x)),
-        "ejector" => Some(Event::Ejector(a, x)),
-        "audition" => Some(Event::Audition(a, x)),
-        "done" => Some(Event::Done(a, x)),
-        "threw" => Some(Event::Threw(a, x)),
-        _ => None,
+        "back" => Ok(Event::Back(a, x)),
+        "thrown" => Ok(Event::Thrown(a, x)),
+        "got" => Ok(Event::Got(a, x)),
+        "ejector" => Ok(Event::Ejector(a, x)),
+        "audition" => Ok(Event::Audition(a, x)),
+        "done" => Ok(Event::Done(a, x)),
+        "threw" => Ok(Event::Threw(a, x)),
+        _ => Err(ScriptFault::Rule(42)),
     }
 }
 
+/// What an activation does with a var slot and a value.
+fn slotted(a: u64, word: &str, slot: (VatId, u64), x: Shown) -> Result<Event, ScriptFault>
+    ensures { Reads result (rule 42 (slotted a word.now slot x)) }
+{
+    match word {
+        "slot" => Ok(Event::Slot(a, slot, x)),
+        "read" => Ok(Event::Read(a, slot, x)),
+        "wrote" => Ok(Event::Wrote(a, slot, x)),
+        _ => Err(ScriptFault::Rule(42)),
+    }
+}
+
+/// What an activation does with a value, which may be that of a var slot.
 fn act_on_value(
     alloc: Global,
     names: &[Str],
@@ -458,76 +436,20 @@ fn act_on_value(
     requires { length names.now ≤ 16 }
     ensures { Reads result (act_on_value names.now a word.now rest.now) }
 {
-    let x = one_value(alloc, names, rest)?;
-    match valued(a, word, x) {
-        Some(event) => Ok(event),
-        None => Err(ScriptFault::Rule(42)),
-    }
-}
-
-fn gone(a: u64, words: &[Str]) -> Result<Event, ScriptFault>
-    ensures { Reads result (gone a words.now) }
-{
-    match words {
-        [] => Ok(Event::Gone(a)),
+    match rest {
+        [x] => {
+            let x = value(alloc, names, x.as_str())?;
+            valued(a, word, x)
+        }
+        [slot, x] => {
+            let Some(slot) = numbered(names, slot.as_str(), '&') else {
+                return Err(ScriptFault::Rule(42));
+            };
+            let x = value(alloc, names, x.as_str())?;
+            slotted(a, word, slot, x)
+        }
         _ => Err(ScriptFault::Rule(42)),
     }
-}
-
-fn take_of(alloc: Global, names: &[Str], a: u64, words: &[Str]) -> Result<Event, ScriptFault>
-    requires { length names.now ≤ 16 }
-    ensures { Reads result (take_of names.now a words.now) }
-{
-    let m = addressed(alloc, names, a, words)?;
-    Ok(Event::Take(boxed(alloc, m)?))
-}
-
-fn sent_only(alloc: Global, names: &[Str], a: u64, words: &[Str]) -> Result<Event, ScriptFault>
-    requires { length names.now ≤ 16 }
-    ensures { Reads result (sent_only names.now a words.now) }
-{
-    let m = addressed(alloc, names, a, words)?;
-    Ok(Event::SendOnly(boxed(alloc, m)?))
-}
-
-fn slot_made(alloc: Global, names: &[Str], a: u64, words: &[Str]) -> Result<Event, ScriptFault>
-    requires { length names.now ≤ 16 }
-    ensures { Reads result (slot_made names.now a words.now) }
-{
-    let (slot, x) = slot_and_value(alloc, names, words)?;
-    Ok(Event::Slot(a, slot, x))
-}
-
-fn slot_read(alloc: Global, names: &[Str], a: u64, words: &[Str]) -> Result<Event, ScriptFault>
-    requires { length names.now ≤ 16 }
-    ensures { Reads result (slot_read names.now a words.now) }
-{
-    let (slot, x) = slot_and_value(alloc, names, words)?;
-    Ok(Event::Read(a, slot, x))
-}
-
-fn slot_wrote(alloc: Global, names: &[Str], a: u64, words: &[Str]) -> Result<Event, ScriptFault>
-    requires { length names.now ≤ 16 }
-    ensures { Reads result (slot_wrote names.now a words.now) }
-{
-    let (slot, x) = slot_and_value(alloc, names, words)?;
-    Ok(Event::Wrote(a, slot, x))
-}
-
-fn list_made(alloc: Global, names: &[Str], a: u64, words: &[Str]) -> Result<Event, ScriptFault>
-    requires { length names.now ≤ 16 }
-    ensures { Reads result (list_made names.now a words.now) }
-{
-    let (list, members) = list_and_members(alloc, names, words)?;
-    Ok(Event::List(a, list, members))
-}
-
-fn promised(alloc: Global, names: &[Str], a: u64, words: &[Str]) -> Result<Event, ScriptFault>
-    requires { length names.now ≤ 16 }
-    ensures { Reads result (promised names.now a words.now) }
-{
-    let (promise, resolver) = name_and_value(alloc, names, words)?;
-    Ok(Event::Promise(a, promise, resolver))
 }
 
 /// What an activation does, by the word and the words behind it.
@@ -542,17 +464,29 @@ fn act_of(
     ensures { Reads result (act_of names.now a word.now rest.now) }
 {
     match word {
-        "take" => take_of(alloc, names, a, rest),
+        "take" => {
+            let taken = addressed(alloc, names, a, rest)?;
+            Ok(Event::Take(Boxed::new(alloc, taken)?))
+        }
         "call" => called(alloc, names, a, rest),
-        "gone" => gone(a, rest),
-        "slot" => slot_made(alloc, names, a, rest),
-        "read" => slot_read(alloc, names, a, rest),
-        "wrote" => slot_wrote(alloc, names, a, rest),
-        "list" => list_made(alloc, names, a, rest),
-        "promise" => promised(alloc, names, a, rest),
+        "gone" => match rest {
+            [] => Ok(Event::Gone(a)),
+            _ => Err(ScriptFault::Rule(42)),
+        },
+        "list" => {
+            let (list, members) = list_and_members(alloc, names, rest)?;
+            Ok(Event::List(a, list, members))
+        }
+        "promise" => {
+            let (promise, resolver) = name_and_value(alloc, names, rest)?;
+            Ok(Event::Promise(a, promise, resolver))
+        }
         "made" => made(alloc, names, a, rest),
         "send" => sent(alloc, names, a, rest),
-        "sendonly" => sent_only(alloc, names, a, rest),
+        "sendonly" => {
+            let sent = addressed(alloc, names, a, rest)?;
+            Ok(Event::SendOnly(Boxed::new(alloc, sent)?))
+        }
         "when" => reacting(alloc, names, a, rest),
         _ => act_on_value(alloc, names, a, word, rest),
     }

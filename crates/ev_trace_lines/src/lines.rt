@@ -4,13 +4,14 @@ ghost use Rattle.std.specs.Prelude.{◌≡◌, ◌≤◌, length};
 ghost use Rattle.std.specs.List.{list_all};
 ghost use Rattle.ev_command_lines.specs.Lines.{is_lower_digit};
 ghost use Rattle.ev_script.specs.Script.{Reads};
-ghost use Rattle.ev_trace_lines.specs.Events.{arrived, bytes_of, carried, carry, cut_of, ended, entry, entry_of, event_of, frame, idle, inject, injected, injected_by, injection, is_raw, is_strange, left, left_held, left_link, left_of, left_queue, left_wait, line_by, lost, lost_how, malformed, notice_of, one_vat, opened, other_line, raw, settled, strange_note, strange_of, turn_of, two_vats, unnumbered, viewed, waited, waiting};
+ghost use Rattle.ev_trace_lines.specs.Events.{any_note, bytes_of, entry, event_of, inject, injection, is_strange, left, left_held, left_queue, left_wait, lost, on_link, one_vat, other_line, strange_note, two_vats};
 
-use crate::acts::{act, boxed, list_and_members, name_and_value};
+use crate::acts::{act, list_and_members, name_and_value};
 use crate::notes::{message, name, note, three_words, two_names, two_words, vat};
+use def_event::boxed::Boxed;
 use def_event::event::Event;
 use def_event::note::ShownNote;
-use ev_base::{Msg, Seq, Str, VatId};
+use ev_base::{Seq, Str, VatId};
 use ev_script::ScriptFault;
 use ev_trace_words::parts::{activation, count};
 use ev_trace_words::values::value;
@@ -63,40 +64,18 @@ fn two_vats(names: &[Str], words: &[Str]) -> Result<(VatId, VatId), ScriptFault>
     }
 }
 
-fn idle(k: u64, words: &[Str]) -> Result<Event, ScriptFault>
-    ensures { Reads result (idle k words.now) }
-{
-    match words {
-        [] => Ok(Event::Idle(k)),
-        _ => Err(ScriptFault::Rule(42)),
-    }
-}
-
-/// A frame that was put by hand has at most 4,096 bytes.
-fn injected_by(bytes: &[u8]) -> Result<Event, ScriptFault>
-    ensures { Reads result (injected_by bytes.now) }
-{
-    if bytes.len() > 4096 {
-        Err(ScriptFault::Rule(42))
-    } else {
-        Err(ScriptFault::Rule(43))
-    }
-}
-
-fn injected(alloc: Global, word: &str) -> Result<Event, ScriptFault>
-    ensures { Reads result (injected word.now) }
-{
-    let bytes = bytes_of(alloc, word)?;
-    injected_by(bytes.as_slice())
-}
-
+/// The bytes of a frame that was put by hand, of which there are at most 4,096, or `cut`.
 fn injection(alloc: Global, word: &str) -> Result<Event, ScriptFault>
     ensures { Reads result (injection word.now) }
 {
     if word == "cut" {
-        Err(ScriptFault::Rule(43))
+        return Err(ScriptFault::Rule(43));
+    }
+    let bytes = bytes_of(alloc, word)?;
+    if bytes.len() > 4096 {
+        Err(ScriptFault::Rule(42))
     } else {
-        injected(alloc, word)
+        Err(ScriptFault::Rule(43))
     }
 }
 
@@ -115,141 +94,70 @@ fn inject(alloc: Global, names: &[Str], words: &[Str]) -> Result<Event, ScriptFa
     }
 }
 
-fn malformed(what: &str) -> Result<ShownNote, ScriptFault>
-    ensures { Reads result (malformed what.now) }
-{
-    match count(what) {
-        Some(_) => Err(ScriptFault::Rule(43)),
-        None => Err(ScriptFault::Rule(42)),
-    }
-}
-
-fn raw(alloc: Global, what: &str) -> Result<ShownNote, ScriptFault>
-    ensures { Reads result (raw what.now) }
-{
-    let _bytes = bytes_of(alloc, what)?;
-    Err(ScriptFault::Rule(43))
-}
-
-fn strange_of(alloc: Global, kind: &str, what: &str) -> Result<ShownNote, ScriptFault>
-    ensures { Reads result (strange_of kind.now what.now) }
-{
-    match kind {
-        "malformed" => malformed(what),
-        "bytes" => raw(alloc, what),
-        _ => Err(ScriptFault::Rule(42)),
-    }
-}
-
 /// A note that no vat makes: a frame that is malformed, or that goes to a hostile vat.
 fn strange_note(alloc: Global, words: &[Str]) -> Result<ShownNote, ScriptFault>
     ensures { Reads result (strange_note words.now) }
 {
-    match two_words(words) {
-        Some((kind, what)) => strange_of(alloc, kind, what),
-        None => Err(ScriptFault::Rule(42)),
-    }
-}
-
-fn is_strange(words: &[Str]) -> bool
-    ensures { result ≡ is_strange words.now }
-{
-    match words {
-        [] => false,
-        [kind, ..] => kind.as_str() == "malformed" || kind.as_str() == "bytes",
-    }
-}
-
-fn is_raw(words: &[Str]) -> bool
-    ensures { result ≡ is_raw words.now }
-{
-    match words {
-        [] => false,
-        [kind, ..] => kind.as_str() == "bytes",
-    }
-}
-
-/// The note of a carry line.
-fn carried(alloc: Global, names: &[Str], words: &[Str]) -> Result<ShownNote, ScriptFault>
-    requires { length names.now ≤ 16 }
-    ensures { Reads result (carried names.now words.now) }
-{
-    if is_strange(words) {
-        strange_note(alloc, words)
-    } else {
-        note(alloc, names, words)
-    }
-}
-
-/// A note that is left on a link.
-fn waiting(alloc: Global, names: &[Str], words: &[Str]) -> Result<ShownNote, ScriptFault>
-    requires { length names.now ≤ 16 }
-    ensures { Reads result (waiting names.now words.now) }
-{
-    if is_raw(words) {
-        strange_note(alloc, words)
-    } else {
-        note(alloc, names, words)
-    }
-}
-
-fn carry(alloc: Global, names: &[Str], k: u64, words: &[Str]) -> Result<Event, ScriptFault>
-    requires { length names.now ≤ 16 }
-    ensures { Reads result (carry names.now k words.now) }
-{
-    match words {
-        [v, w, rest @ ..] => {
-            let from = vat(names, v.as_str())?;
-            let to = vat(names, w.as_str())?;
-            let found = carried(alloc, names, rest)?;
-            Ok(Event::Carry(k, from, to, boxed(alloc, found)?))
+    let Some((kind, what)) = two_words(words) else {
+        return Err(ScriptFault::Rule(42));
+    };
+    match kind {
+        "malformed" => match count(what) {
+            Some(_) => Err(ScriptFault::Rule(43)),
+            None => Err(ScriptFault::Rule(42)),
+        },
+        "bytes" => {
+            let _bytes = bytes_of(alloc, what)?;
+            Err(ScriptFault::Rule(43))
         }
         _ => Err(ScriptFault::Rule(42)),
     }
 }
 
-fn turn_of(names: &[Str], k: u64, words: &[Str]) -> Result<Event, ScriptFault>
-    requires { length names.now ≤ 16 }
-    ensures { Reads result (turn_of names.now k words.now) }
+/// Whether no vat makes this note. One that is malformed is never left on a link.
+fn is_strange(words: &[Str], left: bool) -> bool
+    ensures { result ≡ is_strange left words.now }
 {
-    let host = one_vat(names, words)?;
-    Ok(Event::Turn(k, host))
+    match words {
+        [] => false,
+        [kind, ..] => kind.as_str() == "bytes" || !left && kind.as_str() == "malformed",
+    }
 }
 
-fn cut_of(names: &[Str], k: u64, words: &[Str]) -> Result<Event, ScriptFault>
-    requires { length names.now ≤ 16 }
-    ensures { Reads result (cut_of names.now k words.now) }
-{
-    let (from, to) = two_vats(names, words)?;
-    Ok(Event::Cut(k, from, to))
-}
-
-fn notice_of(names: &[Str], k: u64, words: &[Str]) -> Result<Event, ScriptFault>
-    requires { length names.now ≤ 16 }
-    ensures { Reads result (notice_of names.now k words.now) }
-{
-    let (from, to) = two_vats(names, words)?;
-    Ok(Event::Notice(k, from, to))
-}
-
-/// An entry, by its word and the words behind it.
-fn entry_of(
+/// A note that is carried, or left on a link.
+fn any_note(
     alloc: Global,
     names: &[Str],
-    k: u64,
-    word: &str,
-    rest: &[Str],
-) -> Result<Event, ScriptFault>
+    words: &[Str],
+    left: bool,
+) -> Result<ShownNote, ScriptFault>
     requires { length names.now ≤ 16 }
-    ensures { Reads result (entry_of names.now k word.now rest.now) }
+    ensures { Reads result (any_note names.now left words.now) }
 {
-    match word {
-        "turn" => turn_of(names, k, rest),
-        "idle" => idle(k, rest),
-        "carry" => carry(alloc, names, k, rest),
-        "cut" => cut_of(names, k, rest),
-        "notice" => notice_of(names, k, rest),
-        "inject" => inject(alloc, names, rest),
+    if is_strange(words, left) {
+        strange_note(alloc, words)
+    } else {
+        note(alloc, names, words)
+    }
+}
+
+/// The two vats of a link, and a note that is carried or left on it.
+fn on_link(
+    alloc: Global,
+    names: &[Str],
+    words: &[Str],
+    left: bool,
+) -> Result<(VatId, VatId, Boxed<ShownNote>), ScriptFault>
+    requires { length names.now ≤ 16 }
+    ensures { Reads result (on_link names.now left words.now) }
+{
+    match words {
+        [v, w, rest @ ..] => {
+            let from = vat(names, v.as_str())?;
+            let to = vat(names, w.as_str())?;
+            let found = any_note(alloc, names, rest, left)?;
+            Ok((from, to, Boxed::new(alloc, found)?))
+        }
         _ => Err(ScriptFault::Rule(42)),
     }
 }
@@ -258,28 +166,29 @@ fn entry(alloc: Global, names: &[Str], k: u64, words: &[Str]) -> Result<Event, S
     requires { length names.now ≤ 16 }
     ensures { Reads result (entry names.now k words.now) }
 {
-    match words {
-        [] => Err(ScriptFault::Rule(42)),
-        [word, rest @ ..] => entry_of(alloc, names, k, word.as_str(), rest),
-    }
-}
-
-fn frame(alloc: Global, words: &[Str]) -> Result<Event, ScriptFault>
-    ensures { Reads result (frame words.now) }
-{
-    match words {
-        [word] => Ok(Event::Frame(bytes_of(alloc, word.as_str())?)),
+    let [word, rest @ ..] = words else {
+        return Err(ScriptFault::Rule(42));
+    };
+    match word.as_str() {
+        "turn" => Ok(Event::Turn(k, one_vat(names, rest)?)),
+        "idle" => match rest {
+            [] => Ok(Event::Idle(k)),
+            _ => Err(ScriptFault::Rule(42)),
+        },
+        "carry" => {
+            let (from, to, note) = on_link(alloc, names, rest, false)?;
+            Ok(Event::Carry(k, from, to, note))
+        }
+        "cut" => {
+            let (from, to) = two_vats(names, rest)?;
+            Ok(Event::Cut(k, from, to))
+        }
+        "notice" => {
+            let (from, to) = two_vats(names, rest)?;
+            Ok(Event::Notice(k, from, to))
+        }
+        "inject" => inject(alloc, names, rest),
         _ => Err(ScriptFault::Rule(42)),
-    }
-}
-
-fn lost_how(message: Msg, word: &str) -> Option<Event>
-    ensures { result ≡ lost_how message word.now }
-{
-    match word {
-        "cut" => Some(Event::LostCut(message)),
-        "broken" => Some(Event::LostBroken(message)),
-        _ => None,
     }
 }
 
@@ -291,9 +200,10 @@ fn lost(names: &[Str], words: &[Str]) -> Result<Event, ScriptFault>
         return Err(ScriptFault::Rule(42));
     };
     let id = message(names, id)?;
-    match lost_how(id, word) {
-        Some(event) => Ok(event),
-        None => Err(ScriptFault::Rule(42)),
+    match word {
+        "cut" => Ok(Event::LostCut(id)),
+        "broken" => Ok(Event::LostBroken(id)),
+        _ => Err(ScriptFault::Rule(42)),
     }
 }
 
@@ -341,92 +251,24 @@ fn left_wait(alloc: Global, names: &[Str], words: &[Str]) -> Result<Event, Scrip
     }
 }
 
-fn left_link(alloc: Global, names: &[Str], words: &[Str]) -> Result<Event, ScriptFault>
-    requires { length names.now ≤ 16 }
-    ensures { Reads result (left_link names.now words.now) }
-{
-    match words {
-        [v, w, rest @ ..] => {
-            let from = vat(names, v.as_str())?;
-            let to = vat(names, w.as_str())?;
-            let found = waiting(alloc, names, rest)?;
-            Ok(Event::LeftLink(from, to, boxed(alloc, found)?))
-        }
-        _ => Err(ScriptFault::Rule(42)),
-    }
-}
-
-fn left_of(alloc: Global, names: &[Str], word: &str, rest: &[Str]) -> Result<Event, ScriptFault>
-    requires { length names.now ≤ 16 }
-    ensures { Reads result (left_of names.now word.now rest.now) }
-{
-    match word {
-        "queue" => left_queue(names, rest),
-        "held" => left_held(names, rest),
-        "wait" => left_wait(alloc, names, rest),
-        "link" => left_link(alloc, names, rest),
-        _ => Err(ScriptFault::Rule(42)),
-    }
-}
-
 /// What is left at the end of a run.
 fn left(alloc: Global, names: &[Str], words: &[Str]) -> Result<Event, ScriptFault>
     requires { length names.now ≤ 16 }
     ensures { Reads result (left names.now words.now) }
 {
-    match words {
-        [] => Err(ScriptFault::Rule(42)),
-        [word, rest @ ..] => left_of(alloc, names, word.as_str(), rest),
-    }
-}
-
-fn ended(words: &[Str]) -> Result<Event, ScriptFault>
-    ensures { Reads result (ended words.now) }
-{
-    match words {
-        [] => Ok(Event::End),
+    let [word, rest @ ..] = words else {
+        return Err(ScriptFault::Rule(42));
+    };
+    match word.as_str() {
+        "queue" => left_queue(names, rest),
+        "held" => left_held(names, rest),
+        "wait" => left_wait(alloc, names, rest),
+        "link" => {
+            let (from, to, note) = on_link(alloc, names, rest, true)?;
+            Ok(Event::LeftLink(from, to, note))
+        }
         _ => Err(ScriptFault::Rule(42)),
     }
-}
-
-fn opened(names: &[Str], words: &[Str]) -> Result<Event, ScriptFault>
-    requires { length names.now ≤ 16 }
-    ensures { Reads result (opened names.now words.now) }
-{
-    let host = one_vat(names, words)?;
-    Ok(Event::Open(host))
-}
-
-fn arrived(alloc: Global, names: &[Str], words: &[Str]) -> Result<Event, ScriptFault>
-    requires { length names.now ≤ 16 }
-    ensures { Reads result (arrived names.now words.now) }
-{
-    let (list, members) = list_and_members(alloc, names, words)?;
-    Ok(Event::Arrived(list, members))
-}
-
-fn settled(alloc: Global, names: &[Str], words: &[Str]) -> Result<Event, ScriptFault>
-    requires { length names.now ≤ 16 }
-    ensures { Reads result (settled names.now words.now) }
-{
-    let (promise, target) = name_and_value(alloc, names, words)?;
-    Ok(Event::Settle(promise, target))
-}
-
-fn waited(names: &[Str], words: &[Str]) -> Result<Event, ScriptFault>
-    requires { length names.now ≤ 16 }
-    ensures { Reads result (waited names.now words.now) }
-{
-    let (promise, other) = two_names(names, words)?;
-    Ok(Event::Wait(promise, other))
-}
-
-fn viewed(names: &[Str], words: &[Str]) -> Result<Event, ScriptFault>
-    requires { length names.now ≤ 16 }
-    ensures { Reads result (viewed names.now words.now) }
-{
-    let (promise, other) = two_names(names, words)?;
-    Ok(Event::View(promise, other))
 }
 
 /// A line that is no entry and of no activation.
@@ -435,48 +277,34 @@ fn other_line(alloc: Global, names: &[Str], word: &str, rest: &[Str]) -> Result<
     ensures { Reads result (other_line names.now word.now rest.now) }
 {
     match word {
-        "open" => opened(names, rest),
-        "frame" => frame(alloc, rest),
-        "list" => arrived(alloc, names, rest),
-        "settle" => settled(alloc, names, rest),
-        "wait" => waited(names, rest),
-        "view" => viewed(names, rest),
+        "open" => Ok(Event::Open(one_vat(names, rest)?)),
+        "frame" => match rest {
+            [word] => Ok(Event::Frame(bytes_of(alloc, word.as_str())?)),
+            _ => Err(ScriptFault::Rule(42)),
+        },
+        "list" => {
+            let (list, members) = list_and_members(alloc, names, rest)?;
+            Ok(Event::Arrived(list, members))
+        }
+        "settle" => {
+            let (promise, target) = name_and_value(alloc, names, rest)?;
+            Ok(Event::Settle(promise, target))
+        }
+        "wait" => {
+            let (promise, other) = two_names(names, rest)?;
+            Ok(Event::Wait(promise, other))
+        }
+        "view" => {
+            let (promise, other) = two_names(names, rest)?;
+            Ok(Event::View(promise, other))
+        }
         "lost" => lost(names, rest),
         "left" => left(alloc, names, rest),
-        "end" => ended(rest),
+        "end" => match rest {
+            [] => Ok(Event::End),
+            _ => Err(ScriptFault::Rule(42)),
+        },
         _ => Err(ScriptFault::Rule(42)),
-    }
-}
-
-fn unnumbered(
-    alloc: Global,
-    names: &[Str],
-    word: &str,
-    entry_number: Option<u64>,
-    rest: &[Str],
-) -> Result<Event, ScriptFault>
-    requires { length names.now ≤ 16 }
-    ensures { Reads result (unnumbered names.now word.now entry_number rest.now) }
-{
-    match entry_number {
-        None => other_line(alloc, names, word, rest),
-        Some(k) => entry(alloc, names, k, rest),
-    }
-}
-
-fn line_by(
-    alloc: Global,
-    names: &[Str],
-    word: &str,
-    id: Option<u64>,
-    rest: &[Str],
-) -> Result<Event, ScriptFault>
-    requires { length names.now ≤ 16 }
-    ensures { Reads result (line_by names.now word.now id rest.now) }
-{
-    match id {
-        None => unnumbered(alloc, names, word, count(word), rest),
-        Some(a) => act(alloc, names, a, rest),
     }
 }
 
@@ -486,10 +314,14 @@ pub fn event_of(alloc: Global, names: &[Str], words: &[Str]) -> Result<Event, Sc
     requires { length names.now ≤ 16 }
     ensures { Reads result (event_of names.now words.now) }
 {
-    match words {
-        [] => Err(ScriptFault::Rule(42)),
-        [word, rest @ ..] => {
-            line_by(alloc, names, word.as_str(), activation(word.as_str()), rest)
-        }
+    let [word, rest @ ..] = words else {
+        return Err(ScriptFault::Rule(42));
+    };
+    if let Some(a) = activation(word.as_str()) {
+        return act(alloc, names, a, rest);
+    }
+    match count(word.as_str()) {
+        Some(k) => entry(alloc, names, k, rest),
+        None => other_line(alloc, names, word.as_str(), rest),
     }
 }

@@ -1,5 +1,5 @@
 -- Lines of events are read again, kind by kind.
-use Rattle.std.proofs.Common.{◌≡◌, ◌<◌, ◌++◌, ◌^◌, ℕ, List, [], ◌∷◌, Option, Some, None, length, refl, ◌∙◌, ap}
+use Rattle.std.proofs.Common.{◌≡◌, ◌<◌, ◌++◌, ◌^◌, ℕ, Bool, true, false, List, [], ◌∷◌, Option, Some, None, length, refl, ◌∙◌, ap}
 use Rattle.std.specs.Prelude.{codes, Result, Ok}
 use Rattle.std.proofs.lemmas.List.{append-nil}
 use Rattle.ev_base.specs.declared.names.Msg.{Msg}
@@ -24,13 +24,13 @@ use Rattle.ev_trace_words.specs.Parts.{activation, message, name, numbered}
 use Rattle.ev_trace_words.specs.Texts.{object_name, verb}
 use Rattle.ev_trace_words.specs.Values.{value, values}
 use Rattle.ev_trace_words.proofs.Printed.{message_again, name_again, numbered_again, place_again}
-use Rattle.ev_trace_lines.specs.Events.{Words, three_words, two_words, begun, act_on_value, addressed, answered, arrow_name, asked, asked_with, before_word, behind_word, called, captures, carried, carry, event_of, left_held, left_link, left_queue, left_wait, list_and_members, lost, made, made_with, name_and_value, one_vat, part_behind, reacting, sent, slot_and_value, two_names, two_values, two_vats, valued, waiting}
+use Rattle.ev_trace_lines.specs.Events.{Words, three_words, two_words, begun, act_on_value, addressed, answered, any_note, arrow_name, asked, asked_with, before_word, behind_word, called, captures, event_of, left_held, left_queue, left_wait, list_and_members, lost, made, made_with, name_and_value, on_link, one_vat, part_behind, reacting, sent, slotted, two_names, two_values, two_vats, valued}
 use Rattle.law_trace.specs.Seen.{seen, seen_note, seen_value, seen_values}
-use Rattle.law_trace.specs.Readable.{AreValues, Below, IsMessage, IsName, IsRead, IsThing, IsValue, MayBegin}
+use Rattle.law_trace.specs.Readable.{AreValues, Below, IsMessage, IsName, IsNote, IsRead, IsThing, IsValue, MayBegin}
 use Rattle.law_trace.specs.Events.{EventsAreReadAgain}
 use Rattle.law_trace.proofs.LinesAgain.{IsNoValue, IsOther, act_line, activation_again, all_again, before_at, before_none, behind_at, behind_none, entry_line, goes, no_arrow, no_as, no_stamps, object_again, other_by, verb_again}
 use Rattle.law_trace.proofs.AnyValue.{fits, value_again}
-use Rattle.law_trace.proofs.NotesAgain.{carried_again, two_names_by, waiting_again}
+use Rattle.law_trace.proofs.NotesAgain.{any_note_again, two_names_by}
 
 module _ (names : List (List ℕ)) where
   -- ---- by what the words of a line are read as
@@ -45,10 +45,6 @@ module _ (names : List (List ℕ)) where
   name_and_value_by : (x y : List ℕ) (p : Name) (s : Shown) → name names x ≡ Some p → value names y ≡ Ok s → name_and_value names (x ∷ y ∷ []) ≡ Ok (p, s)
   unfolding two_words
   name_and_value_by x y p s e f = rw e (rw f refl)
-
-  slot_and_value_by : (x y : List ℕ) (slot : ℕ × ℕ) (s : Shown) → numbered names 38 x ≡ Some slot → value names y ≡ Ok s → slot_and_value names (x ∷ y ∷ []) ≡ Ok (slot, s)
-  unfolding two_words
-  slot_and_value_by x y slot s e f = rw e (rw f refl)
 
   list_and_members_by : (l : List ℕ) (ws : Words) (list : ℕ × ℕ) (xs : List Shown) → numbered names 37 l ≡ Some list → values names ws ≡ Ok xs → list_and_members names (l ∷ ws) ≡ Ok (list, xs)
   list_and_members_by l ws list xs e f = rw e (rw f refl)
@@ -95,13 +91,12 @@ module _ (names : List (List ℕ)) where
   on_value : (a : ℕ) (word w : List ℕ) (x : Shown) → value names w ≡ Ok x → act_on_value names a word (w ∷ []) ≡ rule 42 (valued a word x)
   on_value a word w x e = ap (λ (r : Result Shown ℕ). r >>= (λ (y : Shown). rule 42 (valued a word y))) e
 
-  carry_by : (k : ℕ) (x y : List ℕ) (rest : Words) (v w : ℕ) (note : ShownNote) → place_of names x ≡ Some v → place_of names y ≡ Some w → carried names rest ≡ Ok note
-      → carry names k (x ∷ y ∷ rest) ≡ Ok (Carry k v w note)
-  carry_by k x y rest v w note e f g = rw e (rw f (rw g refl))
+  on_slot : (a : ℕ) (word l w : List ℕ) (slot : ℕ × ℕ) (x : Shown) → numbered names 38 l ≡ Some slot → value names w ≡ Ok x → act_on_value names a word (l ∷ w ∷ []) ≡ rule 42 (slotted a word slot x)
+  on_slot a word l w slot x e f = rw e (rw f refl)
 
-  left_link_by : (x y : List ℕ) (rest : Words) (v w : ℕ) (note : ShownNote) → place_of names x ≡ Some v → place_of names y ≡ Some w → waiting names rest ≡ Ok note
-      → left_link names (x ∷ y ∷ rest) ≡ Ok (LeftLink v w note)
-  left_link_by x y rest v w note e f g = rw e (rw f (rw g refl))
+  on_link_by : (left : Bool) (x y : List ℕ) (rest : Words) (v w : ℕ) (note : ShownNote) → place_of names x ≡ Some v → place_of names y ≡ Some w → any_note names left rest ≡ Ok note
+      → on_link names left (x ∷ y ∷ rest) ≡ Ok (v, w, note)
+  on_link_by left x y rest v w note e f g = rw e (rw f (rw g refl))
 
   lost_cut_by : (w : List ℕ) (m : Msg) → message names w ≡ Some m → lost names (w ∷ codes "cut" ∷ []) ≡ Ok (LostCut m)
   unfolding two_words
@@ -206,11 +201,11 @@ module _ (names : List (List ℕ)) (are : AreNames names) where
   named_value_goes p x f h k =
       goes (name_and_value names (lines.name names p ∷ lines.value names x ∷ [])) (p, seen_value x) f (name_and_value_by names (lines.name names p) (lines.value names x) p (seen_value x) (name_back p h) (value_back x k))
 
-  slot_goes : (s : ℕ × ℕ) (x : Shown) (f : (ℕ × ℕ) × Shown → Result Event ℕ) → IsThing (Below names) s.0 s.1 → IsValue (Below names) x
-      → (slot_and_value names (lines.numbered names s.0 38 s.1 ∷ lines.value names x ∷ []) >>= f) ≡ f (s, seen_value x)
-  slot_goes s x f h k =
-      goes (slot_and_value names (lines.numbered names s.0 38 s.1 ∷ lines.value names x ∷ [])) (s, seen_value x) f
-      (slot_and_value_by names (lines.numbered names s.0 38 s.1) (lines.value names x) s (seen_value x) (numbered_again names s.0 38 s.1 are h.0 h.1 refl) (value_back x k))
+  link_goes : (left : Bool) (v w : ℕ) (note : ShownNote) (f : ℕ × ℕ × ShownNote → Result Event ℕ) → v < length names → w < length names → IsNote (Below names) note
+      → (on_link names left (lines.vat names v ∷ lines.vat names w ∷ note_words names note) >>= f) ≡ f (v, w, seen_note note)
+  link_goes left v w note f h k l =
+      goes (on_link names left (lines.vat names v ∷ lines.vat names w ∷ note_words names note)) (v, w, seen_note note) f
+      (on_link_by names left (lines.vat names v) (lines.vat names w) (note_words names note) v w (seen_note note) (vat_back v h) (vat_back w k) (any_note_again names are left note l))
 
   list_goes : (l : ℕ × ℕ) (xs : List Shown) (f : (ℕ × ℕ) × List Shown → Result Event ℕ) → IsThing (Below names) l.0 l.1 → AreValues (Below names) xs
       → (list_and_members names (lines.numbered names l.0 37 l.1 ∷ lines.values names xs) >>= f) ≡ f (l, seen_values xs)
@@ -226,6 +221,11 @@ module _ (names : List (List ℕ)) (are : AreNames names) where
   -- an act of one value
   one_value_line : (a : ℕ) (word : List ℕ) (x : Shown) → a < 2 ^ 64 → IsValue (Below names) x → act_on_value names a word (lines.value names x ∷ []) ≡ rule 42 (valued a word (seen_value x))
   one_value_line a word x h k = on_value names a word (lines.value names x) (seen_value x) (value_back x k)
+
+  -- an act of a var slot and a value
+  slot_line : (a : ℕ) (word : List ℕ) (s : ℕ × ℕ) (x : Shown) → IsThing (Below names) s.0 s.1 → IsValue (Below names) x
+      → act_on_value names a word (lines.numbered names s.0 38 s.1 ∷ lines.value names x ∷ []) ≡ rule 42 (slotted a word s (seen_value x))
+  slot_line a word s x h k = on_slot names a word (lines.numbered names s.0 38 s.1) (lines.value names x) s (seen_value x) (numbered_again names s.0 38 s.1 are h.0 h.1 refl) (value_back x k)
 
   call_line : (c : Called) → IsRead (Below names) (Call c) → called names c.activation (lines.value names c.target ∷ printed_verb c.verb ∷ (lines.values names c.args ++ begun_words c.begun)) ≡ Ok (seen (Call c))
   call_line c h =
@@ -258,9 +258,7 @@ module _ (names : List (List ℕ)) (are : AreNames names) where
   event_again (Open v) h = vat_goes v (λ u. Ok (Open u)) h
   event_again (Turn k v) h = entry_line names k (codes "turn" ∷ lines.vat names v ∷ []) h.0 ∙ vat_goes v (λ u. Ok (Turn k u)) h.1
   event_again (Idle k) h = entry_line names k (codes "idle" ∷ []) h
-  event_again (Carry k v w note) h =
-      entry_line names k (codes "carry" ∷ lines.vat names v ∷ lines.vat names w ∷ note_words names note) h.0
-      ∙ carry_by names k (lines.vat names v) (lines.vat names w) (note_words names note) v w (seen_note note) (vat_back v h.1) (vat_back w h.2) (carried_again names are note h.3)
+  event_again (Carry k v w note) h = entry_line names k (codes "carry" ∷ lines.vat names v ∷ lines.vat names w ∷ note_words names note) h.0 ∙ link_goes false v w note (λ n. Ok (Carry k n.0 n.1 n.2)) h.1 h.2 h.3
   event_again (Cut k v w) h = entry_line names k (codes "cut" ∷ lines.vat names v ∷ lines.vat names w ∷ []) h.0 ∙ vats_go v w (λ p. Ok (Cut k p.0 p.1)) h.1 h.2
   event_again (Notice k v w) h = entry_line names k (codes "notice" ∷ lines.vat names v ∷ lines.vat names w ∷ []) h.0 ∙ vats_go v w (λ p. Ok (Notice k p.0 p.1)) h.1 h.2
   event_again (Frame bytes) h = absurd h
@@ -270,9 +268,9 @@ module _ (names : List (List ℕ)) (are : AreNames names) where
   event_again (Thrown a x) h = act_line names a (codes "thrown" ∷ lines.value names x ∷ []) h.0 ∙ one_value_line a (codes "thrown") x h.0 h.1
   event_again (Gone a) h = act_line names a (codes "gone" ∷ []) h
   event_again (Got a x) h = act_line names a (codes "got" ∷ lines.value names x ∷ []) h.0 ∙ one_value_line a (codes "got") x h.0 h.1
-  event_again (SlotMade a s x) h = act_line names a (codes "slot" ∷ lines.numbered names s.0 38 s.1 ∷ lines.value names x ∷ []) h.0 ∙ slot_goes s x (λ p. Ok (SlotMade a p.0 p.1)) h.1 h.2
-  event_again (Read a s x) h = act_line names a (codes "read" ∷ lines.numbered names s.0 38 s.1 ∷ lines.value names x ∷ []) h.0 ∙ slot_goes s x (λ p. Ok (Read a p.0 p.1)) h.1 h.2
-  event_again (Wrote a s x) h = act_line names a (codes "wrote" ∷ lines.numbered names s.0 38 s.1 ∷ lines.value names x ∷ []) h.0 ∙ slot_goes s x (λ p. Ok (Wrote a p.0 p.1)) h.1 h.2
+  event_again (SlotMade a s x) h = act_line names a (codes "slot" ∷ lines.numbered names s.0 38 s.1 ∷ lines.value names x ∷ []) h.0 ∙ slot_line a (codes "slot") s x h.1 h.2
+  event_again (Read a s x) h = act_line names a (codes "read" ∷ lines.numbered names s.0 38 s.1 ∷ lines.value names x ∷ []) h.0 ∙ slot_line a (codes "read") s x h.1 h.2
+  event_again (Wrote a s x) h = act_line names a (codes "wrote" ∷ lines.numbered names s.0 38 s.1 ∷ lines.value names x ∷ []) h.0 ∙ slot_line a (codes "wrote") s x h.1 h.2
   event_again (ListMade a l xs) h = act_line names a (codes "list" ∷ lines.numbered names l.0 37 l.1 ∷ lines.values names xs) h.0 ∙ list_goes l xs (λ p. Ok (ListMade a p.0 p.1)) h.1 h.2
   event_again (Arrived l xs) h = list_goes l xs (λ p. Ok (Arrived p.0 p.1)) h.0 h.1
   event_again (Ejector a o) h = act_line names a (codes "ejector" ∷ lines.value names o ∷ []) h.0 ∙ one_value_line a (codes "ejector") o h.0 h.1
@@ -293,7 +291,7 @@ module _ (names : List (List ℕ)) (are : AreNames names) where
   event_again (LeftQueue v m) h = left_queue_by names (lines.vat names v) (lines.message names m) v m (vat_back v h.0) (message_back m h.1)
   event_again (LeftHeld v p m) h = left_held_by names (lines.vat names v) (lines.name names p) (lines.message names m) v p m (vat_back v h.0) (name_back p h.1) (message_back m h.2)
   event_again (LeftWait v x m) h = left_wait_by names (lines.vat names v) (lines.value names x) (lines.message names m) v (seen_value x) m (vat_back v h.0) (value_back x h.1) (message_back m h.2)
-  event_again (LeftLink v w note) h = left_link_by names (lines.vat names v) (lines.vat names w) (note_words names note) v w (seen_note note) (vat_back v h.0) (vat_back w h.1) (waiting_again names are note h.2)
+  event_again (LeftLink v w note) h = link_goes true v w note (λ n. Ok (LeftLink n.0 n.1 n.2)) h.0 h.1 h.2
   event_again End h = refl
 
 pub events_again : EventsAreReadAgain

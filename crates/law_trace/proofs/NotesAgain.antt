@@ -1,5 +1,5 @@
 -- Notes are read again.
-use Rattle.std.proofs.Common.{◌≡◌, ℕ, true, false, cond, List, [], ◌∷◌, Some, refl, ◌∙◌, ap}
+use Rattle.std.proofs.Common.{◌≡◌, ℕ, Bool, true, false, cond, List, [], ◌∷◌, Some, refl, ◌∙◌, ap}
 use Rattle.std.specs.Prelude.{Result, Ok}
 use Rattle.ev_base.specs.declared.names.Msg.{Msg}
 use Rattle.ev_base.specs.declared.names.Name.{Name}
@@ -16,7 +16,7 @@ use Rattle.ev_trace_words.specs.Parts.{message, name}
 use Rattle.ev_trace_words.specs.Texts.{verb}
 use Rattle.ev_trace_words.specs.Values.{note_value, note_values}
 use Rattle.ev_trace_words.proofs.Printed.{message_again, name_again, place_again}
-use Rattle.ev_trace_lines.specs.Events.{Words, carried, delivering, delivery, delivery_with, is_raw, is_strange, name_and_vat, note, settled_note, strange_note, two_names, two_words, waiting}
+use Rattle.ev_trace_lines.specs.Events.{Words, any_note, delivering, delivery, delivery_with, is_strange, name_and_vat, note, settled_note, strange_note, two_names, two_words}
 use Rattle.law_trace.specs.Seen.{seen_note, seen_value, seen_values}
 use Rattle.law_trace.specs.Readable.{Below, IsMessage, IsName, IsNote, IsPassed}
 use Rattle.law_trace.proofs.PassedAgain.{passed_again}
@@ -68,12 +68,11 @@ module _ (names : List (List ℕ)) (are : AreNames names) where
   note_again (Shorten p q) h = goes _ _ (λ (n : Name × Name). Ok (Shorten n.0 n.1)) (two_names_by names (lines.name names p) (lines.name names q) p q (name_back p h.0) (name_back q h.1))
 
   -- no vat makes a note of bytes by hand
-  not_strange : (n : ShownNote) → (is_strange (note_words names n) ≡ false) × (is_raw (note_words names n) ≡ false)
-  not_strange (Deliver m t q xs) = (refl, refl)
-  not_strange other = (refl, refl)
+  not_strange : (left : Bool) (n : ShownNote) → is_strange left (note_words names n) ≡ false
+  not_strange true (Deliver m t q xs) = refl
+  not_strange true other = refl
+  not_strange false (Deliver m t q xs) = refl
+  not_strange false other = refl
 
-  pub carried_again : (n : ShownNote) → IsNote (Below names) n → carried names (note_words names n) ≡ Ok (seen_note n)
-  carried_again n h = ap (λ b. cond {A = Result ShownNote ℕ} b (strange_note (note_words names n)) (note names (note_words names n))) (not_strange n).0 ∙ note_again n h
-
-  pub waiting_again : (n : ShownNote) → IsNote (Below names) n → waiting names (note_words names n) ≡ Ok (seen_note n)
-  waiting_again n h = ap (λ b. cond {A = Result ShownNote ℕ} b (strange_note (note_words names n)) (note names (note_words names n))) (not_strange n).1 ∙ note_again n h
+  pub any_note_again : (left : Bool) (n : ShownNote) → IsNote (Below names) n → any_note names left (note_words names n) ≡ Ok (seen_note n)
+  any_note_again left n h = ap (λ b. cond {A = Result ShownNote ℕ} b (strange_note (note_words names n)) (note names (note_words names n))) (not_strange left n) ∙ note_again n h
