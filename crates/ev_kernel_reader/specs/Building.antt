@@ -86,22 +86,35 @@ node_of_nodes Finally items = node.Finally (node_at items 0) (node_at items 1)
 node_of_nodes Hide items = node.Hide (node_at items 0)
 node_of_nodes Match items = node.MatchBind (node_at items 0) (node_at items 1)
 node_of_nodes Matcher items = node.Matcher (node_at items 0) (node_at items 1)
-node_of_nodes Any items = node.Any (found_node items 0)
 node_of_nodes Via items = node.Via (node_at items 0) (node_at items 1)
-node_of_nodes NoName items = node.Any None
 node_of_nodes _ items = no_node
+
+-- of one that begins with a word
+abbrev pub node_of_word : Head → List Item → Node
+node_of_word Noun items = node.Noun (word_at items 0)
+node_of_word Set items = node.Set (word_at items 0) (node_at items 1)
+node_of_word Var items = node.Var (word_at items 0) (found_node items 1)
+node_of_word FinalName items = node.Final (word_at items 0) None
+node_of_word _ items = node.Final (word_at items 0) (found_node items 1)
+
+-- of one that has any number of items
+abbrev pub node_of_many : Head → List Item → Node
+node_of_many ListHead items = node.ListPattern (numbers (drop 0 items))
+node_of_many _ items = node.Sequence (numbers (drop 0 items))
 
 -- the node of any shape
 abbrev pub built : Head → List Item → Node
 built Lit items = node.Lit (literal_at items 0)
-built Noun items = node.Noun (word_at items 0)
-built Set items = node.Set (word_at items 0) (node_at items 1)
 built Call items = node.Call (node_at items 0) (word_at items 1) (numbers (drop 2 items))
-built Seq items = node.Sequence (numbers (drop 0 items))
 built Object items = node.Object (node_at items 0) (nodes_at items 1) (numbers (drop 2 items))
 built Method items = node.Method (word_at items 0) (nodes_at items 1) (node_at items 2)
-built Final items = node.Final (word_at items 0) (found_node items 1)
-built Var items = node.Var (word_at items 0) (found_node items 1)
-built ListHead items = node.ListPattern (numbers (drop 0 items))
-built FinalName items = node.Final (word_at items 0) None
+built Noun items = node_of_word Noun items
+built Set items = node_of_word Set items
+built Final items = node_of_word Final items
+built Var items = node_of_word Var items
+built FinalName items = node_of_word FinalName items
+built Seq items = node_of_many Seq items
+built ListHead items = node_of_many ListHead items
+built Any items = node.Any (found_node items 0)
+built NoName items = node.Any None
 built head items = node_of_nodes head items

@@ -5,10 +5,10 @@ use Rattle.def_kernel_form.specs.Reading.{wanted, ends, takes_exit}
 use Rattle.ev_kernel_reader.specs.declared.table.Entry.{Entry}
 use Rattle.ev_kernel_reader.specs.declared.table.Outlook.{Outlook}
 
--- the entries as words with their shapes
+-- the words of a table, with their shapes
 abbrev pub entries : List Entry → List (List ℕ × Head)
 entries [] = []
-entries (entry ∷ rest) = (entry.word.now, entry.head) ∷ entries rest
+entries (entry ∷ rest) = (entry.0.now, entry.1) ∷ entries rest
 
 -- what may come next behind so many items
 abbrev pub outlook_of : Head → ℕ → Outlook

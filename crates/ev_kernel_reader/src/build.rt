@@ -2,7 +2,7 @@
 
 ghost use Rattle.std.specs.Prelude.{◌≡◌, IfOk, drop};
 ghost use Rattle.def_kernel_form.specs.Reading.{numbers, node_of};
-ghost use Rattle.ev_kernel_reader.specs.Building.{is_of, fits, fit, found_node, node_at, caught, word_at, literal_at, nodes_at, node_of_nodes, built};
+ghost use Rattle.ev_kernel_reader.specs.Building.{is_of, fits, fit, found_node, node_at, caught, word_at, literal_at, nodes_at, node_of_nodes, node_of_word, node_of_many, built};
 
 use crate::table::fixed;
 use def_kernel::node::{Literal, Node};
@@ -156,11 +156,80 @@ fn node_of_nodes(head: Head, items: &[Item]) -> Node
             pattern: first,
             body: second,
         },
-        Head::Any => Node::Any(found_node(items, 0)),
         Head::Via => Node::Via(first, second),
-        Head::NoName => Node::Any(None),
         _ => Node::Hide(NodeId(0)),
     }
+}
+
+/// The node of a shape that begins with a word: a final pattern, where it is none of the others.
+fn node_of_word(alloc: Global, head: Head, items: &[Item]) -> Result<Node, Memory>
+    ensures { IfOk result (λ node. node ≡ node_of_word head items.now) }
+{
+    let word = word_at(alloc, items, 0)?;
+    match head {
+        Head::Noun => Ok(Node::Noun(word)),
+        Head::Set => Ok(Node::Set(word, node_at(items, 1))),
+        Head::Var => Ok(Node::Var(word, found_node(items, 1))),
+        Head::FinalName => Ok(Node::Final(word, None)),
+        _ => Ok(Node::Final(word, found_node(items, 1))),
+    }
+}
+
+/// The node of a list pattern, or else of a sequence.
+fn node_of_many(alloc: Global, head: Head, items: &[Item]) -> Result<Node, Memory>
+    ensures { IfOk result (λ node. node ≡ node_of_many head items.now) }
+{
+    let nodes = numbers(alloc, items, 0)?;
+    match head {
+        Head::List => Ok(Node::ListPattern(nodes)),
+        _ => Ok(Node::Sequence(nodes)),
+    }
+}
+
+/// The node of a call.
+fn call(alloc: Global, items: &[Item]) -> Result<Node, Memory>
+    ensures { IfOk result (λ node. node ≡ built Head.Call items.now) }
+{
+    let verb = word_at(alloc, items, 1)?;
+    let args = numbers(alloc, items, 2)?;
+    Ok(Node::Call {
+        receiver: node_at(items, 0),
+        verb,
+        args,
+    })
+}
+
+/// The node of an object.
+fn object(alloc: Global, items: &[Item]) -> Result<Node, Memory>
+    ensures { IfOk result (λ node. node ≡ built Head.Object items.now) }
+{
+    let auditors = nodes_at(alloc, items, 1)?;
+    let members = numbers(alloc, items, 2)?;
+    Ok(Node::Object {
+        pattern: node_at(items, 0),
+        auditors,
+        members,
+    })
+}
+
+/// The node of a method.
+fn method(alloc: Global, items: &[Item]) -> Result<Node, Memory>
+    ensures { IfOk result (λ node. node ≡ built Head.Method items.now) }
+{
+    let verb = word_at(alloc, items, 0)?;
+    let patterns = nodes_at(alloc, items, 1)?;
+    Ok(Node::Method {
+        verb,
+        patterns,
+        body: node_at(items, 2),
+    })
+}
+
+/// The node of a literal.
+fn lit(items: &[Item]) -> Result<Node, Memory>
+    ensures { IfOk result (λ node. node ≡ built Head.Lit items.now) }
+{
+    Ok(Node::Lit(literal_at(items, 0)?))
 }
 
 /// The node of a shape with items that fit it.
@@ -168,30 +237,27 @@ fn built(alloc: Global, head: Head, items: &[Item]) -> Result<Node, Memory>
     ensures { IfOk result (λ node. node ≡ built head items.now) }
 {
     match head {
-        Head::Lit => Ok(Node::Lit(literal_at(items, 0)?)),
-        Head::Noun => Ok(Node::Noun(word_at(alloc, items, 0)?)),
-        Head::Set => Ok(Node::Set(word_at(alloc, items, 0)?, node_at(items, 1))),
-        Head::Call => Ok(Node::Call {
-            receiver: node_at(items, 0),
-            verb: word_at(alloc, items, 1)?,
-            args: numbers(alloc, items, 2)?,
-        }),
-        Head::Seq => Ok(Node::Sequence(numbers(alloc, items, 0)?)),
-        Head::Object => Ok(Node::Object {
-            pattern: node_at(items, 0),
-            auditors: nodes_at(alloc, items, 1)?,
-            members: numbers(alloc, items, 2)?,
-        }),
-        Head::Method => Ok(Node::Method {
-            verb: word_at(alloc, items, 0)?,
-            patterns: nodes_at(alloc, items, 1)?,
-            body: node_at(items, 2),
-        }),
-        Head::Final => Ok(Node::Final(word_at(alloc, items, 0)?, found_node(items, 1))),
-        Head::Var => Ok(Node::Var(word_at(alloc, items, 0)?, found_node(items, 1))),
-        Head::List => Ok(Node::ListPattern(numbers(alloc, items, 0)?)),
-        Head::FinalName => Ok(Node::Final(word_at(alloc, items, 0)?, None)),
-        _ => Ok(node_of_nodes(head, items)),
+        Head::Lit => lit(items),
+        Head::Call => call(alloc, items),
+        Head::Object => object(alloc, items),
+        Head::Method => method(alloc, items),
+        Head::Noun | Head::Set | Head::Final | Head::Var | Head::FinalName => {
+            node_of_word(alloc, head, items)
+        }
+        Head::Seq | Head::List => node_of_many(alloc, head, items),
+        Head::Any => Ok(Node::Any(found_node(items, 0))),
+        Head::NoName => Ok(Node::Any(None)),
+        Head::Def
+        | Head::DefExit
+        | Head::If
+        | Head::Escape
+        | Head::Try
+        | Head::Finally
+        | Head::Hide
+        | Head::Match
+        | Head::Matcher
+        | Head::Via
+        | Head::Group(_) => Ok(node_of_nodes(head, items)),
     }
 }
 

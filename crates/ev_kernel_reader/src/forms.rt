@@ -1,7 +1,10 @@
 //! Forms that are read.
 
-ghost use Rattle.def_kernel_form.specs.Reading.{read};
+ghost use Rattle.std.specs.Prelude.{◌≡◌};
+ghost use Rattle.std.specs.Str.{chars};
+ghost use Rattle.def_kernel_form.specs.Reading.{started, read_on, read};
 ghost use Rattle.ev_kernel_reader.specs.Answers.{Answers};
+ghost use Rattle.ev_kernel_reader.specs.Reached.{at_stage};
 
 use crate::reached::{Reached, Stage};
 use crate::readings::step;
@@ -11,7 +14,7 @@ use def_kernel_form::shape::Kind;
 use ev_base::{Memory, Seq};
 use std::alloc::Global;
 use std::error::Error;
-use std::fmt;
+use std::{fmt, mem};
 
 /// Why a text is no form.
 #[derive(Clone, Copy, Debug, PartialEq, Eq)]
@@ -48,27 +51,42 @@ impl From<Memory> for FormFault {
     }
 }
 
-/// The tree of a form. Its nodes are numbered as their forms begin.
-pub fn read_form(alloc: Global, text: &str) -> Result<Kernel, FormFault>
-    ensures { Answers result (read text.now) }
+/// What was read before the first character.
+fn start(alloc: Global) -> Reached
+    ensures { at_stage result (Stage.Opening Kind.Expression) ≡ started }
 {
-    let mut reached = Reached {
+    Reached {
         frames: Frames::new(alloc),
         nodes: Vec::new(alloc),
         word: String::new(alloc),
-    };
+    }
+}
+
+/// The tree of a form of which nothing was read.
+fn read_on(alloc: Global, text: &str, reached: &mut Reached) -> Result<Kernel, FormFault>
+    ensures { Answers result (read_on (chars text.now) 0 (at_stage reached.old (Stage.Opening Kind.Expression))) }
+{
     let mut stage = Stage::Opening(Kind::Expression);
     let mut place = 0u64;
     for c in text.chars() {
-        match step(alloc, stage, c, &mut reached)? {
+        match step(alloc, stage, c, reached)? {
             None => return Err(FormFault::At(place)),
             Some(next) => stage = next,
         }
         place += c.len_utf8() as u64;
     }
     if stage.is_whole() {
-        Ok(Kernel::of(Seq::of(reached.nodes)))
+        let nodes = mem::replace(&mut reached.nodes, Vec::new(alloc));
+        Ok(Kernel::of(Seq::of(nodes)))
     } else {
         Err(FormFault::At(place))
     }
+}
+
+/// The tree of a form. Its nodes are numbered as their forms begin.
+pub fn read_form(alloc: Global, text: &str) -> Result<Kernel, FormFault>
+    ensures { Answers result (read text.now) }
+{
+    let mut reached = start(alloc);
+    read_on(alloc, text, &mut reached)
 }

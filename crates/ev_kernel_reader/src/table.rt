@@ -1,7 +1,7 @@
 //! What stands in a form, by its head.
 
-ghost use Rattle.std.specs.Prelude.{◌≡◌, map};
-ghost use Rattle.def_kernel_form.specs.Reading.{heads, head_of, is_front_of_head, fixed, tail, more, tail_ends, next_wanted, innermost_ends, may_exit, wanted, ends, takes_exit};
+ghost use Rattle.std.specs.Prelude.{◌≡◌};
+ghost use Rattle.def_kernel_form.specs.Reading.{heads, head_of, is_front_of_head, fixed, tail, more, tail_ends, next_wanted, innermost_ends, may_exit};
 ghost use Rattle.ev_kernel_reader.specs.Table.{entries, outlook_of};
 
 use def_kernel_form::reader::Frames;
@@ -12,10 +12,7 @@ const EXPRESSION: Want = Want::Tree(Kind::Expression);
 const PATTERN: Want = Want::Tree(Kind::Pattern);
 
 /// A word with which a tree may begin, and the shape that it stands for.
-struct Entry {
-    word: &'static str,
-    head: Head,
-}
+struct Entry(&'static str, Head);
 
 /// The words with which a tree of a kind may begin.
 fn heads(kind: Kind) -> &'static [Entry]
@@ -23,101 +20,32 @@ fn heads(kind: Kind) -> &'static [Entry]
 {
     match kind {
         Kind::Expression => &[
-            Entry {
-                word: "lit",
-                head: Head::Lit,
-            },
-            Entry {
-                word: "noun",
-                head: Head::Noun,
-            },
-            Entry {
-                word: "set",
-                head: Head::Set,
-            },
-            Entry {
-                word: "def",
-                head: Head::Def,
-            },
-            Entry {
-                word: "call",
-                head: Head::Call,
-            },
-            Entry {
-                word: "seq",
-                head: Head::Seq,
-            },
-            Entry {
-                word: "if",
-                head: Head::If,
-            },
-            Entry {
-                word: "escape",
-                head: Head::Escape,
-            },
-            Entry {
-                word: "try",
-                head: Head::Try,
-            },
-            Entry {
-                word: "finally",
-                head: Head::Finally,
-            },
-            Entry {
-                word: "hide",
-                head: Head::Hide,
-            },
-            Entry {
-                word: "match",
-                head: Head::Match,
-            },
-            Entry {
-                word: "object",
-                head: Head::Object,
-            },
+            Entry("lit", Head::Lit),
+            Entry("noun", Head::Noun),
+            Entry("set", Head::Set),
+            Entry("def", Head::Def),
+            Entry("call", Head::Call),
+            Entry("seq", Head::Seq),
+            Entry("if", Head::If),
+            Entry("escape", Head::Escape),
+            Entry("try", Head::Try),
+            Entry("finally", Head::Finally),
+            Entry("hide", Head::Hide),
+            Entry("match", Head::Match),
+            Entry("object", Head::Object),
         ],
         Kind::Pattern => &[
-            Entry {
-                word: "final",
-                head: Head::Final,
-            },
-            Entry {
-                word: "var",
-                head: Head::Var,
-            },
-            Entry {
-                word: "any",
-                head: Head::Any,
-            },
-            Entry {
-                word: "list",
-                head: Head::List,
-            },
-            Entry {
-                word: "via",
-                head: Head::Via,
-            },
+            Entry("final", Head::Final),
+            Entry("var", Head::Var),
+            Entry("any", Head::Any),
+            Entry("list", Head::List),
+            Entry("via", Head::Via),
         ],
         Kind::Member => &[
-            Entry {
-                word: "method",
-                head: Head::Method,
-            },
-            Entry {
-                word: "matcher",
-                head: Head::Matcher,
-            },
+            Entry("method", Head::Method),
+            Entry("matcher", Head::Matcher),
         ],
-        Kind::Naming => &[
-            Entry {
-                word: "final",
-                head: Head::FinalName,
-            },
-            Entry {
-                word: "any",
-                head: Head::NoName,
-            },
-        ],
+        Kind::Naming => &[Entry("final", Head::FinalName), Entry("any", Head::NoName)],
     }
 }
 
@@ -126,8 +54,8 @@ pub(crate) fn head_of(kind: Kind, word: &str) -> Option<Head>
     ensures { result ≡ head_of (heads kind) word.now }
 {
     for entry in heads(kind) {
-        if word == entry.word {
-            return Some(entry.head);
+        if word == entry.0 {
+            return Some(entry.1);
         }
     }
     None
@@ -138,7 +66,7 @@ pub(crate) fn is_front_of_head(word: &str, kind: Kind) -> bool
     ensures { result ≡ is_front_of_head word.now kind }
 {
     for entry in heads(kind) {
-        if entry.word.as_bytes().starts_with(word.as_bytes()) {
+        if entry.0.as_bytes().starts_with(word.as_bytes()) {
             return true;
         }
     }
