@@ -2,6 +2,7 @@
 
 ghost use Rattle.std.specs.Prelude.{◌≡◌, ◌≤◌, Bool, Err, List, ℕ, Option, length};
 ghost use Rattle.def_local.specs.Numbers.{Runs, Vats, run};
+ghost use Rattle.def_machine.specs.Values.{Words};
 ghost use Rattle.def_run.specs.Text.{vat_names};
 ghost use Rattle.def_run.specs.World.{Script as TheirScript};
 ghost use Rattle.ev_io.specs.Causes.{Rose};
@@ -23,7 +24,7 @@ use std::alloc::Global;
 
 /// The line of a run that stopped.
 fn write_stop<K: Sink>(alloc: Global, halted: Halted, out: &mut K) -> Result<RunEnd, Unfinished>
-    ensures text { (S : TheirScript) (wire : Bool) (held : Option (List ℕ)) → StopsAs halted.stop halted.step (vat_names S) wire held (K.written out.old) (run S)
+    ensures text { (S : TheirScript) (wire : Bool) (held : Option (List ℕ)) (names : List Words) → names ≡ vat_names S → StopsAs halted.stop halted.step names wire held (K.written out.old) (run S)
         → WritesRun S wire held (K.written out.new) result }
     ensures later { K.faults out.old ≤ K.faults out.new }
     ensures fault { result ≡ Err Unfinished.WriteFault → Rose (K.faults out.old) (K.faults out.new) }

@@ -1,6 +1,5 @@
 use Rattle.std.proofs.Common.{Bool, List, ap, length, map, subst, sym, ◌∙◌}
 use Rattle.def_local.specs.Numbers.{run}
-use Rattle.def_run.specs.Text.{vat_names}
 use Rattle.def_machine.specs.Values.{Words}
 use Rattle.ev_script.specs.declared.script.VatScript.{VatScript}
 use Rattle.ev_world.specs.Running.{script_of, told_text}
@@ -29,8 +28,8 @@ returns-in-Err-Stopped-clause-text g c = λ steady.
     let mid = g.K.Sink.written c.go_on.new.out in
     let named = c.in-Ok.ensures ∙ ap (map (λ (v : VatScript). v.name)) c.as_slice-vats.ensures ∙ names_are c.args.script.now c.args.programs.items c.args.limits.depth in
     let went = c.in-Err-Stopped.ensures.went S (many_are c.args.script.now c.args.programs.items c.args.limits.depth ∙ ap length (sym c.as_slice-vats.ensures)) (ap (map machine_entry) (sym c.as_slice.ensures)) steady c.in-Ok-start.ensures.begun in
-    let ends = subst (λ (h : Halt). EndsAs h (vat_names S) c.in-Ok-start.world.wire held mid (run S)) c.in-Err-Stopped.field-0-is (subst (λ (ns : List Words). EndsAs _ ns c.in-Ok-start.world.wire held mid (run S)) named went) in
-    subst (λ (b : Bool). WritesRun S b held (g.K.Sink.written c.write_stop.new.out) c.write_stop.result) c.in-Ok-start.ensures.wire (c.write_stop.ensures.text S c.in-Ok-start.world.wire held ends)
+    let ends = subst (λ (h : Halt). EndsAs h c.in-Ok.names c.in-Ok-start.world.wire held mid (run S)) c.in-Err-Stopped.field-0-is went in
+    subst (λ (b : Bool). WritesRun S b held (g.K.Sink.written c.write_stop.new.out) c.write_stop.result) c.in-Ok-start.ensures.wire (c.write_stop.ensures.text S c.in-Ok-start.world.wire held c.in-Ok.names named ends)
 
 pub returns-clause-text : goal.returns-clause-text
 returns-clause-text g c = λ steady.
