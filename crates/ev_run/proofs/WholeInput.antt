@@ -29,7 +29,7 @@ of_trees : (tell : Telling) (script : Script) (trees : List (List Node)) (status
 of_trees tell script trees status text due =
     let theirs = machine_script greatest_depth (tree_at trees) script in subst IsOfWhole (sym due.0) (of_end script (tell theirs) (run theirs))
 
-of_vats : (tell : Telling) (script : Script) (trees : List (List Node)) (vats : List VatScript) (status : Status) (text : List ℕ)
+pub of_vats : (tell : Telling) (script : Script) (trees : List (List Node)) (vats : List VatScript) (status : Status) (text : List ℕ)
     → IsDueOfVats tell script trees vats status text → IsOfWhole status
 of_vats tell script trees [] status text due = of_trees tell script trees status text due
 of_vats tell script trees (vat ∷ more) status text (Ok scoped, answers, due) = of_vats tell script (trees ++ scoped.tree ∷ []) more status text due
