@@ -7,9 +7,14 @@ use std::alloc::Global;
 use std::marker::Model;
 
 /// A value in memory of its own. Contracts see the value.
-#[derive(Drop)]
 pub struct Boxed<T> {
     place: Box<T>,
+}
+
+impl<T: Drop> Drop for Boxed<T> {
+    fn drop(self) {
+        let Self { place: _place } = self;
+    }
 }
 
 impl<T> Model for Boxed<T> {

@@ -6,7 +6,6 @@ use crate::shown::Shown;
 use ev_base::{Msg, Name, Seq, Str, VatId};
 
 /// A message with its target, verb and arguments: one that a turn takes, or that is sent without an answer.
-#[derive(Drop)]
 pub struct Addressed {
     pub activation: u64,
     pub message: Msg,
@@ -15,8 +14,19 @@ pub struct Addressed {
     pub args: Seq<Shown>,
 }
 
+impl Drop for Addressed {
+    fn drop(self) {
+        let Self {
+            activation: _,
+            message: _,
+            target: _target,
+            verb: _verb,
+            args: _args,
+        } = self;
+    }
+}
+
 /// A call: who calls what, and the activation that the call begins, where it begins one.
-#[derive(Drop)]
 pub struct Called {
     pub activation: u64,
     pub target: Shown,
@@ -25,8 +35,19 @@ pub struct Called {
     pub begun: Option<u64>,
 }
 
+impl Drop for Called {
+    fn drop(self) {
+        let Self {
+            activation: _,
+            target: _target,
+            verb: _verb,
+            args: _args,
+            begun: _,
+        } = self;
+    }
+}
+
 /// An object that is made: its name, its captures and its stamps.
-#[derive(Drop)]
 pub struct MadeObject {
     pub activation: u64,
     pub object: Shown,
@@ -35,8 +56,19 @@ pub struct MadeObject {
     pub stamps: Seq<Shown>,
 }
 
+impl Drop for MadeObject {
+    fn drop(self) {
+        let Self {
+            activation: _,
+            object: _object,
+            name: _name,
+            caps: _caps,
+            stamps: _stamps,
+        } = self;
+    }
+}
+
 /// A send: the message, the reference that it was sent on, and the answer.
-#[derive(Drop)]
 pub struct Sent {
     pub activation: u64,
     pub message: Msg,
@@ -46,8 +78,20 @@ pub struct Sent {
     pub answer: Name,
 }
 
+impl Drop for Sent {
+    fn drop(self) {
+        let Self {
+            activation: _,
+            message: _,
+            target: _target,
+            verb: _verb,
+            args: _args,
+            answer: _,
+        } = self;
+    }
+}
+
 /// A reaction: the message that is to come, what is waited for, what reacts, and the answer.
-#[derive(Drop)]
 pub struct Reacting {
     pub activation: u64,
     pub message: Msg,
@@ -56,8 +100,19 @@ pub struct Reacting {
     pub answer: Name,
 }
 
+impl Drop for Reacting {
+    fn drop(self) {
+        let Self {
+            activation: _,
+            message: _,
+            value: _value,
+            reaction: _reaction,
+            answer: _,
+        } = self;
+    }
+}
+
 /// An event. What is large lies in memory of its own, since a history has many events. An entry is numbered by its place in the schedule, from 1. An activation is numbered by its place among those of its vat, from 0.
-#[derive(Drop)]
 pub enum Event {
     /// `open V`: the opening turn of a vat begins.
     Open(VatId),
@@ -133,4 +188,48 @@ pub enum Event {
     LeftLink(VatId, VatId, Boxed<ShownNote>),
     /// `end`
     End,
+}
+
+impl Drop for Event {
+    fn drop(self) {
+        match self {
+            Self::Open(_) => {}
+            Self::Turn(_, _) => {}
+            Self::Idle(_) => {}
+            Self::Carry(_, _, _, _shown_note) => {}
+            Self::Cut(_, _, _) => {}
+            Self::Notice(_, _, _) => {}
+            Self::Frame(_items) => {}
+            Self::Take(_addressed) => {}
+            Self::Call(_called) => {}
+            Self::Back(_, _shown) => {}
+            Self::Thrown(_, _shown) => {}
+            Self::Gone(_) => {}
+            Self::Got(_, _shown) => {}
+            Self::Slot(_, _, _shown) => {}
+            Self::Read(_, _, _shown) => {}
+            Self::Wrote(_, _, _shown) => {}
+            Self::List(_, _, _items) => {}
+            Self::Arrived(_, _items) => {}
+            Self::Ejector(_, _shown) => {}
+            Self::Audition(_, _shown) => {}
+            Self::Promise(_, _, _shown) => {}
+            Self::Made(_made_object) => {}
+            Self::Send(_sent) => {}
+            Self::SendOnly(_addressed) => {}
+            Self::When(_reacting) => {}
+            Self::Done(_, _shown) => {}
+            Self::Threw(_, _shown) => {}
+            Self::Settle(_, _shown) => {}
+            Self::Wait(_, _) => {}
+            Self::View(_, _) => {}
+            Self::LostCut(_) => {}
+            Self::LostBroken(_) => {}
+            Self::LeftQueue(_, _) => {}
+            Self::LeftHeld(_, _, _) => {}
+            Self::LeftWait(_, _shown, _) => {}
+            Self::LeftLink(_, _, _shown_note) => {}
+            Self::End => {}
+        }
+    }
 }

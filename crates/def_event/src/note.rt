@@ -4,7 +4,6 @@ use crate::shown::Shown;
 use ev_base::{Msg, Name, Seq, Str, VatId};
 
 /// A note on a link.
-#[derive(Drop)]
 pub enum ShownNote {
     /// `deliver M NAME VERB ARGS`
     Deliver {
@@ -30,4 +29,28 @@ pub enum ShownNote {
     Ask(Name, VatId),
     /// `shorten NAME GIFT`
     Shorten(Name, Name),
+}
+
+impl Drop for ShownNote {
+    fn drop(self) {
+        match self {
+            Self::Deliver {
+                message: _,
+                target: _,
+                verb: _verb,
+                args: _args,
+            } => {}
+            Self::DeliverOnly {
+                message: _,
+                target: _,
+                verb: _verb,
+                args: _args,
+            } => {}
+            Self::Settled(_, _shown) => {}
+            Self::Elsewhere(_, _) => {}
+            Self::Open(_, _) => {}
+            Self::Ask(_, _) => {}
+            Self::Shorten(_, _) => {}
+        }
+    }
 }

@@ -4,7 +4,6 @@ use ev_base::{Name, PrimId, Seq, Str, VatId};
 
 /// A value by its global names. A list of a vat is named by its number there, and the members of a list in a note are
 /// written out.
-#[derive(Drop)]
 pub enum Shown {
     Null,
     Bool(bool),
@@ -23,4 +22,22 @@ pub enum Shown {
     Name(Name),
     /// A list in a note, by its members.
     Members(Seq<Shown>),
+}
+
+impl Drop for Shown {
+    fn drop(self) {
+        match self {
+            Self::Null => {}
+            Self::Bool(_) => {}
+            Self::Int(_) => {}
+            Self::Char(_) => {}
+            Self::Text(_text) => {}
+            Self::Broken(_text) => {}
+            Self::Prim(_) => {}
+            Self::List(_, _) => {}
+            Self::Slot(_, _) => {}
+            Self::Name(_) => {}
+            Self::Members(_items) => {}
+        }
+    }
 }

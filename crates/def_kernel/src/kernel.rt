@@ -7,9 +7,14 @@ use ev_base::Seq;
 use std::marker::Model;
 
 /// A kernel tree: its nodes, numbered as its form is read from left to right. Node 0 is the root.
-#[derive(Drop)]
 pub struct Kernel {
     nodes: Seq<Node>,
+}
+
+impl Drop for Kernel {
+    fn drop(self) {
+        let Self { nodes: _nodes } = self;
+    }
 }
 
 impl Model for Kernel {

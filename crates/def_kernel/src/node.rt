@@ -4,11 +4,20 @@ use ev_base::{NodeId, Seq};
 use ev_word::{Text, Word};
 
 /// A literal value. A text is held in UTF-8, and an integer within 128 bits with a sign.
-#[derive(Drop)]
 pub enum Literal {
     Int(i128),
     Char(char),
     Text(Text),
+}
+
+impl Drop for Literal {
+    fn drop(self) {
+        match self {
+            Self::Int(_) => {}
+            Self::Char(_) => {}
+            Self::Text(_text) => {}
+        }
+    }
 }
 
 /// A node, whose parts are named by their numbers in the tree.

@@ -6,7 +6,6 @@
 use ev_base::{PrimId, Seq, Str, VatId};
 
 /// Data in which no name occurs.
-#[derive(Drop)]
 pub enum Plain {
     Null,
     Bool(bool),
@@ -16,8 +15,20 @@ pub enum Plain {
     Prim(PrimId),
 }
 
+impl Drop for Plain {
+    fn drop(self) {
+        match self {
+            Self::Null => {}
+            Self::Bool(_) => {}
+            Self::Int(_) => {}
+            Self::Char(_) => {}
+            Self::Text(_text) => {}
+            Self::Prim(_) => {}
+        }
+    }
+}
+
 /// A description of a value.
-#[derive(Drop)]
 pub enum Desc {
     Plain(Plain),
     /// A list of at most weight 65,536 and height 100, by descriptions of its members.
@@ -38,16 +49,39 @@ pub enum Desc {
     MyAnswer(u64),
 }
 
+impl Drop for Desc {
+    fn drop(self) {
+        match self {
+            Self::Plain(_plain) => {}
+            Self::ListOf(_items) => {}
+            Self::Broken(_text) => {}
+            Self::YourExport(_) => {}
+            Self::YourAnswer(_) => {}
+            Self::MyExport(_) => {}
+            Self::MyPromise(_) => {}
+            Self::Third { host: _, swiss: _ } => {}
+            Self::MyAnswer(_) => {}
+        }
+    }
+}
+
 /// What a promise came to.
-#[derive(Drop)]
 pub enum Resolved {
     To(Desc),
     /// An object of another vat than the two.
     Elsewhere(VatId),
 }
 
+impl Drop for Resolved {
+    fn drop(self) {
+        match self {
+            Self::To(_desc) => {}
+            Self::Elsewhere(_) => {}
+        }
+    }
+}
+
 /// What one vat sends another.
-#[derive(Drop)]
 pub enum Op {
     /// A message, and the question whose answer it asks for. It has at most 255 arguments.
     Deliver {
@@ -83,4 +117,39 @@ pub enum Op {
         verb: Str,
         args: Seq<Desc>,
     },
+}
+
+impl Drop for Op {
+    fn drop(self) {
+        match self {
+            Self::Deliver {
+                question: _,
+                target: _target,
+                verb: _verb,
+                args: _args,
+            } => {}
+            Self::Resolve {
+                subject: _subject,
+                to: _to,
+            } => {}
+            Self::Provide {
+                target: _target,
+                swiss: _,
+            } => {}
+            Self::Accept {
+                question: _,
+                provider: _,
+                swiss: _,
+            } => {}
+            Self::Shorten {
+                subject: _subject,
+                swiss: _,
+            } => {}
+            Self::DeliverOnly {
+                target: _target,
+                verb: _verb,
+                args: _args,
+            } => {}
+        }
+    }
 }

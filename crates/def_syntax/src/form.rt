@@ -5,7 +5,6 @@ use ev_base::{NodeId, Seq, Str};
 /// A node of a surface tree: one kind for each line of the grammar that makes a node, with the parts of the line in
 /// their order. A part that is a node is named by its number in the tree. A noun, an operator, a verb and a literal are
 /// the text of their token, so a text, a character and a verb that is a text stand with their quotes and escapes.
-#[derive(Drop)]
 pub enum Form {
     Number(Str),
     Text(Str),
@@ -81,4 +80,50 @@ pub enum Form {
     Matcher(NodeId, NodeId),
     /// The expressions of the whole.
     Program(Seq<NodeId>),
+}
+
+impl Drop for Form {
+    fn drop(self) {
+        match self {
+            Self::Number(_text) => {}
+            Self::Text(_text) => {}
+            Self::Character(_text) => {}
+            Self::Noun(_text) => {}
+            Self::List(_items) => {}
+            Self::Group(_) => {}
+            Self::Block(_items) => {}
+            Self::If(_, _, _) => {}
+            Self::While(_, _) => {}
+            Self::For(_, _, _, _) => {}
+            Self::Escape(_, _, _) => {}
+            Self::Try(_, _items, _) => {}
+            Self::When(_, _, _) => {}
+            Self::Function(_items, _) => {}
+            Self::Call(_, _items) => {}
+            Self::Index(_, _items) => {}
+            Self::VerbCall(_, _text, _items) => {}
+            Self::Send(_, _text, _items) => {}
+            Self::Prefix(_text, _) => {}
+            Self::Binary(_, _text, _) => {}
+            Self::MatchBind(_, _) => {}
+            Self::Assign(_text, _text_2, _) => {}
+            Self::AssignIndex(_, _items, _) => {}
+            Self::Leave(_text, _) => {}
+            Self::DefineObject(_text, _items, _items_2) => {}
+            Self::DefineFunction(_text, _items, _, _items_2, _) => {}
+            Self::Define(_, _, _) => {}
+            Self::DefineVar(_text, _, _, _) => {}
+            Self::AnyPattern(_) => {}
+            Self::FinalPattern(_text, _) => {}
+            Self::VarPattern(_text, _) => {}
+            Self::ListPattern(_items) => {}
+            Self::ViaPattern(_, _) => {}
+            Self::NounGuard(_text, _items) => {}
+            Self::ExprGuard(_) => {}
+            Self::To(_text, _items, _, _) => {}
+            Self::Method(_text, _items, _, _) => {}
+            Self::Matcher(_, _) => {}
+            Self::Program(_items) => {}
+        }
+    }
 }

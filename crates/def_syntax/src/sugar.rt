@@ -6,18 +6,34 @@ use crate::form::Form;
 use ev_base::{NodeId, Seq};
 
 /// A node and the number of its first token.
-#[derive(Drop)]
 pub struct SugarNode {
     pub form: Form,
     pub first: u64,
 }
 
+impl Drop for SugarNode {
+    fn drop(self) {
+        let Self {
+            form: _form,
+            first: _,
+        } = self;
+    }
+}
+
 /// A surface tree: its nodes by number, each behind its parts, and the number of the root. There may be nodes that are
 /// no part of the tree.
-#[derive(Drop)]
 pub struct Sugar {
     pub nodes: Seq<SugarNode>,
     pub root: NodeId,
+}
+
+impl Drop for Sugar {
+    fn drop(self) {
+        let Self {
+            nodes: _nodes,
+            root: _,
+        } = self;
+    }
 }
 
 impl Sugar {

@@ -4,7 +4,6 @@ use def_event::event::Event;
 use ev_base::{Seq, Str};
 
 /// What the text of a run says. Vats are numbered from 0 in the order in which their names first stand in the text.
-#[derive(Drop)]
 pub struct Trace {
     /// An event for each line, in order; a line that says how the run stopped is none. A text of more than 32 characters
     /// stands here as its line spells it: the first 32 between quotes, `+`, and the count of the others.
@@ -13,4 +12,14 @@ pub struct Trace {
     pub names: Seq<Str>,
     /// The last line, without its line feed, where it says how the run stopped.
     pub stop: Option<Str>,
+}
+
+impl Drop for Trace {
+    fn drop(self) {
+        let Self {
+            history: _history,
+            names: _names,
+            stop: _stop,
+        } = self;
+    }
 }

@@ -14,10 +14,18 @@ use ev_pass::{Interior, Note, Reference, Stop};
 use ev_settle::{changes, resolve, settle};
 
 /// A vat as it hears others: its inside, and the gifts that it hosts, by provider and number.
-#[derive(Drop)]
 pub struct Host {
     pub inside: Interior,
     pub gifts: GiftTable,
+}
+
+impl Drop for Host {
+    fn drop(self) {
+        let Self {
+            inside: _inside,
+            gifts: _gifts,
+        } = self;
+    }
 }
 
 /// A name in what a vat hears: one that it knows, or one that it comes to know, of that vat.

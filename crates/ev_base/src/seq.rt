@@ -7,9 +7,14 @@ use std::alloc::Global;
 use std::marker::Model;
 
 /// A list. It is made of a `Vec` and gives it back without taking memory.
-#[derive(Drop)]
 pub struct Seq<T> {
     items: Vec<T>,
+}
+
+impl<T: Drop> Drop for Seq<T> {
+    fn drop(self) {
+        let Self { items: _items } = self;
+    }
 }
 
 impl<T> Model for Seq<T> {

@@ -7,9 +7,14 @@ use std::alloc::Global;
 use std::marker::Model;
 
 /// A text in UTF-8. It is made of a `String` and gives it back without taking memory.
-#[derive(Drop)]
 pub struct Str {
     text: String,
+}
+
+impl Drop for Str {
+    fn drop(self) {
+        let Self { text: _text } = self;
+    }
 }
 
 impl Model for Str {

@@ -25,7 +25,6 @@ pub enum ListFault {
 
 /// The objects, var slots, lists, texts and activations of one vat. Each kind is numbered from 0 in order of making.
 /// Nothing that is kept is ever dropped.
-#[derive(Drop)]
 pub struct Heap {
     alloc: Global,
     things: Vec<Thing>,
@@ -33,6 +32,19 @@ pub struct Heap {
     lists: Seq<Listed>,
     texts: Seq<Text>,
     codes: Seq<Value>,
+}
+
+impl Drop for Heap {
+    fn drop(self) {
+        let Self {
+            alloc: _,
+            things: _things,
+            slots: _slots,
+            lists: _lists,
+            texts: _texts,
+            codes: _codes,
+        } = self;
+    }
 }
 
 impl Model for Heap {

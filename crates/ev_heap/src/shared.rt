@@ -8,9 +8,14 @@ use std::marker::Model;
 use std::rc::Rc;
 
 /// A list that several may hold, and that never changes. Contracts see the list of its items.
-#[derive(Drop)]
 pub struct Shared<T> {
     items: Rc<Seq<T>>,
+}
+
+impl<T: Drop> Drop for Shared<T> {
+    fn drop(self) {
+        let Self { items: _items } = self;
+    }
 }
 
 impl<T> Model for Shared<T> {

@@ -23,9 +23,14 @@ struct Gift {
 }
 
 /// The gifts of one vat, in the order of coming.
-#[derive(Drop)]
 pub struct GiftTable {
     gifts: IndexMap<GiftKey, Gift>,
+}
+
+impl Drop for GiftTable {
+    fn drop(self) {
+        let Self { gifts: _gifts } = self;
+    }
 }
 
 impl Model for GiftTable {

@@ -41,11 +41,20 @@ impl Error for DrawFault {}
 
 /// Words of 128 bits, drawn one after the other out of the key stream of ChaCha20 on stream 0: draw `i` is its words
 /// `4i` to `4i + 3`, the lowest first.
-#[derive(Drop)]
 pub struct Words {
     key: [u8; 32],
     stream: ChaCha20Rng,
     drawn: IndexMap<u128, u64>,
+}
+
+impl Drop for Words {
+    fn drop(self) {
+        let Self {
+            key: _,
+            stream: _stream,
+            drawn: _drawn,
+        } = self;
+    }
 }
 
 impl Model for Words {

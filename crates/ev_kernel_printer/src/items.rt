@@ -14,7 +14,6 @@ use ev_word::{Text, Word};
 use std::alloc::Global;
 
 /// An item of a form: where a list begins or ends, a word, or a literal.
-#[derive(Drop)]
 pub enum Item {
     Begin,
     End,
@@ -23,6 +22,19 @@ pub enum Item {
     Int(i128),
     Char(char),
     Text(Text),
+}
+
+impl Drop for Item {
+    fn drop(self) {
+        match self {
+            Self::Begin => {}
+            Self::End => {}
+            Self::Word(_word) => {}
+            Self::Int(_) => {}
+            Self::Char(_) => {}
+            Self::Text(_text) => {}
+        }
+    }
 }
 
 /// Appends a word.

@@ -15,13 +15,22 @@ const PIECE: usize = 512;
 
 /// The bytes under way from one vat to another: of each frame its length, as eight bytes with the lowest first, and then its bytes. They come
 /// in pieces of any size, and the frames are cut out of what has come. A link that was cut stays so, and carries nothing.
-#[derive(Drop)]
 pub struct Link {
     /// The frames that have come whole.
     frames: VecDeque<Seq<u8>>,
     /// What has come of the next one, its length in front.
     part: Vec<u8>,
     is_cut: bool,
+}
+
+impl Drop for Link {
+    fn drop(self) {
+        let Self {
+            frames: _frames,
+            part: _part,
+            is_cut: _,
+        } = self;
+    }
 }
 
 impl Model for Link {

@@ -37,9 +37,16 @@ pub struct End {
 }
 
 /// Where names stand at each place.
-#[derive(Drop)]
 pub struct Standings {
     standings: IndexMap<Spot, Standing>,
+}
+
+impl Drop for Standings {
+    fn drop(self) {
+        let Self {
+            standings: _standings,
+        } = self;
+    }
 }
 
 impl Model for Standings {
@@ -53,9 +60,14 @@ impl Model for Standings {
 }
 
 /// How far chains go, each by its place and its first name.
-#[derive(Drop)]
 pub struct Ends {
     ends: IndexMap<Spot, End>,
+}
+
+impl Drop for Ends {
+    fn drop(self) {
+        let Self { ends: _ends } = self;
+    }
 }
 
 impl Model for Ends {
@@ -194,10 +206,18 @@ fn append_in(
 /// Chains of names. No two names stand at one place of a chain, and each name stands in one chain at a place.
 ///
 /// It is a shortcut: what is known stands in the lines, whatever is planned, and a search by them finds the same, one name after the other.
-#[derive(Drop)]
 pub struct Plan {
     standings: Standings,
     ends: Ends,
+}
+
+impl Drop for Plan {
+    fn drop(self) {
+        let Self {
+            standings: _standings,
+            ends: _ends,
+        } = self;
+    }
 }
 
 impl Model for Plan {

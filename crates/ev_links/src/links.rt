@@ -51,9 +51,14 @@ pub fn is_open(scope: &Scope, way: &Way) -> bool
 }
 
 /// The links of each thing. Contracts see the rows, each with its thing.
-#[derive(Drop)]
 pub struct Links {
     rows: IndexMap<Label, Seq<Link>>,
+}
+
+impl Drop for Links {
+    fn drop(self) {
+        let Self { rows: _rows } = self;
+    }
 }
 
 impl Model for Links {
@@ -102,9 +107,14 @@ fn add_in(
 }
 
 /// Labels, each once, in the order in which they came.
-#[derive(Drop)]
 pub struct Labels {
     set: IndexSet<Label>,
+}
+
+impl Drop for Labels {
+    fn drop(self) {
+        let Self { set: _set } = self;
+    }
 }
 
 impl Model for Labels {

@@ -40,7 +40,6 @@ pub struct Member {
     pub(crate) connections: Vec<Connection>,
 }
 
-// By hand: a derived one is opened down to the last table in each function that owns one, and costs its proof seconds at each way out.
 impl Drop for Member {
     fn drop(self) {
         let Self {

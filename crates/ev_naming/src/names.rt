@@ -67,12 +67,22 @@ fn host_of(refs: &Refs, name: PromId) -> VatId
 }
 
 /// The names of a vat's numbers, and how many promises, messages and gifts it had as its last step left it.
-#[derive(Drop)]
 pub struct VatNames {
     table: Table,
     promises: u64,
     messages: u64,
     gifts: usize,
+}
+
+impl Drop for VatNames {
+    fn drop(self) {
+        let Self {
+            table: _table,
+            promises: _,
+            messages: _,
+            gifts: _,
+        } = self;
+    }
 }
 
 impl Model for VatNames {

@@ -14,10 +14,18 @@ const FEW: usize = 8;
 /// Numbers that a step tells of, and their names. The first that is told of a number counts.
 ///
 /// Most steps tell of few, and these stand in a row. Those behind them stand in a map, so that each is found at once in a long step too.
-#[derive(Drop)]
 pub struct Told {
     few: Vec<(u64, Name)>,
     more: IndexMap<u64, Name>,
+}
+
+impl Drop for Told {
+    fn drop(self) {
+        let Self {
+            few: _few,
+            more: _more,
+        } = self;
+    }
 }
 
 impl Model for Told {

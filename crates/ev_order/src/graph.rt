@@ -13,11 +13,20 @@ use ev_base::Memory;
 use std::alloc::Global;
 
 /// The places of a trace, and the first send and take of each message.
-#[derive(Drop)]
 pub struct Graph {
     pub places: Vec<Place>,
     pub sent: Mentions,
     pub taken: Mentions,
+}
+
+impl Drop for Graph {
+    fn drop(self) {
+        let Self {
+            places: _places,
+            sent: _sent,
+            taken: _taken,
+        } = self;
+    }
 }
 
 /// The places of a trace. Time grows with its length.

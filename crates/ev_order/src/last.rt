@@ -10,9 +10,14 @@ use std::alloc::Global;
 use std::marker::Model;
 
 /// The last place of each reference so far.
-#[derive(Drop)]
 pub struct LastPlaces {
     places: IndexMap<Reference, usize>,
+}
+
+impl Drop for LastPlaces {
+    fn drop(self) {
+        let Self { places: _places } = self;
+    }
 }
 
 impl Model for LastPlaces {

@@ -26,9 +26,14 @@ pub struct Mention {
 }
 
 /// The first mention of each message, in the order of the lines.
-#[derive(Drop)]
 pub struct Mentions {
     first: IndexMap<MessageKey, Mention>,
+}
+
+impl Drop for Mentions {
+    fn drop(self) {
+        let Self { first: _first } = self;
+    }
 }
 
 impl Model for Mentions {

@@ -10,12 +10,22 @@ pub enum Part {
 }
 
 /// A node that has been read. `tallest` is the height of its highest part, or 61 where that is more.
-#[derive(Drop)]
 pub struct Node {
     pub shape: Shape,
     pub first: Word,
     pub parts: Vec<Part>,
     pub tallest: u8,
+}
+
+impl Drop for Node {
+    fn drop(self) {
+        let Self {
+            shape: _shape,
+            first: _first,
+            parts: _parts,
+            tallest: _,
+        } = self;
+    }
 }
 
 /// A node that is being read.

@@ -23,9 +23,17 @@ pub struct Spot {
 }
 
 /// The items of a frame that are allowed, from left to right.
-#[derive(Drop)]
 pub struct Parts {
     pub spots: Seq<Spot>,
     /// The offset of the first item that is not allowed. There is none where the bytes are one whole operation.
     pub stop: Option<u64>,
+}
+
+impl Drop for Parts {
+    fn drop(self) {
+        let Self {
+            spots: _spots,
+            stop: _,
+        } = self;
+    }
 }

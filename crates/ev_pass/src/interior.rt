@@ -40,7 +40,6 @@ impl From<Memory> for Stop {
 
 /// The inside of a vat: its heap and its references, the fuel that is left of the run and what happened in the step at hand, the
 /// words that are drawn for gifts, and the notes put.
-#[derive(Drop)]
 pub struct Interior {
     pub alloc: Global,
     pub heap: Heap,
@@ -50,6 +49,20 @@ pub struct Interior {
     pub post: Post,
     /// The text `too heavy`.
     pub too_heavy: TextId,
+}
+
+impl Drop for Interior {
+    fn drop(self) {
+        let Self {
+            alloc: _,
+            heap: _heap,
+            refs: _refs,
+            micro: _micro,
+            words: _words,
+            post: _post,
+            too_heavy: _,
+        } = self;
+    }
 }
 
 impl Interior {

@@ -15,7 +15,6 @@ pub enum Reference {
 }
 
 /// A value as it passes.
-#[derive(Drop)]
 pub enum Passed {
     /// Data, or a name of this vat or of the receiver.
     Plain(Value),
@@ -25,8 +24,17 @@ pub enum Passed {
     List(Vec<Passed>),
 }
 
+impl Drop for Passed {
+    fn drop(self) {
+        match self {
+            Self::Plain(_) => {}
+            Self::Gift(_, _) => {}
+            Self::List(_items) => {}
+        }
+    }
+}
+
 /// What one vat tells another.
-#[derive(Drop)]
 pub enum Note {
     /// A message, and, if it asks for an answer, the name as which this vat knows the answer there.
     Deliver {
@@ -46,4 +54,23 @@ pub enum Note {
     Elsewhere(PromId, VatId),
     /// The object that the name settled to is wanted as a gift at that vat, under that word.
     Shorten(PromId, VatId, Swiss),
+}
+
+impl Drop for Note {
+    fn drop(self) {
+        match self {
+            Self::Deliver {
+                message: _,
+                answer: _,
+                target: _,
+                verb: _verb,
+                args: _args,
+            } => {}
+            Self::Open(_, _) => {}
+            Self::Ask(_, _, _) => {}
+            Self::Settled(_, _passed) => {}
+            Self::Elsewhere(_, _) => {}
+            Self::Shorten(_, _, _) => {}
+        }
+    }
 }

@@ -9,10 +9,15 @@ use std::alloc::Global;
 use std::marker::Model;
 
 /// A note, and the vat that it is for.
-#[derive(Drop)]
 pub struct Put {
     pub to: VatId,
     pub note: Note,
+}
+
+impl Drop for Put {
+    fn drop(self) {
+        let Self { to: _, note: _note } = self;
+    }
 }
 
 /// The notes that are put in a step, in order.

@@ -12,11 +12,19 @@ use std::marker::Model;
 
 /// A kernel tree as a vat runs it. An object captures the free names of its expression each time that it is made, so they
 /// are found once, before the program runs. Contracts see the tree.
-#[derive(Drop)]
 pub struct Program {
     tree: Kernel,
     /// What each node captures, by the numbers of nodes.
     rows: Vec<Option<Seq<Str>>>,
+}
+
+impl Drop for Program {
+    fn drop(self) {
+        let Self {
+            tree: _tree,
+            rows: _rows,
+        } = self;
+    }
 }
 
 impl Model for Program {

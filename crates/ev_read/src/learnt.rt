@@ -19,9 +19,14 @@ struct LearntKey {
 
 /// The gifts that a vat learnt as gifts, with the names as which it knows them, in the order of coming. A gift that it knows by a
 /// position alone is not among them.
-#[derive(Drop)]
 pub struct LearntTable {
     names: IndexMap<LearntKey, u64>,
+}
+
+impl Drop for LearntTable {
+    fn drop(self) {
+        let Self { names: _names } = self;
+    }
 }
 
 impl Model for LearntTable {

@@ -9,7 +9,6 @@ use ev_pass::Interior;
 use ev_receive::Heard;
 
 /// What comes to be had by a frame. Nothing of it is there until it is taken in.
-#[derive(Drop)]
 pub struct News {
     /// What comes to stand at the next positions.
     pub imports: Seq<Value>,
@@ -19,6 +18,17 @@ pub struct News {
     pub texts: Seq<Str>,
     /// How many names are known by then.
     pub known: u64,
+}
+
+impl Drop for News {
+    fn drop(self) {
+        let Self {
+            imports: _imports,
+            gifts: _gifts,
+            texts: _texts,
+            known: _,
+        } = self;
+    }
 }
 
 impl News {

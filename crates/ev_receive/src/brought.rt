@@ -6,7 +6,6 @@ use ev_pass::Swiss;
 use ev_word::Word;
 
 /// A value as it arrives.
-#[derive(Drop)]
 pub enum Brought {
     /// Data, or a name that the vat knows.
     Plain(Value),
@@ -16,6 +15,17 @@ pub enum Brought {
     Gift(VatId, u128),
     /// A list, by its members.
     List(Vec<Brought>),
+}
+
+impl Drop for Brought {
+    fn drop(self) {
+        match self {
+            Self::Plain(_) => {}
+            Self::New(_) => {}
+            Self::Gift(_, _) => {}
+            Self::List(_items) => {}
+        }
+    }
 }
 
 /// What another vat tells this one, in this vat's numbers.

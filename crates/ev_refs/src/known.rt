@@ -33,7 +33,6 @@ pub struct Message {
 }
 
 /// What a vat knows of a name.
-#[derive(Drop)]
 pub struct Known {
     /// The vat that tells of it.
     pub host: VatId,
@@ -46,6 +45,19 @@ pub struct Known {
     pub reactions: Seq<Message>,
     /// The vats that are to be told of it, in order of their right.
     pub told: Seq<VatId>,
+}
+
+impl Drop for Known {
+    fn drop(self) {
+        let Self {
+            host: _,
+            standing: _,
+            held: _held,
+            waiting: _waiting,
+            reactions: _reactions,
+            told: _told,
+        } = self;
+    }
 }
 
 /// What waits at a name.

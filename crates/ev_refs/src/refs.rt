@@ -11,7 +11,6 @@ use std::marker::Model;
 
 /// What a vat knows of names, numbered from 0 in the order in which it came to know them; the messages that wait for their turn;
 /// and how many messages and promises it has had. No name is ever forgotten.
-#[derive(Drop)]
 pub struct Refs {
     pub(crate) alloc: Global,
     pub(crate) me: VatId,
@@ -23,6 +22,23 @@ pub struct Refs {
     pub(crate) messages: u64,
     pub(crate) promises: u64,
     pub(crate) noticed: Seq<VatId>,
+}
+
+impl Drop for Refs {
+    fn drop(self) {
+        let Self {
+            alloc: _,
+            me: _,
+            partition: _,
+            cycle: _,
+            known: _known,
+            queue: _queue,
+            mails: _,
+            messages: _,
+            promises: _,
+            noticed: _noticed,
+        } = self;
+    }
 }
 
 impl Model for Refs {

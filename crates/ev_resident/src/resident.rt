@@ -47,7 +47,6 @@ pub struct Resident {
     pub names: VatNames,
 }
 
-// By hand: a derived one is opened down to the last table in each function that owns one, and costs its proof seconds at each way out.
 impl Drop for Resident {
     fn drop(self) {
         let Self {

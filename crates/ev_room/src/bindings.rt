@@ -14,13 +14,23 @@ use std::mem;
 
 /// What nouns stand for, the innermost last: first what an object holds, which all its calls share, and behind it what was bound since.
 /// Contracts see the list of all.
-#[derive(Drop)]
 pub struct Nouns {
     held: Option<Shared<Caught>>,
     /// How many of those that are held are in scope, from the outermost on, which is the last.
     shown: usize,
     own: Seq<Binding>,
     count: usize,
+}
+
+impl Drop for Nouns {
+    fn drop(self) {
+        let Self {
+            held: _held,
+            shown: _,
+            own: _own,
+            count: _,
+        } = self;
+    }
 }
 
 impl Model for Nouns {

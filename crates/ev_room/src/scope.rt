@@ -22,17 +22,33 @@ pub enum Bound {
 }
 
 /// A noun, and what it is bound to.
-#[derive(Drop)]
 pub struct Binding {
     pub noun: Word,
     pub bound: Bound,
 }
 
+impl Drop for Binding {
+    fn drop(self) {
+        let Self {
+            noun: _noun,
+            bound: _,
+        } = self;
+    }
+}
+
 /// The activation that evaluates, and what its nouns stand for, the innermost last.
-#[derive(Drop)]
 pub struct Scope {
     pub act: ActId,
     pub nouns: Nouns,
+}
+
+impl Drop for Scope {
+    fn drop(self) {
+        let Self {
+            act: _,
+            nouns: _nouns,
+        } = self;
+    }
 }
 
 /// Takes away the bindings behind so many. What was bound before a node of a tree stands in front of what it binds, so this

@@ -20,11 +20,12 @@ use Rattle.ev_world.specs.declared.run.RunEnd.{RunEnd}
 use Rattle.ev_run.specs.Machine.{greatest_depth, text_of}
 use Rattle.ev_run.specs.Programs.{trees_of}
 use Rattle.ev_world.specs.Writing.{AppendsFront, WritesRun}
-use Rattle.ev_run.specs.Debt.{Debt}
-use Rattle.ev_run.specs.Due.{Settles, due_of_run, due_of_machine}
+use Rattle.ev_reply.specs.Debt.{Debt}
+use Rattle.ev_run.specs.Due.{due_of_run, due_of_machine}
+use Rattle.ev_reply.specs.Paying.{Settles}
 use Rattle.ev_run.specs.Ends.{status_by}
-use Rattle.ev_run.specs.Words.{IsPrefix}
-use Rattle.ev_run.specs.declared.status.Status.TheVariants.{Memory, WriteFault}
+use Rattle.ev_reply.specs.Words.{IsPrefix}
+use Rattle.ev_reply.specs.declared.status.Status.TheVariants.{Memory, WriteFault}
 use Rattle.ev_run.proofs.Steady.{runs_are_mirrored, runs_are_steady}
 
 -- the end of a run that stopped tells the status that is due

@@ -12,7 +12,7 @@ use Rattle.ev_run.specs.Due.{IsDueOfTrees, IsDueOfVats, Telling}
 use Rattle.ev_run.specs.Unread.{IfRefused}
 use Rattle.ev_run.specs.declared.sources.Unread.{Unread}
 use Rattle.ev_run.specs.declared.sources.Unread.TheVariants.{Refused, Memory}
-use Rattle.ev_run.specs.declared.status.Status.{Status}
+use Rattle.ev_reply.specs.declared.status.Status.{Status}
 
 -- one more
 pub read_more : (all vats : List VatScript) (programs : List Scoped) (vat : VatScript) (scoped : Scoped) → AreRead all vats programs → IsRead all vat (Ok scoped)

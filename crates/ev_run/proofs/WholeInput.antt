@@ -9,10 +9,11 @@ use Rattle.def_run.specs.World.{run, Goes, Stopped}
 use Rattle.ev_script.specs.declared.script.Script.{Script}
 use Rattle.ev_script.specs.declared.script.VatScript.{VatScript}
 use Rattle.ev_run.specs.Programs.{IsDueOfFault}
-use Rattle.ev_run.specs.Due.{IsDueOfScript, IsDueOfTrees, IsDueOfVats, IsOfWhole, Telling, due_of_run}
+use Rattle.ev_run.specs.Due.{IsDueOfScript, IsDueOfTrees, IsDueOfVats, Telling, due_of_run}
+use Rattle.ev_reply.specs.Paying.{IsOfWhole}
 use Rattle.law_schedule.specs.Scripts.{machine_script, tree_at}
 use Rattle.ev_run.specs.Machine.{greatest_depth}
-use Rattle.ev_run.specs.declared.status.Status.{Status}
+use Rattle.ev_reply.specs.declared.status.Status.{Status}
 
 pub of_fault : (vat : ℕ) (name : List ℕ) (fault : ProgramFault) (status : Status) (text : List ℕ) → IsDueOfFault vat name fault status text → IsOfWhole status
 of_fault vat name (faults.At part kind place) status text due = subst IsOfWhole (sym due.0) tt

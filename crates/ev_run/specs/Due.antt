@@ -11,18 +11,18 @@ use Rattle.ev_scope.specs.declared.accepted.Scoped.{Scoped}
 use Rattle.ev_script.specs.Rules.{IsAdmitted}
 use Rattle.ev_script.specs.declared.script.Script.{Script}
 use Rattle.ev_script.specs.declared.script.VatScript.{VatScript}
-use Rattle.ev_run.specs.Words.{IsPrefix}
-use Rattle.ev_run.specs.Debt.{Debt, IsFor, bytes_refused}
+use Rattle.ev_reply.specs.Words.{IsPrefix}
+use Rattle.ev_reply.specs.Debt.{Debt, IsFor, bytes_refused}
 use Rattle.law_schedule.specs.Scripts.{machine_script, tree_at}
 use Rattle.ev_world.specs.Running.{script_of}
 use Rattle.ev_run.specs.Machine.{greatest_depth, text_of, vat_of_step}
 use Rattle.ev_run.specs.Programs.{AreRead, ReadAs, IsDueOfFault, names_for}
 use Rattle.ev_run.specs.declared.reply.Owed.{Owed}
 use Rattle.ev_run.specs.declared.reply.Owed.TheVariants as owing
-use Rattle.ev_run.specs.declared.status.Refusal.{Refusal}
-use Rattle.ev_run.specs.declared.status.Stage.TheVariants as stages
-use Rattle.ev_run.specs.declared.status.Status.{Status}
-use Rattle.ev_run.specs.declared.status.Status.TheVariants.{Done, WriteFault, TooLong, ScriptRefused, ProgramRefused, FuelSpent, TooDeep, WordRepeated, Memory}
+use Rattle.ev_reply.specs.declared.status.Refusal.{Refusal}
+use Rattle.ev_reply.specs.declared.status.Stage.TheVariants as stages
+use Rattle.ev_reply.specs.declared.status.Status.{Status}
+use Rattle.ev_reply.specs.declared.status.Status.TheVariants.{Done, WriteFault, TooLong, ScriptRefused, ProgramRefused, FuelSpent, TooDeep, WordRepeated, Memory}
 
 -- ---- a run
 
@@ -68,35 +68,6 @@ IsDueOfVats tell script trees (vat ∷ more) status text = ReadAs vat.source (na
 abbrev pub IsDueOfScript : Telling → Result Script ℕ → Status → List ℕ → Type 0
 IsDueOfScript tell (Ok script) status text = IsDueOfVats tell script [] script.vats status text
 IsDueOfScript tell (Err rule) status text = IsFor status text (bytes_refused rule)
-
--- ---- a status
-
--- the status of a call that read all of its input
-abbrev pub IsOfWhole : Status → Type 0
-IsOfWhole Done = Unit {0}
-IsOfWhole (ScriptRefused r) = Unit {0}
-IsOfWhole (ProgramRefused r) = Unit {0}
-IsOfWhole (FuelSpent step) = Unit {0}
-IsOfWhole (TooDeep step) = Unit {0}
-IsOfWhole (WordRepeated first second) = Unit {0}
-IsOfWhole _ = ⊥
-
--- the status of a call that began to read
-abbrev pub IsOfRead : Status → Type 0
-IsOfRead TooLong = Unit {0}
-IsOfRead status = IsOfWhole status
-
--- ---- what is written of it
-
--- A status with its whole text written, or a write fault with a front of it.
-abbrev pub Finishes : Option (List ℕ) → Option (List ℕ) → Status → List ℕ → Status → Type 0
-Finishes held held' status text result = (written : List ℕ) × Appends held held' written
-    × (((result ≡ status) × (written ≡ text)) ⊎ ((result ≡ WriteFault) × IsPrefix written text))
-
--- so, or want of memory with a front of it
-abbrev pub Settles : Option (List ℕ) → Option (List ℕ) → Debt → Status → Type 0
-Settles held held' debt result = Finishes held held' debt.status debt.text result
-    ⊎ ((result ≡ Memory) × (written : List ℕ) × Appends held held' written × IsPrefix written debt.text)
 
 -- ---- what is owed
 

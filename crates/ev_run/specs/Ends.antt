@@ -4,8 +4,8 @@ use Rattle.ev_world.specs.declared.run.RunEnd.{RunEnd}
 use Rattle.ev_world.specs.declared.run.RunEnd.TheVariants as end
 use Rattle.ev_run.specs.Due.{astray}
 use Rattle.ev_run.specs.Machine.{vat_of_step}
-use Rattle.ev_run.specs.declared.status.Status.{Status}
-use Rattle.ev_run.specs.declared.status.Status.TheVariants.{Done, FuelSpent, ProgramRefused, TooDeep, WordRepeated}
+use Rattle.ev_reply.specs.declared.status.Status.{Status}
+use Rattle.ev_reply.specs.declared.status.Status.TheVariants.{Done, FuelSpent, ProgramRefused, TooDeep, WordRepeated}
 
 abbrev pub status_by : Script → RunEnd → Status
 status_by script end.Done = Done

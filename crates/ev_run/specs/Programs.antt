@@ -11,11 +11,11 @@ use Rattle.ev_reader.specs.declared.fault.ProgramFault.TheVariants.{At, Memory a
 use Rattle.ev_reader.specs.declared.fault.Stage.{Stage as Part}
 use Rattle.ev_reader.specs.declared.fault.Stage.TheVariants as parts
 use Rattle.ev_script.specs.declared.script.VatScript.{VatScript}
-use Rattle.ev_run.specs.Debt.{IsFor, program_refused}
-use Rattle.ev_run.specs.declared.status.Status.{Status}
-use Rattle.ev_run.specs.declared.status.Refusal.{Refusal}
-use Rattle.ev_run.specs.declared.status.Stage.{Stage}
-use Rattle.ev_run.specs.declared.status.Stage.TheVariants.{Lex, Parse, Nested, Expand, Scope}
+use Rattle.ev_reply.specs.Debt.{IsFor, program_refused}
+use Rattle.ev_reply.specs.declared.status.Status.{Status}
+use Rattle.ev_reply.specs.declared.status.Refusal.{Refusal}
+use Rattle.ev_reply.specs.declared.status.Stage.{Stage}
+use Rattle.ev_reply.specs.declared.status.Stage.TheVariants.{Lex, Parse, Nested, Expand, Scope}
 
 -- every program is given the names of the safe scope
 abbrev pub safe_names : List (List ℕ)

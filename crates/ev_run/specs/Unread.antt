@@ -2,7 +2,7 @@
 use Rattle.std.specs.Prelude.{[], string_bytes, Result, Ok, Err}
 use Rattle.ev_script.specs.declared.script.Script.{Script}
 use Rattle.ev_run.specs.Due.{IsDueOfVats, Telling}
-use Rattle.ev_run.specs.declared.reply.Reply.{Reply}
+use Rattle.ev_reply.specs.declared.reply.Reply.{Reply}
 use Rattle.ev_run.specs.declared.sources.Unread.{Unread}
 use Rattle.ev_run.specs.declared.sources.Unread.TheVariants.{Refused, Memory}
 

@@ -6,9 +6,7 @@ pub mod paying;
 pub mod reply;
 pub mod run;
 pub mod sources;
-pub mod status;
 
-pub use paying::{finish, pay};
-pub use reply::{MOST_BYTES, Owed, Prepared, Reply};
+pub use paying::pay;
+pub use reply::{Owed, Prepared};
 pub use run::owed_bytes;
-pub use status::{Refusal, Stage, Status};

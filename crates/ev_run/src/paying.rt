@@ -1,26 +1,15 @@
 //! Writing what is owed.
 
-ghost use Rattle.std.specs.Prelude.{◌≡◌, ◌≤◌, ◌⊎◌};
+ghost use Rattle.std.specs.Prelude.{◌≡◌, ◌≤◌};
 ghost use Rattle.ev_io.specs.Causes.{Rose};
-ghost use Rattle.ev_run.specs.Due.{Finishes, IsOfRead, MayRun, Settles, debt_of};
+ghost use Rattle.ev_run.specs.Due.{MayRun, debt_of};
+ghost use Rattle.ev_reply.specs.Paying.{IsOfRead, Settles};
 
 use crate::reply::Owed;
 use crate::run::write_prepared;
-use crate::status::Status;
-use ev_io::{Sink, write_all};
+use ev_io::Sink;
+use ev_reply::{Status, finish};
 use std::alloc::Global;
-
-/// Writes the text of a status.
-pub fn finish<K: Sink>(out: &mut K, status: Status, text: &[u8]) -> Status
-    ensures text { Finishes (K.written out.old) (K.written out.new) status text.now result }
-    ensures later { K.faults out.old ≤ K.faults out.new }
-    ensures fault { result ≡ status ⊎ Rose (K.faults out.old) (K.faults out.new) }
-{
-    match write_all(out, text) {
-        Ok(()) => status,
-        Err(_) => Status::WriteFault,
-    }
-}
 
 /// Writes what is owed. Of a run that is what it tells, as it happens.
 pub fn pay<K: Sink>(alloc: Global, owed: Owed, out: &mut K) -> Status

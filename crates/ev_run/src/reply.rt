@@ -1,26 +1,14 @@
-//! What a call is to answer and to write.
+//! What a call owes for a script.
 
 ghost use Rattle.std.specs.Prelude.{◌≡◌, IfOk, string_bytes};
-ghost use Rattle.ev_run.specs.Debt.{IsFor, bytes_refused, program_refused};
 ghost use Rattle.ev_run.specs.Programs.{IsDueOfFault, stage_of};
-ghost use Rattle.ev_run.specs.Words.{line};
 
-use crate::status::{Refusal, Stage, Status};
 use ev_base::Memory;
 use ev_reader::ProgramFault;
+use ev_reply::{Refusal, Reply, Stage, Status};
 use ev_scope::Scoped;
 use ev_script::Script;
 use std::alloc::Global;
-
-/// The most bytes that are read.
-pub const MOST_BYTES: u32 = 1048576;
-
-/// What is to be answered and written.
-#[derive(Drop)]
-pub struct Reply {
-    pub status: Status,
-    pub text: String,
-}
 
 /// A script whose programs were read: those of its vats, in order.
 #[derive(Drop)]
@@ -36,26 +24,6 @@ pub struct Prepared {
 pub enum Owed {
     Reply(Reply),
     Run(Prepared),
-}
-
-/// A reply of one line.
-pub fn reply_line(alloc: Global, status: Status, text: &str) -> Result<Reply, Memory>
-    ensures { IfOk result (λ reply. IsFor reply.status (string_bytes reply.text) (record { status = status; text = line text.now })) }
-{
-    Ok(Reply {
-        status,
-        text: format!(in alloc; "{text}\n")?,
-    })
-}
-
-/// The refusal of bytes that break a rule.
-pub fn reply_rule(alloc: Global, rule: u8) -> Result<Reply, Memory>
-    ensures { IfOk result (λ reply. IsFor reply.status (string_bytes reply.text) (bytes_refused rule)) }
-{
-    Ok(Reply {
-        status: Status::ScriptRefused(rule),
-        text: format!(in alloc; "refused script {rule}\n")?,
-    })
 }
 
 /// The stage of a refusal.

@@ -3,16 +3,17 @@
 ghost use Rattle.std.specs.Prelude.{◌≡◌, ◌≤◌, [], IfOk};
 ghost use Rattle.ev_io.specs.Causes.{Rose};
 ghost use Rattle.ev_script.specs.Rules.{IsAdmitted};
-ghost use Rattle.ev_run.specs.Due.{IsDueOfScript, IsDueOfVats, IsOfWhole, MayRun, Settles, debt_of};
+ghost use Rattle.ev_run.specs.Due.{IsDueOfScript, IsDueOfVats, MayRun, debt_of};
+ghost use Rattle.ev_reply.specs.Paying.{IsOfWhole, Settles};
 ghost use Rattle.ev_run.specs.Ends.{status_by};
 ghost use Rattle.ev_run.specs.Machine.{text_of, vat_of_entry, vat_of_step};
 ghost use Rattle.ev_script.specs.Script.{read as script_from};
 
-use crate::reply::{Owed, Prepared, reply_rule};
+use crate::reply::{Owed, Prepared};
 use crate::sources::{Unread, read_sources};
-use crate::status::{Refusal, Stage, Status};
 use ev_base::{Limits, Memory, VatId};
 use ev_io::Sink;
+use ev_reply::{Refusal, Stage, Status, reply_rule};
 use ev_script::{Entry, Script, ScriptFault, read_script};
 use ev_world::{RunEnd, Unfinished, write_run};
 use std::alloc::Global;

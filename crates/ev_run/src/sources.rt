@@ -6,8 +6,9 @@ ghost use Rattle.ev_run.specs.Programs.{AreRead, IsDueOfFault, IsRead};
 ghost use Rattle.ev_run.specs.Unread.{IfRefused, IsDueHoweverRun};
 
 use crate::given::names_for;
-use crate::reply::{Reply, reply_fault};
+use crate::reply::reply_fault;
 use ev_reader::{ProgramFault, read_program};
+use ev_reply::Reply;
 use ev_scope::Scoped;
 use ev_script::{Script, VatScript};
 use std::alloc::Global;

@@ -7,7 +7,6 @@ use std::error::Error;
 use std::fmt;
 
 /// A vat of a script.
-#[derive(Drop)]
 pub struct VatScript {
     /// Its name, which no other vat of the script has.
     pub name: Str,
@@ -15,6 +14,16 @@ pub struct VatScript {
     pub knows: Seq<VatId>,
     /// Its program, a text of E of at most 65,536 bytes.
     pub source: Str,
+}
+
+impl Drop for VatScript {
+    fn drop(self) {
+        let Self {
+            name: _name,
+            knows: _knows,
+            source: _source,
+        } = self;
+    }
 }
 
 /// One step of a schedule.
@@ -31,7 +40,6 @@ pub enum Entry {
 }
 
 /// What a run is made of.
-#[derive(Drop)]
 pub struct Script {
     /// The key of the draws.
     pub key: [u8; 32],
@@ -41,6 +49,17 @@ pub struct Script {
     pub vats: Seq<VatScript>,
     /// At most 100,000 entries, drains written out.
     pub schedule: Seq<Entry>,
+}
+
+impl Drop for Script {
+    fn drop(self) {
+        let Self {
+            key: _,
+            fuel: _,
+            vats: _vats,
+            schedule: _schedule,
+        } = self;
+    }
 }
 
 /// Why bytes gave no script.

@@ -9,12 +9,22 @@ use std::marker::Model;
 
 /// The names that a vat knows and the messages that it has had, by their numbers there, and the objects of other vats by their positions.
 /// A number that is not there reads as the vat's root, as a message of its own, or as the object of that number.
-#[derive(Drop)]
 pub struct Table {
     vat: VatId,
     names: Seq<Name>,
     mails: Seq<Msg>,
     objects: Vec<Seq<u64>>,
+}
+
+impl Drop for Table {
+    fn drop(self) {
+        let Self {
+            vat: _,
+            names: _names,
+            mails: _mails,
+            objects: _objects,
+        } = self;
+    }
 }
 
 impl Model for Table {

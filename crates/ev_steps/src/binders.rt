@@ -14,10 +14,18 @@ use std::alloc::Global;
 use std::marker::Model;
 
 /// A noun that a pattern binds, and whether to a var slot. Contracts see the machine's.
-#[derive(Drop)]
 pub struct Bindable {
     pub noun: Word,
     pub is_var: bool,
+}
+
+impl Drop for Bindable {
+    fn drop(self) {
+        let Self {
+            noun: _noun,
+            is_var: _,
+        } = self;
+    }
 }
 
 impl Model for Bindable {

@@ -3,7 +3,6 @@
 use ev_word::Word;
 
 /// What a pattern binds to a value that its guard has coerced.
-#[derive(Drop)]
 pub enum Target {
     /// A noun, for good.
     Final(Word),
@@ -11,4 +10,14 @@ pub enum Target {
     Var(Word),
     /// Nothing.
     Nothing,
+}
+
+impl Drop for Target {
+    fn drop(self) {
+        match self {
+            Self::Final(_word) => {}
+            Self::Var(_word) => {}
+            Self::Nothing => {}
+        }
+    }
 }

@@ -15,7 +15,6 @@ use std::marker::Model;
 
 /// The numbers under which a vat and its peer know each other's things. Each list of numbers begins at 0 and has no
 /// gap, and no number is ever freed.
-#[derive(Drop)]
 pub struct Connection {
     peer: VatId,
     is_closed: bool,
@@ -24,6 +23,20 @@ pub struct Connection {
     asked: Seq<PromId>,
     answers: Seq<PromId>,
     names: Names,
+}
+
+impl Drop for Connection {
+    fn drop(self) {
+        let Self {
+            peer: _,
+            is_closed: _,
+            exports: _exports,
+            imports: _imports,
+            asked: _asked,
+            answers: _answers,
+            names: _names,
+        } = self;
+    }
 }
 
 impl Model for Connection {

@@ -11,9 +11,14 @@ use std::alloc::Global;
 use std::marker::Model;
 
 /// Each value that has a number, in the order of coming, with the number that came first.
-#[derive(Drop)]
 pub(crate) struct Names {
     numbers: IndexMap<Thing, Number>,
+}
+
+impl Drop for Names {
+    fn drop(self) {
+        let Self { numbers: _numbers } = self;
+    }
 }
 
 impl Model for Names {

@@ -10,9 +10,14 @@ use std::alloc::Global;
 use std::marker::Model;
 
 /// Things, each at its position.
-#[derive(Drop)]
 pub(crate) struct Places {
     things: IndexSet<Thing>,
+}
+
+impl Drop for Places {
+    fn drop(self) {
+        let Self { things: _things } = self;
+    }
 }
 
 impl Model for Places {

@@ -12,7 +12,6 @@ use std::alloc::Global;
 use std::marker::Model;
 
 /// What happened, but for its values.
-#[derive(Drop)]
 pub enum Line {
     /// A call that begins no activation: its target, and so many arguments.
     Call(u32, ActId, Word),
@@ -31,6 +30,24 @@ pub enum Line {
     Other(Box<Happened>),
 }
 
+impl Drop for Line {
+    fn drop(self) {
+        match self {
+            Self::Call(_, _, _word) => {}
+            Self::Begins(_, _, _word, _) => {}
+            Self::Back(_) => {}
+            Self::Thrown(_) => {}
+            Self::Gone(_) => {}
+            Self::Slot(_, _) => {}
+            Self::Read(_, _) => {}
+            Self::Wrote(_, _) => {}
+            Self::List(_, _, _) => {}
+            Self::Ejector(_) => {}
+            Self::Other(_happened) => {}
+        }
+    }
+}
+
 impl Line {
     /// How many values are the line's.
     pub fn width(&self) -> u64
@@ -46,11 +63,20 @@ impl Line {
 }
 
 /// What happened, in order.
-#[derive(Drop)]
 pub struct Lines {
     alloc: Global,
     lines: Vec<Line>,
     values: Vec<Value>,
+}
+
+impl Drop for Lines {
+    fn drop(self) {
+        let Self {
+            alloc: _,
+            lines: _lines,
+            values: _values,
+        } = self;
+    }
 }
 
 impl Model for Lines {

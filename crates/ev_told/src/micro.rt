@@ -11,10 +11,18 @@ use ev_word::Word;
 use std::alloc::Global;
 
 /// The fuel left for the run, in units, and what happened in this step, in order.
-#[derive(Drop)]
 pub struct Micro {
     pub fuel: u32,
     pub events: Lines,
+}
+
+impl Drop for Micro {
+    fn drop(self) {
+        let Self {
+            fuel: _,
+            events: _events,
+        } = self;
+    }
 }
 
 impl Micro {

@@ -20,8 +20,9 @@ use Rattle.ev_mint.specs.Telling as mint
 use Rattle.def_trace.specs.declared.trace.Trace.{Trace}
 use Rattle.ev_trace.specs.Reading.{read as trace_from}
 use Rattle.ev_top.specs.Commands.{reads}
-use Rattle.ev_run.specs.Debt.{Debt, most_bytes}
-use Rattle.ev_top.specs.Lines.{IsDueOfMint, IsDueOfSturdy, IsDueOfTrace, status_of}
+use Rattle.ev_reply.specs.Debt.{Debt, most_bytes}
+use Rattle.ev_check_text.specs.Due.{IsDueOfTrace}
+use Rattle.ev_top.specs.Lines.{IsDueOfMint, IsDueOfSturdy, status_of}
 use Rattle.ev_script.specs.Script.{read as script_from}
 use Rattle.ev_top.specs.Summary.{summary_of}
 use Rattle.ev_run.specs.Programs.{AreRead, IsFirstRefused, names_for, IsRead, safe_names, refusal, stage_of, trees_of, IsDueOfFault}
@@ -33,11 +34,12 @@ use Rattle.ev_top.specs.Due.{IsDue, IsDueOfInput, IsDueOfBytes, Pays, PaysWith}
 use Rattle.ev_top.specs.Causes.{IsInterrupted, Follows, ComesWhere, IsLong, Breaks, HasScript, HasPrograms, HasText, HasFault, HasNoTree, HasRefused, IsAstray, IsProgramRefused, RepeatsWord, Stops, StopsIn, run_of}
 use Rattle.ev_top.specs.declared.command.Command.{Command}
 use Rattle.ev_top.specs.declared.command.Command.TheVariants.{Run, Expand, Generate, Sum, Sturdy, Mint, Check}
-use Rattle.ev_run.specs.declared.status.Status.{Status}
-use Rattle.ev_run.specs.declared.status.Status.TheVariants.{Done, Usage, ReadFault, WriteFault, TooLong, ScriptRefused, ProgramRefused, FuelSpent, TooDeep, WordRepeated, Memory}
-use Rattle.ev_run.specs.declared.status.Stage.{Stage}
-use Rattle.ev_run.specs.declared.status.Stage.TheVariants as stages
-use Rattle.ev_top.proofs.DueLemmas.{is_few, too_many}
+use Rattle.ev_reply.specs.declared.status.Status.{Status}
+use Rattle.ev_reply.specs.declared.status.Status.TheVariants.{Done, Usage, ReadFault, WriteFault, TooLong, ScriptRefused, ProgramRefused, FuelSpent, TooDeep, WordRepeated, Memory}
+use Rattle.ev_reply.specs.declared.status.Stage.{Stage}
+use Rattle.ev_reply.specs.declared.status.Stage.TheVariants as stages
+use Rattle.ev_reply.proofs.PayLemmas.{is_few}
+use Rattle.ev_top.proofs.DueLemmas.{too_many}
 use Rattle.ev_run.proofs.ReadLemmas.{one_behind, read_more, trees_count}
 use Rattle.ev_top.proofs.OneReading.{IsTree, fault_once, tree_once}
 use Rattle.ev_top.proofs.Astray.{no_run_goes_astray}

@@ -25,7 +25,7 @@ use Rattle.ev_top.specs.Ends.{summed_by}
 use Rattle.ev_run.specs.Machine.{greatest_depth}
 use Rattle.ev_run.specs.Programs.{trees_of}
 use Rattle.ev_top.specs.Summary.{steps_of, summary_by, summary_of}
-use Rattle.ev_run.specs.declared.status.Status.{Status}
+use Rattle.ev_reply.specs.declared.status.Status.{Status}
 use Rattle.ev_run.proofs.Ended.{due_text, told_end}
 use Rattle.ev_run.proofs.Steady.{runs_are_mirrored, runs_are_steady}
 

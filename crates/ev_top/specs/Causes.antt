@@ -14,7 +14,7 @@ use Rattle.ev_sturdy.specs.Telling as sturdy
 use Rattle.ev_mint.specs.Telling as mint
 use Rattle.ev_trace.specs.Reading.{read as trace_from}
 use Rattle.ev_top.specs.Commands.{reads}
-use Rattle.ev_run.specs.Debt.{most_bytes}
+use Rattle.ev_reply.specs.Debt.{most_bytes}
 use Rattle.ev_top.specs.Expansion.{text_from}
 use Rattle.ev_world.specs.Running.{script_of}
 use Rattle.ev_run.specs.Machine.{greatest_depth}
@@ -22,9 +22,9 @@ use Rattle.ev_run.specs.Programs.{AreRead, IsFirstRefused, IsRead, safe_names}
 use Rattle.ev_script.specs.Script.{read as script_from}
 use Rattle.ev_top.specs.declared.command.Command.{Command}
 use Rattle.ev_top.specs.declared.command.Command.TheVariants.{Run, Expand, Generate, Sum, Sturdy, Mint, Check}
-use Rattle.ev_run.specs.declared.status.Stage.TheVariants as stages
-use Rattle.ev_run.specs.declared.status.Status.{Status}
-use Rattle.ev_run.specs.declared.status.Status.TheVariants.{ReadFault, WriteFault, ProgramRefused, Memory}
+use Rattle.ev_reply.specs.declared.status.Stage.TheVariants as stages
+use Rattle.ev_reply.specs.declared.status.Status.{Status}
+use Rattle.ev_reply.specs.declared.status.Status.TheVariants.{ReadFault, WriteFault, ProgramRefused, Memory}
 
 -- a fault or want of memory
 abbrev pub IsInterrupted : Status → Type 0

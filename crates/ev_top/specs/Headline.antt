@@ -34,8 +34,8 @@ use Rattle.ev_run.specs.Machine.{greatest_depth}
 use Rattle.ev_top.specs.Summary.{steps_of}
 use Rattle.ev_top.specs.declared.command.Command.{Command}
 use Rattle.ev_top.specs.declared.command.Command.TheVariants.{Sum}
-use Rattle.ev_run.specs.declared.status.Status.{Status}
-use Rattle.ev_run.specs.declared.status.Status.TheVariants.{Usage, ReadFault, TooLong, ScriptRefused}
+use Rattle.ev_reply.specs.declared.status.Status.{Status}
+use Rattle.ev_reply.specs.declared.status.Status.TheVariants.{Usage, ReadFault, TooLong, ScriptRefused}
 
 -- the command runs a script whose programs are read, and this is the machine's
 abbrev pub IsToRun : Option Command → List ℕ → machine.Script → Type 0

@@ -1,13 +1,11 @@
--- What is due for the commands that answer lines, for the text of a run that is judged, and for a script that is generated.
+-- What is due for the commands that answer lines, and for a script that is generated.
 use Rattle.std.specs.Prelude.{◌≡◌, ℕ, List, Some, None, Result, Ok, Err}
 use Rattle.std.specs.declared.option.Option.{Option}
-use Rattle.def_trace.specs.declared.trace.Trace.{Trace}
-use Rattle.ev_check_text.specs.Checks.{Checks}
 use Rattle.ev_generate.specs.Generated.{generated}
 use Rattle.ev_sturdy.specs.Telling.{Ending}
-use Rattle.ev_run.specs.Debt.{IsFor, bytes_refused}
-use Rattle.ev_run.specs.declared.status.Status.{Status}
-use Rattle.ev_run.specs.declared.status.Status.TheVariants.{Done, WordRepeated}
+use Rattle.ev_reply.specs.Debt.{IsFor, bytes_refused}
+use Rattle.ev_reply.specs.declared.status.Status.{Status}
+use Rattle.ev_reply.specs.declared.status.Status.TheVariants.{Done, WordRepeated}
 
 -- the text of the script that is generated for a number
 abbrev pub IsDueOfGenerated : ℕ → Status → List ℕ → Type 0
@@ -27,8 +25,3 @@ IsDueOfSturdy (Err rule) status text = IsFor status text (bytes_refused rule)
 abbrev pub IsDueOfMint : Result (List ℕ) ℕ → Status → List ℕ → Type 0
 IsDueOfMint (Ok told) status text = (status ≡ Done) × (text ≡ told)
 IsDueOfMint (Err rule) status text = IsFor status text (bytes_refused rule)
-
--- what is due for the text of a run: the judgement on its trace; or for bytes that are none
-abbrev pub IsDueOfTrace : Result Trace ℕ → Status → List ℕ → Type 0
-IsDueOfTrace (Ok trace) status text = (status ≡ Done) × Checks trace text
-IsDueOfTrace (Err rule) status text = IsFor status text (bytes_refused rule)

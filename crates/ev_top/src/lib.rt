@@ -8,7 +8,7 @@ mod lines;
 mod program;
 mod summary;
 
-pub use ev_run::{Refusal, Stage, Status};
+pub use ev_reply::{Refusal, Stage, Status};
 pub use program::top;
 
 // The run of a script and a vat by itself, for those who call them with limits or programs of their own.

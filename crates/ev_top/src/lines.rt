@@ -1,16 +1,14 @@
-//! What is due for the commands that answer lines, for the text of a run that is judged, and for a script that is generated.
+//! What is due for the commands that answer lines, and for a script that is generated.
 
 ghost use Rattle.std.specs.Prelude.{◌≡◌, IfOk, List, ℕ, Some, string_bytes};
 ghost use Rattle.ev_generate.specs.Generated.{generated};
 ghost use Rattle.ev_sturdy.specs.Telling as sturdy;
 ghost use Rattle.ev_mint.specs.Telling as mint;
-ghost use Rattle.ev_trace.specs.Reading.{read as trace_from};
-ghost use Rattle.ev_top.specs.Lines.{IsDueOfGenerated, IsDueOfMint, IsDueOfSturdy, IsDueOfTrace, status_of};
+ghost use Rattle.ev_top.specs.Lines.{IsDueOfGenerated, IsDueOfMint, IsDueOfSturdy, status_of};
 
 use ev_base::Memory;
 use ev_generate::generate;
-use ev_run::reply::{Reply, reply_rule};
-use ev_run::status::Status;
+use ev_reply::{Reply, Status, reply_rule};
 use ev_script::ScriptFault;
 use ev_sturdy::Told;
 use std::alloc::Global;
@@ -54,20 +52,6 @@ pub fn mint_bytes(alloc: Global, bytes: &[u8]) -> Result<Reply, Memory>
     ensures { IfOk result (λ reply. IsDueOfMint (mint.due bytes.now) reply.status (string_bytes reply.text)) }
 {
     match ev_mint::tell(alloc, bytes) {
-        Ok(text) => Ok(Reply {
-            status: Status::Done,
-            text,
-        }),
-        Err(ScriptFault::Rule(rule)) => reply_rule(alloc, rule),
-        Err(ScriptFault::Memory) => Err(Memory),
-    }
-}
-
-/// The judgement on the text of a run, or the refusal of bytes that are none.
-pub fn check_bytes(alloc: Global, bytes: &[u8]) -> Result<Reply, Memory>
-    ensures { IfOk result (λ reply. IsDueOfTrace (trace_from bytes.now) reply.status (string_bytes reply.text)) }
-{
-    match ev_check_text::tell(alloc, bytes) {
         Ok(text) => Ok(Reply {
             status: Status::Done,
             text,

@@ -11,7 +11,7 @@ ghost use Rattle.ev_top.specs.Summary.{summary_of};
 
 use ev_base::Memory;
 use ev_generate::generate;
-use ev_run::reply::{Reply, reply_rule};
+use ev_reply::{Reply, reply_rule};
 use ev_run::run::{LIMITS, status_by};
 use ev_run::sources::{Unread, read_sources};
 use ev_scope::Scoped;

@@ -268,7 +268,6 @@ pub struct Vat {
     stopped: Option<VatStop>,
 }
 
-// By hand: a derived one is opened down to the last table in each function that owns one, and costs its proof seconds at each way out.
 impl Drop for Vat {
     fn drop(self) {
         let Self {

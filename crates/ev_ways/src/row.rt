@@ -15,9 +15,14 @@ use std::collections::VecDeque;
 use std::marker::Model;
 
 /// The ways from one vat, by the number of the vat that each leads to.
-#[derive(Drop)]
 pub struct Row {
     ways: Vec<Way>,
+}
+
+impl Drop for Row {
+    fn drop(self) {
+        let Self { ways: _ways } = self;
+    }
 }
 
 impl Model for Row {

@@ -9,9 +9,14 @@ use std::marker::Model;
 use std::rc::Rc;
 
 /// A text in UTF-8 that several may hold, and that never changes. Contracts see the list of its bytes.
-#[derive(Drop)]
 pub struct Text {
     text: Rc<Str>,
+}
+
+impl Drop for Text {
+    fn drop(self) {
+        let Self { text: _text } = self;
+    }
 }
 
 impl Model for Text {

@@ -10,10 +10,18 @@ use std::alloc::Global;
 use std::marker::Model;
 
 /// A noun or a verb. It is shared and not copied, and its key tells it from most others. Contracts see the list of its bytes.
-#[derive(Drop)]
 pub struct Word {
     key: u32,
     text: Option<Text>,
+}
+
+impl Drop for Word {
+    fn drop(self) {
+        let Self {
+            key: _,
+            text: _text,
+        } = self;
+    }
 }
 
 impl Model for Word {

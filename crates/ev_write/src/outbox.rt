@@ -14,10 +14,15 @@ use ev_pass::post::Put;
 use ev_tables::Connection;
 
 /// The operation of a note, and the vat that it is for.
-#[derive(Drop)]
 pub struct Outgoing {
     pub to: VatId,
     pub op: Op,
+}
+
+impl Drop for Outgoing {
+    fn drop(self) {
+        let Self { to: _, op: _op } = self;
+    }
 }
 
 /// Writes a note for its peer, whose connection stands at the vat's number.

@@ -3,10 +3,10 @@ use Rattle.ev_reader.specs.Stages.{fault_text}
 use Rattle.ev_reader.specs.declared.fault.ProgramFault.{ProgramFault}
 use Rattle.ev_reader.specs.declared.fault.ProgramFault.TheVariants.{At}
 use Rattle.ev_reader.specs.declared.fault.Stage.{Stage as Part}
-use Rattle.ev_run.specs.Words.{line}
+use Rattle.ev_reply.specs.Words.{line}
 use Rattle.ev_run.specs.Programs.{IsDueOfFault, refusal}
-use Rattle.ev_run.specs.declared.status.Status.{Status}
-use Rattle.ev_run.specs.declared.status.Status.TheVariants.{ProgramRefused}
+use Rattle.ev_reply.specs.declared.status.Status.{Status}
+use Rattle.ev_reply.specs.declared.status.Status.TheVariants.{ProgramRefused}
 use Rattle.ev_run.proofs.reply.reply_fault.Goals as goal
 
 at_fault : (vat : ℕ) (name : List ℕ) (fault : ProgramFault) (part : Part) (kind place : ℕ) (status : Status) (text : List ℕ) → fault ≡ At part kind place

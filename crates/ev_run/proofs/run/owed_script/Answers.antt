@@ -1,9 +1,9 @@
 use Rattle.std.proofs.Common.{[], refl, subst}
 use Rattle.std.specs.Prelude.{string_bytes}
-use Rattle.ev_run.specs.Debt.{Debt}
+use Rattle.ev_reply.specs.Debt.{Debt}
 use Rattle.ev_run.specs.Due.{IsDueOfVats, Telling, due_of_machine}
 use Rattle.ev_run.specs.Unread.{IfRefused}
-use Rattle.ev_run.specs.declared.reply.Reply.{Reply}
+use Rattle.ev_reply.specs.declared.reply.Reply.{Reply}
 use Rattle.ev_run.specs.declared.sources.Unread.{Unread}
 use Rattle.ev_world.specs.Running.{script_of}
 use Rattle.ev_run.specs.Machine.{greatest_depth, text_of}

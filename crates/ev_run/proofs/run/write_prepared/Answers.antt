@@ -1,7 +1,8 @@
 use Rattle.std.proofs.Common.{subst, sym}
-use Rattle.ev_run.specs.Due.{Settles, debt_of}
+use Rattle.ev_run.specs.Due.{debt_of}
+use Rattle.ev_reply.specs.Paying.{Settles}
 use Rattle.ev_run.specs.declared.reply.Owed.TheVariants.{Run}
-use Rattle.ev_run.specs.declared.status.Status.{Status}
+use Rattle.ev_reply.specs.declared.status.Status.{Status}
 use Rattle.ev_run.proofs.Ended.{fault_settles, run_settles, want_settles}
 use Rattle.ev_run.proofs.ReadLemmas.{count_is}
 use Rattle.ev_run.proofs.run.write_prepared.Goals as goal

@@ -1,11 +1,13 @@
-use Rattle.std.proofs.Common.{◌≡◌, subst, Option, IfSome}
+use Rattle.std.proofs.Common.{◌≡◌, refl, subst, Option, Some, IfSome, IsSome}
 use Rattle.ev_top.specs.Commands.{command_of}
-use Rattle.ev_run.specs.Due.{IsOfRead, debt_of}
-use Rattle.ev_top.specs.Due.{Pays}
+use Rattle.ev_run.specs.Due.{debt_of}
+use Rattle.ev_reply.specs.Paying.{IsOfRead}
+use Rattle.ev_top.specs.Due.{IsDue, Pays}
 use Rattle.ev_top.specs.declared.command.Command.{Command}
-use Rattle.ev_run.specs.declared.status.Status.{Status}
-use Rattle.ev_run.specs.declared.status.Status.TheVariants.{ReadFault}
-use Rattle.ev_top.proofs.DueLemmas.{plain, pays_usage, settled_left, settles_as}
+use Rattle.ev_reply.specs.declared.status.Status.{Status}
+use Rattle.ev_reply.specs.declared.status.Status.TheVariants.{ReadFault}
+use Rattle.ev_reply.proofs.PayLemmas.{plain, settled_left, settles_as}
+use Rattle.ev_top.proofs.DueLemmas.{pays_usage}
 use Rattle.ev_top.proofs.program.answer.Goals as goal
 
 pub returns-in_default-clause-due : goal.returns-in_default-clause-due
@@ -19,7 +21,7 @@ returns-in-Ok-clause-due g c =
     let held = g.K.Sink.written c.args.out.now in
     let held' = g.K.Sink.written c.pay.new.out in
     let debt = debt_of c.in-Ok.owed in
-    let paid = settled_left c.in-Some.command left debt held held' c.pay.result (plain debt.status c.in-Ok.ensures.kind) c.in-Ok.ensures.due c.pay.ensures.text in
+    let paid = settled_left (IsSome (Some c.in-Some.command)) (IsDue (Some c.in-Some.command)) left debt held held' c.pay.result refl (plain debt.status c.in-Ok.ensures.kind) c.in-Ok.ensures.due c.pay.ensures.text in
     subst (λ (k : Option Command). IfSome left (λ input. Pays held held' c.pay.result k input)) c.in-Some.ensures paid
 
 pub returns-in-Ok-clause-unread : goal.returns-in-Ok-clause-unread

@@ -1,5 +1,5 @@
 use Rattle.std.proofs.Common.{subst, Some, List, ℕ}
-use Rattle.ev_run.specs.Debt.{Debt}
+use Rattle.ev_reply.specs.Debt.{Debt}
 use Rattle.ev_run.specs.Due.{debt_of}
 use Rattle.ev_top.specs.Due.{IsDue}
 use Rattle.ev_top.proofs.DueLemmas.{due_read}

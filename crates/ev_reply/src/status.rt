@@ -48,7 +48,7 @@ pub enum Status {
 
 impl Status {
     ghost use Rattle.std.specs.Prelude.{◌≡◌};
-    ghost use Rattle.ev_run.specs.Codes.{code_of};
+    ghost use Rattle.ev_reply.specs.Codes.{code_of};
 
     /// The code with which the program ends.
     pub fn code(&self) -> u8

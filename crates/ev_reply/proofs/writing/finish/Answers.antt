@@ -1,6 +1,6 @@
 use Rattle.std.proofs.Common.{refl, sym, take, drop, inr}
 use Rattle.std.proofs.lemmas.List.{take-append-drop}
-use Rattle.ev_run.proofs.paying.finish.Goals as goal
+use Rattle.ev_reply.proofs.writing.finish.Goals as goal
 
 pub returns-in-Err-clause-text : goal.returns-in-Err-clause-text
 returns-in-Err-clause-text g c =

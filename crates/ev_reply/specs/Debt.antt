@@ -1,9 +1,9 @@
 -- What a call owes, whatever its words.
 use Rattle.std.specs.Prelude.{◌≡◌, ℕ, List, ◌∷◌, ◌++◌, codes, decimal}
-use Rattle.ev_run.specs.Words.{line}
-use Rattle.ev_run.specs.declared.status.Refusal.{Refusal}
-use Rattle.ev_run.specs.declared.status.Status.{Status}
-use Rattle.ev_run.specs.declared.status.Status.TheVariants.{Usage, TooLong, ScriptRefused, ProgramRefused}
+use Rattle.ev_reply.specs.Words.{line}
+use Rattle.ev_reply.specs.declared.status.Refusal.{Refusal}
+use Rattle.ev_reply.specs.declared.status.Status.{Status}
+use Rattle.ev_reply.specs.declared.status.Status.TheVariants.{Usage, TooLong, ScriptRefused, ProgramRefused}
 
 -- a status and its text
 pub record Debt : Type 0 where

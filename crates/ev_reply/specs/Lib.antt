@@ -1,0 +1,4 @@
+pub mod Words
+pub mod Codes
+pub mod Debt
+pub mod Paying
