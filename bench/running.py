@@ -1,10 +1,10 @@
 #!/usr/bin/env python3
 """Times the evaluator: nanoseconds and bytes of memory for a unit of fuel, and bytes for a line that is told.
 
-Run it at the top of the repository. It builds crates/evat and bench/programs/bench_frames.txt, expands each loop below by
-`evat expand`, and evaluates its kernel form until 0.1, 1 and 10 million units of fuel are spent. A loop never ends by
-itself, so all its fuel is spent and its lines are told and dropped at the stop: what is measured is evaluation alone.
-The figures of one loop should stay level as the fuel grows.
+Run it at the top of the repository. It builds crates/evat and bench/programs/bench_frames.txt, which evaluates each loop
+below until 0.1, 1 and 10 million units of fuel are spent. A loop never ends by itself, so all its fuel is spent and its
+lines are told and dropped at the stop; the time of one unit, which is that of reading, is taken off, so what is measured is
+evaluation alone. The figures of one loop should stay level as the fuel grows.
 
 Then it runs scripts of one vat whose program sends to itself (`evat run`), with 1,000 to 100,000 turns, and prints
 microseconds, bytes of memory and bytes of text for a turn. These are whole runs, whose texts are made.
@@ -76,15 +76,12 @@ AMPLE = 10_000_000
 def build() -> pathlib.Path:
     """Builds evat, and the program that evaluates alone, of which it tells where that stands."""
     subprocess.run(["rt", "run", "--", "help"], cwd=EVAT, stdin=subprocess.DEVNULL, stdout=subprocess.DEVNULL)
-    return building.build("bench_frames", ["1", "1"], b"(lit 41)")
+    return building.build("bench_frames", ["1", "1"], b"41")
 
 
-def expanded(source: str) -> bytes:
-    return subprocess.run([EVAT / "out" / "evat", "expand"], input=source.encode(), capture_output=True).stdout.rstrip(b"\n")
-
-
-def form_of(before: str, body: str) -> bytes:
-    return expanded(f"{before}while (true) {{ {body} }}\n")
+def loop_of(before: str, body: str) -> str:
+    """The program of a loop that never ends."""
+    return f"{before}while (true) {{ {body} }}\n"
 
 
 def once(words: list, given: pathlib.Path) -> tuple[float, int, bytes]:
@@ -102,11 +99,11 @@ def measured(words: list, given: pathlib.Path) -> tuple[float, int, bytes]:
     return min(run[0] for run in runs), min(run[1] for run in runs), runs[0][2]
 
 
-def evaluated(bench: pathlib.Path, form: pathlib.Path, fuel: int) -> tuple[float, int, int]:
-    """Seconds, bytes of memory, and how many lines were told."""
-    seconds, most, text = measured([bench, str(DEPTH), str(fuel)], form)
+def evaluated(bench: pathlib.Path, program: pathlib.Path, fuel: int) -> tuple[float, int, int | None]:
+    """Seconds, bytes of memory, and how many lines were told; none where the program was not read."""
+    seconds, most, text = measured([bench, str(DEPTH), str(fuel)], program)
     told = text.decode().split()
-    return seconds, most, int(told[-1]) if "told" in told else 0
+    return seconds, most, int(told[-1]) if "told" in told else None
 
 
 def run_with(script: pathlib.Path, source: str, turns: int) -> tuple[float, int, int]:
@@ -120,12 +117,11 @@ def run_with(script: pathlib.Path, source: str, turns: int) -> tuple[float, int,
 def print_loops(bench: pathlib.Path, program: pathlib.Path) -> None:
     print(f"{'loop':28} {'fuel':>10} {'ns a unit':>10} {'bytes a unit':>13} {'bytes a line':>13}")
     for name, (before, body) in LOOPS.items():
-        form = form_of(before, body)
-        if not form.startswith(b"("):
-            print(f"{name:28} not built: {form.decode().strip()}")
+        program.write_text(loop_of(before, body))
+        rest, floor, told = evaluated(bench, program, 1)
+        if told is None:
+            print(f"{name:28} not read")
             continue
-        program.write_bytes(form)
-        rest, floor, _ = evaluated(bench, program, 1)
         for fuel in FUELS:
             seconds, most, lines = evaluated(bench, program, fuel)
             more = max(0, most - floor)

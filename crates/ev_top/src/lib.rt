@@ -10,6 +10,3 @@ mod summary;
 
 pub use ev_reply::{Refusal, Stage, Status};
 pub use program::top;
-
-// The run of a script and a vat by itself, for those who call them with limits or programs of their own.
-pub use ev_world::{Program, RunEnd, Vat, VatStop, write_run};

@@ -7,22 +7,11 @@
 //! row is called: `spaces` puts so many spaces before the input, or in the place of the sign `@` in it; a call of the source gives at most
 //! `serves` bytes, and the call `fails` fails; a call of the sink takes at most `takes` bytes, and the call `refuses` fails; `puts` is how
 //! many calls of the sink there are.
-//!
-//! The words `form TURNS FUEL DEPTH` are no command of the program: the input is then the kernel form of the program of vat `a`, which
-//! takes so many turns, and no node begins below so many levels. A form with a noun that is not rightly bound is no program of a run: its
-//! status is `astray` where the vat's opening turn goes so, and nothing is written.
 #![tactic(auto)]
 
-ghost use Rattle.std.specs.Prelude.{◌≡◌, IfSome, length};
-ghost use Rattle.ev_script.specs.Rules.{IsAdmitted};
-
-use def_kernel::Kernel;
-use ev_base::{Limits, Memory, Seq, Str, VatId};
+use ev_base::{Memory, Seq, Str};
 use ev_io::{MemorySink, MemorySource};
-use ev_kernel_reader::read_form;
-use ev_scope::{Scoped, check};
-use ev_script::{Script, read_script};
-use ev_top::{Program, RunEnd, Vat, VatStop, top, write_run};
+use ev_top::top;
 use std::alloc::Global;
 use std::process::ExitCode;
 use std::{fs, io};
@@ -32,7 +21,7 @@ const FILES: [&str; 13] = [
     "calls.rows",
     "commands.rows",
     "check.rows",
-    "forms.rows",
+    "evaluation.rows",
     "programs.rows",
     "scripts.rows",
     "worked.rows",
@@ -42,41 +31,6 @@ const FILES: [&str; 13] = [
     "frames.rows",
     "long.rows",
 ];
-
-/// The names that the programs of forms are given.
-const GIVEN: [&str; 23] = [
-    "null",
-    "true",
-    "false",
-    "__makeList",
-    "__equalizer",
-    "__comparer",
-    "__loop",
-    "E",
-    "Ref",
-    "throw",
-    "auditedBy",
-    "any",
-    "void",
-    "int",
-    "boolean",
-    "char",
-    "String",
-    "List",
-    "nullOk",
-    "near",
-    "DeepFrozen",
-    "Selfless",
-    "Functional",
-];
-
-/// A script of one vat up to its entries, and from these to its fuel.
-const HEAD: &str =
-    "{\"key\":\"0000000000000000000000000000000000000000000000000000000000000000\",\"vats\":[{\"name\":\"a\",\"knows\":[],\"source\":\"\"}],\"schedule\":[";
-
-const MIDDLE: &str = "],\"fuel\":";
-
-const TAIL: &str = "}";
 
 /// A row, as parts of its file.
 #[derive(Clone, Copy)]
@@ -209,116 +163,6 @@ fn failing(alloc: Global, call: u32) -> Result<Seq<u32>, Memory> {
     Ok(calls)
 }
 
-/// The exit status that stands for the end of a run.
-fn status_of(end: RunEnd) -> &'static str {
-    match end {
-        RunEnd::Done => "0",
-        RunEnd::FuelSpent(_) => "8",
-        RunEnd::TooDeep(_) => "9",
-        RunEnd::WordRepeated(_, _) => "10",
-        RunEnd::Astray(_) => "astray",
-    }
-}
-
-/// The names that the program of a form is given.
-fn given_names(alloc: Global) -> Option<Seq<Str>> {
-    let mut names = Seq::new(alloc);
-    for name in GIVEN {
-        names.push(Str::copy_of(alloc, name).ok()?).ok()?;
-    }
-    Some(names)
-}
-
-/// The program of a form; none where a noun of it is not rightly bound.
-fn program_of(alloc: Global, form: &str) -> Option<Scoped> {
-    let tree = read_form(alloc, form).ok()?;
-    let given = given_names(alloc)?;
-    check(alloc, tree, &given).ok()
-}
-
-/// The entries of so many turns of one vat.
-fn entries_of(alloc: Global, turns: u32) -> Result<String, Memory> {
-    if turns == 0 {
-        return Ok(String::new(alloc));
-    }
-    Ok(format!(in alloc; "\"drain {turns}\"")?)
-}
-
-/// The script of a vat `a`, without its program.
-fn script_of(alloc: Global, turns: u32, fuel: u32) -> Option<Script>
-    ensures { IfSome result IsAdmitted }
-{
-    let entries = entries_of(alloc, turns).ok()?;
-    let text = format!(in alloc; "{HEAD}{entries}{MIDDLE}{fuel}{TAIL}").ok()?;
-    match read_script(alloc, text.as_bytes()) {
-        Ok(script) => Some(script),
-        Err(_) => None,
-    }
-}
-
-/// How far a form is run.
-#[derive(Clone, Copy)]
-struct Reach {
-    turns: u32,
-    fuel: u32,
-    limits: Limits,
-}
-
-fn reach_of(run: &str) -> Option<Reach> {
-    let (turns, rest) = run.split_once(' ')?;
-    let (fuel, depth) = rest.split_once(' ')?;
-    Some(Reach {
-        turns: turns.parse().ok()?,
-        fuel: fuel.parse().ok()?,
-        limits: Limits {
-            depth: depth.parse().ok()?,
-        },
-    })
-}
-
-/// Whether the run of a program in the one vat of a script ends as a row says.
-fn run_is_as_told(
-    alloc: Global,
-    script: &Script,
-    program: Scoped,
-    limits: Limits,
-    row: &Row<'_>,
-) -> Result<bool, Memory>
-    requires admitted { IsAdmitted script.now }
-    requires one { length script.now.vats ≡ 1 }
-{
-    let mut programs = Vec::new(alloc);
-    programs.push(program)?;
-    let mut sink = MemorySink::new(alloc, 1000, 100_000, Seq::new(alloc))?;
-    let Ok(end) = write_run(alloc, script, programs, limits, false, &mut sink) else {
-        return Err(Memory);
-    };
-    Ok(status_of(end) == row.status && sink.bytes.as_slice() == row.output.as_bytes())
-}
-
-/// Whether the opening turn of a tree goes astray.
-fn goes_astray(alloc: Global, tree: Kernel, reach: Reach) -> Result<bool, Memory> {
-    let program = Program::new(alloc, tree)?;
-    let mut vat = Vat::start(alloc, VatId(0), &[], &[], &[0; 32], reach.fuel)?;
-    let opened = vat.first_turn(&program, &[], reach.limits);
-    Ok(matches!(opened, Err(VatStop::Astray)))
-}
-
-/// Whether the run of a form ends as a row says; nothing where the row spells no run.
-fn form_is_as_told(alloc: Global, run: &str, row: &Row<'_>) -> Option<bool> {
-    let reach = reach_of(run)?;
-    if row.status == "astray" {
-        let tree = read_form(alloc, row.input).ok()?;
-        return goes_astray(alloc, tree, reach).ok();
-    }
-    let program = program_of(alloc, row.input)?;
-    let script = script_of(alloc, reach.turns, reach.fuel)?;
-    if script.vats.len() != 1 {
-        return None;
-    }
-    run_is_as_told(alloc, &script, program, reach.limits, row).ok()
-}
-
 /// The row by which a history is judged to be right.
 fn judged(history: &str) -> Row<'_> {
     Row {
@@ -358,11 +202,7 @@ fn call_is_as_told(alloc: Global, row: &Row<'_>) -> Option<bool> {
 
 /// What came of a row.
 fn found(alloc: Global, row: &Row<'_>) -> &'static str {
-    let is_as_told = match row.words.strip_prefix("form ") {
-        Some(run) => form_is_as_told(alloc, run, row),
-        None => row_is_as_told(alloc, row),
-    };
-    match is_as_told {
+    match row_is_as_told(alloc, row) {
         Some(true) => "as told",
         Some(false) => "otherwise",
         None => "without an answer",

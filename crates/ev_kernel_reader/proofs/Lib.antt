@@ -1,3 +1,0 @@
-mod Rows
-pub mod Building
-pub mod ReadingLemmas

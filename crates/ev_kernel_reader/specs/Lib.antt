@@ -1,5 +1,0 @@
-pub mod Answers
-pub mod Building
-pub mod Faults
-pub mod Reached
-pub mod Table
