@@ -96,6 +96,15 @@ abbrev pub alone : Event → Words → Result Event ℕ
 alone event [] = Ok event
 alone event _ = Err 42
 
+abbrev pub gone : ℕ → Words → Result Event ℕ
+gone a words = alone (Gone a) words
+
+abbrev pub idle : ℕ → Words → Result Event ℕ
+idle k words = alone (Idle k) words
+
+abbrev pub ended : Words → Result Event ℕ
+ended words = alone End words
+
 -- the bytes of a frame that was put by hand, 1 to 4,096 of them, or `cut`
 abbrev pub injection : List ℕ → Result Event ℕ
 injection word =
@@ -177,15 +186,27 @@ module _ (names : List (List ℕ)) where
     d ← delivery words
     if only then Ok (DeliverOnly d.message d.target d.verb d.args) else Ok (Deliver d.message d.target d.verb d.args)
 
+  abbrev pub elsewhere : Words → Result ShownNote ℕ
+  elsewhere words = name_and_vat words >>= (λ n. Ok (Elsewhere n.0 n.1))
+
+  abbrev pub opening : Words → Result ShownNote ℕ
+  opening words = two_names words >>= (λ n. Ok (Opens n.0 n.1))
+
+  abbrev pub asking : Words → Result ShownNote ℕ
+  asking words = name_and_vat words >>= (λ n. Ok (Ask n.0 n.1))
+
+  abbrev pub shortening : Words → Result ShownNote ℕ
+  shortening words = two_names words >>= (λ n. Ok (Shorten n.0 n.1))
+
   abbrev pub note_of : List ℕ → Words → Result ShownNote ℕ
   note_of kind rest =
       if bytes_eq kind (codes "deliver") then delivering false rest
       else if bytes_eq kind (codes "deliveronly") then delivering true rest
       else if bytes_eq kind (codes "settled") then settled_note rest
-      else if bytes_eq kind (codes "elsewhere") then name_and_vat rest >>= (λ n. Ok (Elsewhere n.0 n.1))
-      else if bytes_eq kind (codes "open") then two_names rest >>= (λ n. Ok (Opens n.0 n.1))
-      else if bytes_eq kind (codes "ask") then name_and_vat rest >>= (λ n. Ok (Ask n.0 n.1))
-      else if bytes_eq kind (codes "shorten") then two_names rest >>= (λ n. Ok (Shorten n.0 n.1))
+      else if bytes_eq kind (codes "elsewhere") then elsewhere rest
+      else if bytes_eq kind (codes "open") then opening rest
+      else if bytes_eq kind (codes "ask") then asking rest
+      else if bytes_eq kind (codes "shorten") then shortening rest
       else Err 42
 
   abbrev pub note : Words → Result ShownNote ℕ
@@ -304,16 +325,28 @@ module _ (names : List (List ℕ)) where
     rule 42 (slotted a word slot held)
   act_on_value a word _ = Err 42
 
+  abbrev pub taken : ℕ → Words → Result Event ℕ
+  taken a words = addressed a words >>= (λ m. Ok (Take m))
+
+  abbrev pub sent_only : ℕ → Words → Result Event ℕ
+  sent_only a words = addressed a words >>= (λ m. Ok (SendOnly m))
+
+  abbrev pub listed : ℕ → Words → Result Event ℕ
+  listed a words = list_and_members words >>= (λ l. Ok (ListMade a l.0 l.1))
+
+  abbrev pub promised : ℕ → Words → Result Event ℕ
+  promised a words = name_and_value words >>= (λ p. Ok (Promise a p.0 p.1))
+
   abbrev pub act_of : ℕ → List ℕ → Words → Result Event ℕ
   act_of a word rest =
-      if bytes_eq word (codes "take") then addressed a rest >>= (λ m. Ok (Take m))
+      if bytes_eq word (codes "take") then taken a rest
       else if bytes_eq word (codes "call") then called a rest
-      else if bytes_eq word (codes "gone") then alone (Gone a) rest
-      else if bytes_eq word (codes "list") then list_and_members rest >>= (λ l. Ok (ListMade a l.0 l.1))
-      else if bytes_eq word (codes "promise") then name_and_value rest >>= (λ p. Ok (Promise a p.0 p.1))
+      else if bytes_eq word (codes "gone") then gone a rest
+      else if bytes_eq word (codes "list") then listed a rest
+      else if bytes_eq word (codes "promise") then promised a rest
       else if bytes_eq word (codes "made") then made a rest
       else if bytes_eq word (codes "send") then sent a rest
-      else if bytes_eq word (codes "sendonly") then addressed a rest >>= (λ m. Ok (SendOnly m))
+      else if bytes_eq word (codes "sendonly") then sent_only a rest
       else if bytes_eq word (codes "when") then reacting a rest
       else act_on_value a word rest
 
@@ -354,13 +387,25 @@ module _ (names : List (List ℕ)) where
     Ok (from, to, n)
   on_link left _ = Err 42
 
+  abbrev pub turn : ℕ → Words → Result Event ℕ
+  turn k words = one_vat words >>= (λ v. Ok (Turn k v))
+
+  abbrev pub carried : ℕ → Words → Result Event ℕ
+  carried k words = on_link false words >>= (λ n. Ok (Carry k n.0 n.1 n.2))
+
+  abbrev pub cut : ℕ → Words → Result Event ℕ
+  cut k words = two_vats words >>= (λ p. Ok (Cut k p.0 p.1))
+
+  abbrev pub noticed : ℕ → Words → Result Event ℕ
+  noticed k words = two_vats words >>= (λ p. Ok (Notice k p.0 p.1))
+
   abbrev pub entry_of : ℕ → List ℕ → Words → Result Event ℕ
   entry_of k word rest =
-      if bytes_eq word (codes "turn") then one_vat rest >>= (λ v. Ok (Turn k v))
-      else if bytes_eq word (codes "idle") then alone (Idle k) rest
-      else if bytes_eq word (codes "carry") then on_link false rest >>= (λ n. Ok (Carry k n.0 n.1 n.2))
-      else if bytes_eq word (codes "cut") then two_vats rest >>= (λ p. Ok (Cut k p.0 p.1))
-      else if bytes_eq word (codes "notice") then two_vats rest >>= (λ p. Ok (Notice k p.0 p.1))
+      if bytes_eq word (codes "turn") then turn k rest
+      else if bytes_eq word (codes "idle") then idle k rest
+      else if bytes_eq word (codes "carry") then carried k rest
+      else if bytes_eq word (codes "cut") then cut k rest
+      else if bytes_eq word (codes "notice") then noticed k rest
       else if bytes_eq word (codes "inject") then inject rest
       else Err 42
 
@@ -399,29 +444,47 @@ module _ (names : List (List ℕ)) where
     id ← rule 42 (message names w.1.1)
     Ok (LeftWait host awaited id)
 
+  abbrev pub left_link : Words → Result Event ℕ
+  left_link words = on_link true words >>= (λ n. Ok (LeftLink n.0 n.1 n.2))
+
   abbrev pub left_of : List ℕ → Words → Result Event ℕ
   left_of word rest =
       if bytes_eq word (codes "queue") then left_queue rest
       else if bytes_eq word (codes "held") then left_held rest
       else if bytes_eq word (codes "wait") then left_wait rest
-      else if bytes_eq word (codes "link") then on_link true rest >>= (λ n. Ok (LeftLink n.0 n.1 n.2))
+      else if bytes_eq word (codes "link") then left_link rest
       else Err 42
 
   abbrev pub left : Words → Result Event ℕ
   left [] = Err 42
   left (word ∷ rest) = left_of word rest
 
+  abbrev pub opened : Words → Result Event ℕ
+  opened words = one_vat words >>= (λ v. Ok (Open v))
+
+  abbrev pub arrived : Words → Result Event ℕ
+  arrived words = list_and_members words >>= (λ l. Ok (Arrived l.0 l.1))
+
+  abbrev pub settled : Words → Result Event ℕ
+  settled words = name_and_value words >>= (λ p. Ok (Settle p.0 p.1))
+
+  abbrev pub waiting : Words → Result Event ℕ
+  waiting words = two_names words >>= (λ n. Ok (Wait n.0 n.1))
+
+  abbrev pub viewed : Words → Result Event ℕ
+  viewed words = two_names words >>= (λ n. Ok (View n.0 n.1))
+
   abbrev pub other_line : List ℕ → Words → Result Event ℕ
   other_line word rest =
-      if bytes_eq word (codes "open") then one_vat rest >>= (λ v. Ok (Open v))
+      if bytes_eq word (codes "open") then opened rest
       else if bytes_eq word (codes "frame") then frame rest
-      else if bytes_eq word (codes "list") then list_and_members rest >>= (λ l. Ok (Arrived l.0 l.1))
-      else if bytes_eq word (codes "settle") then name_and_value rest >>= (λ p. Ok (Settle p.0 p.1))
-      else if bytes_eq word (codes "wait") then two_names rest >>= (λ n. Ok (Wait n.0 n.1))
-      else if bytes_eq word (codes "view") then two_names rest >>= (λ n. Ok (View n.0 n.1))
+      else if bytes_eq word (codes "list") then arrived rest
+      else if bytes_eq word (codes "settle") then settled rest
+      else if bytes_eq word (codes "wait") then waiting rest
+      else if bytes_eq word (codes "view") then viewed rest
       else if bytes_eq word (codes "lost") then lost rest
       else if bytes_eq word (codes "left") then left rest
-      else if bytes_eq word (codes "end") then alone End rest
+      else if bytes_eq word (codes "end") then ended rest
       else Err 42
 
   -- ---- a line: an activation's, an entry, or another

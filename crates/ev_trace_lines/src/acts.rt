@@ -2,7 +2,7 @@
 
 ghost use Rattle.std.specs.Prelude.{◌≡◌, ◌≤◌, Ok, length, option_map};
 ghost use Rattle.ev_script.specs.Script.{Reads, rule};
-ghost use Rattle.ev_trace_lines.specs.Events.{act, act_of, act_on_value, addressed, answered, arrow_name, asked, asked_with, before_word, begun, behind_word, call_of, called, captures, list_and_members, made, made_with, name_and_value, part_behind, place_of_word, reacting, send_of, sent, slotted, some_values, two_values, valued, when_of};
+ghost use Rattle.ev_trace_lines.specs.Events.{act, act_of, act_on_value, addressed, answered, arrow_name, asked, asked_with, before_word, begun, behind_word, call_of, called, captures, gone, list_and_members, listed, made, made_with, name_and_value, part_behind, place_of_word, promised, reacting, send_of, sent, sent_only, slotted, some_values, taken, two_values, valued, when_of};
 
 use crate::notes::{message, name, two_words};
 use def_event::boxed::Boxed;
@@ -452,6 +452,47 @@ fn act_on_value(
     }
 }
 
+fn taken(alloc: Global, names: &[Str], a: u64, words: &[Str]) -> Result<Event, ScriptFault>
+    requires { length names.now ≤ 16 }
+    ensures { Reads result (taken names.now a words.now) }
+{
+    let taken = addressed(alloc, names, a, words)?;
+    Ok(Event::Take(Boxed::new(alloc, taken)?))
+}
+
+fn sent_only(alloc: Global, names: &[Str], a: u64, words: &[Str]) -> Result<Event, ScriptFault>
+    requires { length names.now ≤ 16 }
+    ensures { Reads result (sent_only names.now a words.now) }
+{
+    let sent = addressed(alloc, names, a, words)?;
+    Ok(Event::SendOnly(Boxed::new(alloc, sent)?))
+}
+
+fn gone(a: u64, words: &[Str]) -> Result<Event, ScriptFault>
+    ensures { Reads result (gone a words.now) }
+{
+    match words {
+        [] => Ok(Event::Gone(a)),
+        _ => Err(ScriptFault::Rule(42)),
+    }
+}
+
+fn listed(alloc: Global, names: &[Str], a: u64, words: &[Str]) -> Result<Event, ScriptFault>
+    requires { length names.now ≤ 16 }
+    ensures { Reads result (listed names.now a words.now) }
+{
+    let (list, members) = list_and_members(alloc, names, words)?;
+    Ok(Event::List(a, list, members))
+}
+
+fn promised(alloc: Global, names: &[Str], a: u64, words: &[Str]) -> Result<Event, ScriptFault>
+    requires { length names.now ≤ 16 }
+    ensures { Reads result (promised names.now a words.now) }
+{
+    let (promise, resolver) = name_and_value(alloc, names, words)?;
+    Ok(Event::Promise(a, promise, resolver))
+}
+
 /// What an activation does, by the word and the words behind it.
 fn act_of(
     alloc: Global,
@@ -464,29 +505,14 @@ fn act_of(
     ensures { Reads result (act_of names.now a word.now rest.now) }
 {
     match word {
-        "take" => {
-            let taken = addressed(alloc, names, a, rest)?;
-            Ok(Event::Take(Boxed::new(alloc, taken)?))
-        }
+        "take" => taken(alloc, names, a, rest),
         "call" => called(alloc, names, a, rest),
-        "gone" => match rest {
-            [] => Ok(Event::Gone(a)),
-            _ => Err(ScriptFault::Rule(42)),
-        },
-        "list" => {
-            let (list, members) = list_and_members(alloc, names, rest)?;
-            Ok(Event::List(a, list, members))
-        }
-        "promise" => {
-            let (promise, resolver) = name_and_value(alloc, names, rest)?;
-            Ok(Event::Promise(a, promise, resolver))
-        }
+        "gone" => gone(a, rest),
+        "list" => listed(alloc, names, a, rest),
+        "promise" => promised(alloc, names, a, rest),
         "made" => made(alloc, names, a, rest),
         "send" => sent(alloc, names, a, rest),
-        "sendonly" => {
-            let sent = addressed(alloc, names, a, rest)?;
-            Ok(Event::SendOnly(Boxed::new(alloc, sent)?))
-        }
+        "sendonly" => sent_only(alloc, names, a, rest),
         "when" => reacting(alloc, names, a, rest),
         _ => act_on_value(alloc, names, a, word, rest),
     }

@@ -4,7 +4,7 @@ ghost use Rattle.std.specs.Prelude.{◌≡◌, ◌≤◌, length};
 ghost use Rattle.std.specs.List.{list_all};
 ghost use Rattle.ev_command_lines.specs.Lines.{is_lower_digit};
 ghost use Rattle.ev_script.specs.Script.{Reads};
-ghost use Rattle.ev_trace_lines.specs.Events.{any_note, bytes_of, entry, event_of, inject, injection, is_strange, left, left_held, left_queue, left_wait, lost, on_link, one_vat, other_line, strange_note, two_vats};
+ghost use Rattle.ev_trace_lines.specs.Events.{any_note, arrived, bytes_of, carried, cut, ended, entry, event_of, frame, idle, inject, injection, is_strange, left, left_held, left_link, left_queue, left_wait, lost, noticed, on_link, one_vat, opened, other_line, settled, strange_note, turn, two_vats, viewed, waiting};
 
 use crate::acts::{act, list_and_members, name_and_value};
 use crate::notes::{message, name, note, three_words, two_names, two_words, vat};
@@ -162,6 +162,46 @@ fn on_link(
     }
 }
 
+fn turn(names: &[Str], k: u64, words: &[Str]) -> Result<Event, ScriptFault>
+    requires { length names.now ≤ 16 }
+    ensures { Reads result (turn names.now k words.now) }
+{
+    Ok(Event::Turn(k, one_vat(names, words)?))
+}
+
+fn idle(k: u64, words: &[Str]) -> Result<Event, ScriptFault>
+    ensures { Reads result (idle k words.now) }
+{
+    match words {
+        [] => Ok(Event::Idle(k)),
+        _ => Err(ScriptFault::Rule(42)),
+    }
+}
+
+fn carried(alloc: Global, names: &[Str], k: u64, words: &[Str]) -> Result<Event, ScriptFault>
+    requires { length names.now ≤ 16 }
+    ensures { Reads result (carried names.now k words.now) }
+{
+    let (from, to, note) = on_link(alloc, names, words, false)?;
+    Ok(Event::Carry(k, from, to, note))
+}
+
+fn cut(names: &[Str], k: u64, words: &[Str]) -> Result<Event, ScriptFault>
+    requires { length names.now ≤ 16 }
+    ensures { Reads result (cut names.now k words.now) }
+{
+    let (from, to) = two_vats(names, words)?;
+    Ok(Event::Cut(k, from, to))
+}
+
+fn noticed(names: &[Str], k: u64, words: &[Str]) -> Result<Event, ScriptFault>
+    requires { length names.now ≤ 16 }
+    ensures { Reads result (noticed names.now k words.now) }
+{
+    let (from, to) = two_vats(names, words)?;
+    Ok(Event::Notice(k, from, to))
+}
+
 fn entry(alloc: Global, names: &[Str], k: u64, words: &[Str]) -> Result<Event, ScriptFault>
     requires { length names.now ≤ 16 }
     ensures { Reads result (entry names.now k words.now) }
@@ -170,23 +210,11 @@ fn entry(alloc: Global, names: &[Str], k: u64, words: &[Str]) -> Result<Event, S
         return Err(ScriptFault::Rule(42));
     };
     match word.as_str() {
-        "turn" => Ok(Event::Turn(k, one_vat(names, rest)?)),
-        "idle" => match rest {
-            [] => Ok(Event::Idle(k)),
-            _ => Err(ScriptFault::Rule(42)),
-        },
-        "carry" => {
-            let (from, to, note) = on_link(alloc, names, rest, false)?;
-            Ok(Event::Carry(k, from, to, note))
-        }
-        "cut" => {
-            let (from, to) = two_vats(names, rest)?;
-            Ok(Event::Cut(k, from, to))
-        }
-        "notice" => {
-            let (from, to) = two_vats(names, rest)?;
-            Ok(Event::Notice(k, from, to))
-        }
+        "turn" => turn(names, k, rest),
+        "idle" => idle(k, rest),
+        "carry" => carried(alloc, names, k, rest),
+        "cut" => cut(names, k, rest),
+        "notice" => noticed(names, k, rest),
         "inject" => inject(alloc, names, rest),
         _ => Err(ScriptFault::Rule(42)),
     }
@@ -251,6 +279,14 @@ fn left_wait(alloc: Global, names: &[Str], words: &[Str]) -> Result<Event, Scrip
     }
 }
 
+fn left_link(alloc: Global, names: &[Str], words: &[Str]) -> Result<Event, ScriptFault>
+    requires { length names.now ≤ 16 }
+    ensures { Reads result (left_link names.now words.now) }
+{
+    let (from, to, note) = on_link(alloc, names, words, true)?;
+    Ok(Event::LeftLink(from, to, note))
+}
+
 /// What is left at the end of a run.
 fn left(alloc: Global, names: &[Str], words: &[Str]) -> Result<Event, ScriptFault>
     requires { length names.now ≤ 16 }
@@ -263,10 +299,64 @@ fn left(alloc: Global, names: &[Str], words: &[Str]) -> Result<Event, ScriptFaul
         "queue" => left_queue(names, rest),
         "held" => left_held(names, rest),
         "wait" => left_wait(alloc, names, rest),
-        "link" => {
-            let (from, to, note) = on_link(alloc, names, rest, true)?;
-            Ok(Event::LeftLink(from, to, note))
-        }
+        "link" => left_link(alloc, names, rest),
+        _ => Err(ScriptFault::Rule(42)),
+    }
+}
+
+fn opened(names: &[Str], words: &[Str]) -> Result<Event, ScriptFault>
+    requires { length names.now ≤ 16 }
+    ensures { Reads result (opened names.now words.now) }
+{
+    Ok(Event::Open(one_vat(names, words)?))
+}
+
+fn frame(alloc: Global, words: &[Str]) -> Result<Event, ScriptFault>
+    ensures { Reads result (frame words.now) }
+{
+    match words {
+        [word] => Ok(Event::Frame(bytes_of(alloc, word.as_str())?)),
+        _ => Err(ScriptFault::Rule(42)),
+    }
+}
+
+fn arrived(alloc: Global, names: &[Str], words: &[Str]) -> Result<Event, ScriptFault>
+    requires { length names.now ≤ 16 }
+    ensures { Reads result (arrived names.now words.now) }
+{
+    let (list, members) = list_and_members(alloc, names, words)?;
+    Ok(Event::Arrived(list, members))
+}
+
+fn settled(alloc: Global, names: &[Str], words: &[Str]) -> Result<Event, ScriptFault>
+    requires { length names.now ≤ 16 }
+    ensures { Reads result (settled names.now words.now) }
+{
+    let (promise, target) = name_and_value(alloc, names, words)?;
+    Ok(Event::Settle(promise, target))
+}
+
+fn waiting(names: &[Str], words: &[Str]) -> Result<Event, ScriptFault>
+    requires { length names.now ≤ 16 }
+    ensures { Reads result (waiting names.now words.now) }
+{
+    let (promise, other) = two_names(names, words)?;
+    Ok(Event::Wait(promise, other))
+}
+
+fn viewed(names: &[Str], words: &[Str]) -> Result<Event, ScriptFault>
+    requires { length names.now ≤ 16 }
+    ensures { Reads result (viewed names.now words.now) }
+{
+    let (promise, other) = two_names(names, words)?;
+    Ok(Event::View(promise, other))
+}
+
+fn ended(words: &[Str]) -> Result<Event, ScriptFault>
+    ensures { Reads result (ended words.now) }
+{
+    match words {
+        [] => Ok(Event::End),
         _ => Err(ScriptFault::Rule(42)),
     }
 }
@@ -277,33 +367,15 @@ fn other_line(alloc: Global, names: &[Str], word: &str, rest: &[Str]) -> Result<
     ensures { Reads result (other_line names.now word.now rest.now) }
 {
     match word {
-        "open" => Ok(Event::Open(one_vat(names, rest)?)),
-        "frame" => match rest {
-            [word] => Ok(Event::Frame(bytes_of(alloc, word.as_str())?)),
-            _ => Err(ScriptFault::Rule(42)),
-        },
-        "list" => {
-            let (list, members) = list_and_members(alloc, names, rest)?;
-            Ok(Event::Arrived(list, members))
-        }
-        "settle" => {
-            let (promise, target) = name_and_value(alloc, names, rest)?;
-            Ok(Event::Settle(promise, target))
-        }
-        "wait" => {
-            let (promise, other) = two_names(names, rest)?;
-            Ok(Event::Wait(promise, other))
-        }
-        "view" => {
-            let (promise, other) = two_names(names, rest)?;
-            Ok(Event::View(promise, other))
-        }
+        "open" => opened(names, rest),
+        "frame" => frame(alloc, rest),
+        "list" => arrived(alloc, names, rest),
+        "settle" => settled(alloc, names, rest),
+        "wait" => waiting(names, rest),
+        "view" => viewed(names, rest),
         "lost" => lost(names, rest),
         "left" => left(alloc, names, rest),
-        "end" => match rest {
-            [] => Ok(Event::End),
-            _ => Err(ScriptFault::Rule(42)),
-        },
+        "end" => ended(rest),
         _ => Err(ScriptFault::Rule(42)),
     }
 }

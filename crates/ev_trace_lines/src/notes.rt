@@ -4,7 +4,7 @@ ghost use Rattle.std.specs.Prelude.{◌≡◌, ◌≤◌, length, option_map};
 ghost use Rattle.ev_script.specs.Script.{Reads, rule};
 ghost use Rattle.ev_script.specs.Vats.{place_of};
 ghost use Rattle.ev_trace_words.specs.Parts.{message, name};
-ghost use Rattle.ev_trace_lines.specs.Events.{delivering, delivery, delivery_with, name_and_vat, note, settled_note, three_words, two_names, two_words, vat};
+ghost use Rattle.ev_trace_lines.specs.Events.{asking, delivering, delivery, delivery_with, elsewhere, name_and_vat, note, opening, settled_note, shortening, three_words, two_names, two_words, vat};
 
 use def_event::note::ShownNote;
 use def_event::shown::Shown;
@@ -182,6 +182,38 @@ fn delivering(
     }
 }
 
+fn elsewhere(names: &[Str], words: &[Str]) -> Result<ShownNote, ScriptFault>
+    requires { length names.now ≤ 16 }
+    ensures { Reads result (elsewhere names.now words.now) }
+{
+    let (subject, host) = name_and_vat(names, words)?;
+    Ok(ShownNote::Elsewhere(subject, host))
+}
+
+fn opening(names: &[Str], words: &[Str]) -> Result<ShownNote, ScriptFault>
+    requires { length names.now ≤ 16 }
+    ensures { Reads result (opening names.now words.now) }
+{
+    let (gift, target) = two_names(names, words)?;
+    Ok(ShownNote::Open(gift, target))
+}
+
+fn asking(names: &[Str], words: &[Str]) -> Result<ShownNote, ScriptFault>
+    requires { length names.now ≤ 16 }
+    ensures { Reads result (asking names.now words.now) }
+{
+    let (gift, provider) = name_and_vat(names, words)?;
+    Ok(ShownNote::Ask(gift, provider))
+}
+
+fn shortening(names: &[Str], words: &[Str]) -> Result<ShownNote, ScriptFault>
+    requires { length names.now ≤ 16 }
+    ensures { Reads result (shortening names.now words.now) }
+{
+    let (subject, gift) = two_names(names, words)?;
+    Ok(ShownNote::Shorten(subject, gift))
+}
+
 /// The note of these words.
 pub(crate) fn note(alloc: Global, names: &[Str], words: &[Str]) -> Result<ShownNote, ScriptFault>
     requires { length names.now ≤ 16 }
@@ -194,22 +226,10 @@ pub(crate) fn note(alloc: Global, names: &[Str], words: &[Str]) -> Result<ShownN
         "deliver" => delivering(alloc, names, rest, false),
         "deliveronly" => delivering(alloc, names, rest, true),
         "settled" => settled_note(alloc, names, rest),
-        "elsewhere" => {
-            let (subject, host) = name_and_vat(names, rest)?;
-            Ok(ShownNote::Elsewhere(subject, host))
-        }
-        "open" => {
-            let (gift, target) = two_names(names, rest)?;
-            Ok(ShownNote::Open(gift, target))
-        }
-        "ask" => {
-            let (gift, provider) = name_and_vat(names, rest)?;
-            Ok(ShownNote::Ask(gift, provider))
-        }
-        "shorten" => {
-            let (subject, gift) = two_names(names, rest)?;
-            Ok(ShownNote::Shorten(subject, gift))
-        }
+        "elsewhere" => elsewhere(names, rest),
+        "open" => opening(names, rest),
+        "ask" => asking(names, rest),
+        "shorten" => shortening(names, rest),
         _ => Err(ScriptFault::Rule(42)),
     }
 }
