@@ -5,8 +5,8 @@ use Rattle.ev_reader.specs.Program.{Answers}
 use Rattle.ev_reader.specs.declared.fault.ProgramFault.{ProgramFault}
 use Rattle.ev_reader.specs.declared.fault.ProgramFault.TheVariants.{At, Memory}
 use Rattle.ev_reader.specs.declared.fault.Stage.{Stage as Part}
-use Rattle.law_reading.specs.Laws.{Agree}
-use Rattle.law_reading.proofs.Readings.{answers_agree}
+use Rattle.law_reading.specs.Reading.Laws.{Agree}
+use Rattle.law_reading.proofs.Reading.Readings.{answers_agree}
 
 -- where a program is read to a fault, it is read to that fault alone
 pub fault_once : (part : Part) (kind place : ℕ) (text : List ℕ) (given : List (List ℕ)) (answer : Result Scoped ProgramFault) → Answers (Err (At part kind place)) text given

@@ -8,8 +8,8 @@ use Rattle.law_connected.proofs.FineRuns.{opened_connect, run_connect}
 use Rattle.law_frozen.specs.Runs.{ReachIsFrozenIn}
 use Rattle.law_frozen.proofs.RunSound.{reach_at_the_end, reach_in_runs}
 use Rattle.def_run.specs.World.{Run}
-use Rattle.law_halt.specs.Halted.{OpeningStops, EntryStops}
-use Rattle.law_halt.proofs.Halted.{stopped_leave}
+use Rattle.law_costs.specs.Halting.Halted.{OpeningStops, EntryStops}
+use Rattle.law_costs.proofs.Halting.Halted.{stopped_leave}
 use Rattle.ev_top.specs.Headline.{ComesTo, StampedReachFrozenAlone, StopsAsItCame, UsesAreConnected}
 use Rattle.ev_top.specs.declared.command.Command.{Command}
 

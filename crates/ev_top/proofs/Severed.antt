@@ -8,9 +8,9 @@ use Rattle.law_reference.proofs.AskHolds.{notices_front}
 use Rattle.law_reference.proofs.RestLaws.{breaks_stay}
 use Rattle.law_run.specs.Runs.{EachVat}
 use Rattle.law_run.proofs.BreakRuns.{severings_run}
-use Rattle.law_gift.proofs.Stays.{gifts_run}
-use Rattle.law_gift.proofs.Runs.{rests_in_runs}
-use Rattle.law_gift.proofs.Broken.{breaks_for_good}
+use Rattle.law_gift.proofs.Gift.Stays.{gifts_run}
+use Rattle.law_gift.proofs.Gift.Runs.{rests_in_runs}
+use Rattle.law_gift.proofs.Gift.Broken.{breaks_for_good}
 use Rattle.law_read.specs.ReadScripts.Accepted.{MeetsTheLaws}
 use Rattle.ev_top.specs.Headline.{GoesOn, NoticesBreakUnopened, SeveredStaysBroken, StaysSevered}
 use Rattle.ev_top.specs.declared.command.Command.{Command}

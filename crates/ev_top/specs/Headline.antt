@@ -13,16 +13,16 @@ use Rattle.def_trace.specs.Uses.{JudgesUses}
 use Rattle.ev_trace.specs.Reading as trace
 use Rattle.law_machine.specs.Breaks.{settled_value, SeveredStays}
 use Rattle.law_run.specs.Runs.{EachVat}
-use Rattle.law_halt.specs.Halted.{LeavesOf}
-use Rattle.law_gift.specs.Gifts.{SameGifts}
-use Rattle.law_gift.specs.Unopened.{UnopenedRest, UnopenedBreak}
+use Rattle.law_costs.specs.Halting.Halted.{LeavesOf}
+use Rattle.law_gift.specs.Gift.Gifts.{SameGifts}
+use Rattle.law_gift.specs.Gift.Unopened.{UnopenedRest, UnopenedBreak}
 use Rattle.law_fate.specs.Fate.{fates, sent}
 use Rattle.law_fate.specs.Carry.{carries}
 use Rattle.law_frozen.specs.Runs.{ReachIsFrozenIn}
 use Rattle.law_connected.specs.Begotten.{LinesConnected, TakenBegotten}
 use Rattle.law_connected.specs.UseLaws.{RunConnected}
 use Rattle.law_order.specs.Order.{Ordered}
-use Rattle.law_text.specs.Runs.{events_of}
+use Rattle.law_text.specs.Text.Runs.{events_of}
 use Rattle.law_read.specs.ReadTexts.Runs.{TellsLowOf, trace_of}
 use Rattle.ev_scope.specs.declared.accepted.Scoped.{Scoped}
 use Rattle.ev_script.specs.declared.script.Script.{Script}

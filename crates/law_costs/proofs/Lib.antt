@@ -1,11 +1,2 @@
 pub mod Costs
-pub mod Passing
-pub mod Refs
-pub mod Arrive
-pub mod Natives
-pub mod Perform
-pub mod Calls
-pub mod Eval
-pub mod Trees
-pub mod Runs
-pub mod Whole
+pub mod Halting

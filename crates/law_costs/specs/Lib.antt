@@ -1,2 +1,2 @@
-pub mod Sizes
-pub mod Laws
+pub mod Costs
+pub mod Halting

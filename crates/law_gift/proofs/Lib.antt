@@ -1,10 +1,2 @@
-pub mod Stays
-pub mod BrokenForGood
-pub mod Kept
-pub mod Rests
-pub mod Opened
-pub mod Steps
-pub mod Found
-pub mod Keeps
-pub mod Runs
-pub mod Broken
+pub mod Gift
+pub mod OwnWaits

@@ -1,2 +1,2 @@
-pub mod Gifts
-pub mod Unopened
+pub mod Gift
+pub mod OwnWaits

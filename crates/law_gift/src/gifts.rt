@@ -1,6 +1,6 @@
 //! Gifts at their host: they keep their place and stay opened, and those that a notice broke stay broken.
 
-ghost use Rattle.law_gift.specs.Gifts.{GiftsStay, GiftsStayInRuns, NoticesBreakForGood};
+ghost use Rattle.law_gift.specs.Gift.Gifts.{GiftsStay, GiftsStayInRuns, NoticesBreakForGood};
 
 /// A gift keeps its place among the gifts of its host, its name, its provider and its key; and once it was opened it stays opened. Said of every step, under global names and under local numbers.
 pub fn gifts_stay()

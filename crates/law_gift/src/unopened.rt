@@ -1,6 +1,6 @@
 //! Gifts at their host that were not opened: what settles none of them, and what breaks them.
 
-ghost use Rattle.law_gift.specs.Unopened.{UnopenedGiftsRest, UnopenedGiftsBreak};
+ghost use Rattle.law_gift.specs.Gift.Unopened.{UnopenedGiftsRest, UnopenedGiftsBreak};
 
 /// In each vat of every world of a run, a gift that was not opened for the vat did not settle, and waits on no other name and is viewed as none; or it settled to a broken reference.
 /// So nothing but its opening settles a gift, and what breaks it.

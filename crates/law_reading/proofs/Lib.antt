@@ -1,8 +1,4 @@
-pub mod Whole
-pub mod Alike
-pub mod Inside
-pub mod Pieces
-pub mod Filled
-pub mod Arena
-pub mod Answered
-pub mod Readings
+pub mod Grammar
+pub mod Reading
+pub mod Expansion
+pub mod Sized

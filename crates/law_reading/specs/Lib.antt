@@ -1,1 +1,4 @@
-pub mod Laws
+pub mod Grammar
+pub mod Reading
+pub mod Expansion
+pub mod Sized

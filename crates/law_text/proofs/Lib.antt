@@ -1,15 +1,2 @@
-pub mod Front
-pub mod Plain
-pub mod Reading
-pub mod Quotes
-pub mod Spelled
-pub mod Split
-pub mod Told
-pub mod Named
-pub mod Valued
-pub mod Kinded
-pub mod Hexed
-pub mod Verbs
-pub mod Parted
-pub mod Rebuilt
-pub mod Stopped
+pub mod Text
+pub mod RunTexts

@@ -1,7 +1,2 @@
-pub mod Feeds
-pub mod Words
-pub mod Names
-pub mod Values
-pub mod Kinds
-pub mod Parts
-pub mod Runs
+pub mod Text
+pub mod RunTexts

@@ -1,7 +1,7 @@
 //! A text tells the history that it is of.
 
-ghost use Rattle.law_text.specs.Parts.{EventsAreTold, TextsTellHistories};
-ghost use Rattle.law_text.specs.Runs.{TextsTellRuns};
+ghost use Rattle.law_text.specs.Text.Parts.{EventsAreTold, TextsTellHistories};
+ghost use Rattle.law_text.specs.Text.Runs.{TextsTellRuns};
 
 /// Nothing of an event is left out where it is told part by part: two events that tell the same are one.
 pub fn events_are_told()

@@ -1,6 +1,6 @@
 //! The words of a line tell its kind.
 
-ghost use Rattle.law_text.specs.Kinds.{TextsTellKinds, WordsTellKinds};
+ghost use Rattle.law_text.specs.Text.Kinds.{TextsTellKinds, WordsTellKinds};
 
 /// What a reader takes for the kind of a line, by its first words, is the kind of its event. So two events with the same words are of one kind.
 pub fn words_tell_kinds()

@@ -1,6 +1,6 @@
 //! A text tells its lines.
 
-ghost use Rattle.law_text.specs.Feeds.{EachLineIsOne, TextsTellLines};
+ghost use Rattle.law_text.specs.Text.Feeds.{EachLineIsOne, TextsTellLines};
 
 /// No line of an event has a line feed in it, whatever its texts hold, where the names of vats have none.
 pub fn each_line_is_one()

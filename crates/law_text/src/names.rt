@@ -1,6 +1,6 @@
 //! A text tells the names and messages in it.
 
-ghost use Rattle.law_text.specs.Names.{TextsTellMessages, TextsTellNames};
+ghost use Rattle.law_text.specs.Text.Names.{TextsTellMessages, TextsTellNames};
 
 /// Two messages with one text are one, of vats whose names differ and have no mark of a name in them.
 pub fn texts_tell_messages()

@@ -1,6 +1,6 @@
 //! A text tells the words of its lines.
 
-ghost use Rattle.law_text.specs.Words.{EachWordIsOne, TextsTellWords};
+ghost use Rattle.law_text.specs.Text.Words.{EachWordIsOne, TextsTellWords};
 
 /// Each word of a line is one where words stand side by side: where it has a space in it, that stands between quotes or brackets. Said of vats whose names are of ordinary bytes.
 pub fn each_word_is_one()

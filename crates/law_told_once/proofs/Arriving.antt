@@ -18,7 +18,7 @@ use Rattle.law_reference.specs.ListRingless.{IsNamed}
 use Rattle.law_frame.specs.Frame.Asked.{told_in}
 use Rattle.law_frame.proofs.Frame.Exported.{among_split}
 use Rattle.law_frame.proofs.Frame.Grow.{among_right}
-use Rattle.law_gift.proofs.Kept.{found_named}
+use Rattle.law_gift.proofs.Gift.Kept.{found_named}
 use Rattle.law_frame.proofs.Heard.Bare.{Bare, Bares, bare_under}
 use Rattle.law_frame.proofs.Heard.Pending.{told_not}
 use Rattle.law_order.proofs.Moves.{Keeps, keeps_bind, keeps_look, keeps_give}

@@ -27,10 +27,10 @@ use Rattle.law_frame.proofs.Frame.LinksGo.{Splits, FoundFrom, Stays, with_link_h
 use Rattle.law_frame.proofs.Frame.LinksKnown.{at_link}
 use Rattle.law_frame.proofs.Frame.Sources.{push_all_goes, take_splits, waiting_logged}
 use Rattle.law_frame.proofs.Frame.WireArrivals.{arrived_is}
-use Rattle.law_gift.proofs.Found.{kept_more, calms}
-use Rattle.law_gift.proofs.Keeps.{alone_kept, arrive_kept}
-use Rattle.law_gift.proofs.Kept.{settling, Entry as Fits, Kept}
-use Rattle.law_gift.proofs.Rests as rests
+use Rattle.law_gift.proofs.Gift.Found.{kept_more, calms}
+use Rattle.law_gift.proofs.Gift.Keeps.{alone_kept, arrive_kept}
+use Rattle.law_gift.proofs.Gift.Kept.{settling, Entry as Fits, Kept}
+use Rattle.law_gift.proofs.Gift.Rests as rests
 use Rattle.law_frame.proofs.Heard.Lift.{opened_holds, stepped_holds}
 use Rattle.law_frame.proofs.Heard.Moves.{goes_of}
 use Rattle.law_frame.proofs.Heard.Open.{some_is}

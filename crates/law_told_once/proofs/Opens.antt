@@ -29,10 +29,10 @@ use Rattle.law_order_steps.specs.Cuts.Letting.{once}
 use Rattle.law_order_steps.specs.Cuts.Opening.{opens, opens_in, opens_put}
 use Rattle.law_order_steps.proofs.Cuts.Counts.{sum_of, taken_sum}
 use Rattle.law_order_steps.proofs.Cuts.Reached.{each_gift_is_opened_once}
-use Rattle.law_gift.proofs.Found.{kept_more, calms}
-use Rattle.law_gift.proofs.Keeps.{alone_kept, arrive_kept}
-use Rattle.law_gift.proofs.Kept.{settling, Kept}
-use Rattle.law_gift.proofs.Rests as rests
+use Rattle.law_gift.proofs.Gift.Found.{kept_more, calms}
+use Rattle.law_gift.proofs.Gift.Keeps.{alone_kept, arrive_kept}
+use Rattle.law_gift.proofs.Gift.Kept.{settling, Kept}
+use Rattle.law_gift.proofs.Gift.Rests as rests
 use Rattle.law_told_once.specs.Opened.{OpensNew, OpenedGiftsAreNew}
 use Rattle.law_told_once.proofs.News.{fresh_kept}
 

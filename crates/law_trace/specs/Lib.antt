@@ -1,10 +1,2 @@
-pub mod Laws
-pub mod Seen
-pub mod Readable
-pub mod Renamed
-pub mod Renumbered
-pub mod Words
-pub mod Events
-pub mod Texts
-pub mod Found
-pub mod Placed
+pub mod Trace
+pub mod UsesSeen

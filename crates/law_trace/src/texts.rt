@@ -1,8 +1,8 @@
 //! The text of a run that is printed is read again.
 
-ghost use Rattle.law_trace.specs.Found.{VatsAreFound};
-ghost use Rattle.law_trace.specs.Placed.{TextsAreNumbered, VatsHavePlaces};
-ghost use Rattle.law_trace.specs.Texts.{HistoriesAreReadAgain, TextsAreReadAgain};
+ghost use Rattle.law_trace.specs.Trace.Found.{VatsAreFound};
+ghost use Rattle.law_trace.specs.Trace.Placed.{TextsAreNumbered, VatsHavePlaces};
+ghost use Rattle.law_trace.specs.Trace.Texts.{HistoriesAreReadAgain, TextsAreReadAgain};
 
 /// A text is cut into its lines, and these are read, by the names of all vats, as what is seen of the events.
 pub fn histories_are_read_again()

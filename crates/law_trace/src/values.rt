@@ -1,6 +1,6 @@
 //! Values that are printed are read again.
 
-ghost use Rattle.law_trace.specs.Laws.{CharactersAreReadAgain, ConstantsAreReadAgain, IntegersAreReadAgain, PrimitivesAreReadAgain, ShortProblemsAreReadAgain, ShortTextsAreReadAgain, ThingsAreReadAgain};
+ghost use Rattle.law_trace.specs.Trace.Laws.{CharactersAreReadAgain, ConstantsAreReadAgain, IntegersAreReadAgain, PrimitivesAreReadAgain, ShortProblemsAreReadAgain, ShortTextsAreReadAgain, ThingsAreReadAgain};
 
 /// A name that is printed is read as that name, and a list or a slot that is printed by its number as that list or slot.
 pub fn things_are_read_again()

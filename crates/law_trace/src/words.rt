@@ -1,7 +1,7 @@
 //! Values and words that are printed are read again.
 
-ghost use Rattle.law_trace.specs.Renumbered.{WordsAreSameByOtherNumbers};
-ghost use Rattle.law_trace.specs.Words.{ValuesAreReadAgain, WordsAreReadAgain};
+ghost use Rattle.law_trace.specs.Trace.Renumbered.{WordsAreSameByOtherNumbers};
+ghost use Rattle.law_trace.specs.Trace.Words.{ValuesAreReadAgain, WordsAreReadAgain};
 
 /// Any value that is printed is read as what is seen of it: in a note, where lists are written out and at most 100 high, and outside notes.
 pub fn values_are_read_again()

@@ -1,4 +1,4 @@
-use Rattle.law_costs.proofs.Whole.{pays}
+use Rattle.law_costs.proofs.Costs.Whole.{pays}
 use Rattle.law_costs.proofs.fuel_pays.Goals as goal
 
 pub returns : goal.returns

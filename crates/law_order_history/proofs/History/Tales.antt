@@ -5,8 +5,8 @@ use Rattle.def_machine.specs.Values.{Name}
 use Rattle.def_machine.specs.State.{Known, Message, Vat, Note}
 use Rattle.def_run.specs.World as world
 use Rattle.def_run.specs.World.{Script, Program, Entry, Event, LeftQueue, LeftHeld, LeftWait, LeftLink, Ends, Link, World, Run, Goes, Stopped}
-use Rattle.law_halt.proofs.Halted.{stopped_leave}
-use Rattle.law_halt.specs.Halted.{LeavesOf, OpeningStops, EntryStops}
+use Rattle.law_costs.proofs.Halting.Halted.{stopped_leave}
+use Rattle.law_costs.specs.Halting.Halted.{LeavesOf, OpeningStops, EntryStops}
 use Rattle.law_order.specs.Order.{Ordered}
 use Rattle.law_order.specs.Example.{history_of}
 use Rattle.law_order_history.specs.History.Lines.{AllQuiet, counts, with_first}

@@ -4,7 +4,7 @@ use Rattle.std.specs.Prelude.{slice_get}
 use Rattle.def_event.specs.declared.event.Event.{Event}
 use Rattle.def_event.specs.declared.event.Event.TheVariants.{Open, Turn, Idle, Carry, Cut, Notice, Frame}
 use Rattle.def_trace.specs.Order.{vat_behind, vat_after, vat_at}
-use Rattle.law_uses_seen.proofs.Renaming.{Renaming, AreEvents, no_event, one_event, silent_event, event}
+use Rattle.law_trace.proofs.UsesSeen.Renaming.{Renaming, AreEvents, no_event, one_event, silent_event, event}
 
 abbrev pub IsFrame : Event → Type 0
 IsFrame (Frame bytes) = Unit {0}

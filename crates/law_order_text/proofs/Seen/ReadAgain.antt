@@ -9,14 +9,14 @@ use Rattle.def_event.specs.declared.event.Event.{Event}
 use Rattle.def_event.specs.declared.event.Event.TheVariants.{Carry, Frame, Take, Call, List as ListMade, Arrived, Made as ObjectMade, Send, SendOnly, LeftLink}
 use Rattle.def_event.specs.Lines.{is_no_frame}
 use Rattle.def_trace.specs.Order.{IsOrdered}
-use Rattle.law_trace.specs.Seen.{seen}
-use Rattle.law_trace.specs.Renamed.{event_to}
+use Rattle.law_trace.specs.Trace.Seen.{seen}
+use Rattle.law_trace.specs.Trace.Renamed.{event_to}
 use Rattle.ev_trace_words.specs.Laws.{AreNames}
-use Rattle.law_uses_seen.proofs.Renaming.{Renaming, IsRenaming, AreEvents, no_event, one_event, silent_event, event, note, thing}
-use Rattle.law_uses_seen.proofs.Whole.{all_are}
-use Rattle.law_uses_seen.proofs.SeenAlike.{as_seen, is_seen, events_seen}
-use Rattle.law_uses_seen.proofs.RenumberedAlike.{by_number, is_numbered, events_numbered}
-use Rattle.law_uses_seen.proofs.ReadAgain.{again, number, number_apart, read_as, stopped_text}
+use Rattle.law_trace.proofs.UsesSeen.Renaming.{Renaming, IsRenaming, AreEvents, no_event, one_event, silent_event, event, note, thing}
+use Rattle.law_trace.proofs.UsesSeen.Whole.{all_are}
+use Rattle.law_trace.proofs.UsesSeen.SeenAlike.{as_seen, is_seen, events_seen}
+use Rattle.law_trace.proofs.UsesSeen.RenumberedAlike.{by_number, is_numbered, events_numbered}
+use Rattle.law_trace.proofs.UsesSeen.ReadAgain.{again, number, number_apart, read_as, stopped_text}
 use Rattle.law_order_text.specs.Seen.Laws.{OrderOfWhatIsSeen, OrderWithoutFrames, OrderOfRenumbered, OrderIsReadAgain}
 use Rattle.law_order_text.proofs.Seen.Renamed.{order_renamed}
 

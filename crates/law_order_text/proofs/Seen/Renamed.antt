@@ -13,8 +13,8 @@ use Rattle.def_trace.specs.declared.reference.Reference.{Reference}
 use Rattle.def_trace.specs.Order.{vat_at, Sending, Carrying, Taking, sending, note_carrying, carrying, is_object, taking, DoesAt, IsFirst, IsSent, IsCarried, Passing, Behind, OnItself, Passed, IsSentOn, IsOvertaken, IsOrdered}
 use Rattle.def_trace.specs.Uses.{name_of, same_message}
 use Rattle.def_trace.specs.Uses as uses
-use Rattle.law_uses_seen.proofs.Same.{some_of}
-use Rattle.law_uses_seen.proofs.Renaming.{Renaming, IsRenaming, AreEvents, values, note, event}
+use Rattle.law_trace.proofs.UsesSeen.Same.{some_of}
+use Rattle.law_trace.proofs.UsesSeen.Renaming.{Renaming, IsRenaming, AreEvents, values, note, event}
 use Rattle.law_order_text.proofs.Seen.Placing.{IsFrame, at, further, before, mirrors, mirrored, vat_same}
 
 some_is : {A : Type 0} (x y : A) → Some x ≡ Some y → x ≡ y

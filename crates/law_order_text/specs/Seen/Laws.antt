@@ -4,14 +4,14 @@ use Rattle.def_event.specs.declared.event.Event.{Event}
 use Rattle.def_event.specs.Lines.{is_no_frame, render}
 use Rattle.def_trace.specs.Order.{IsOrdered}
 use Rattle.def_trace.specs.declared.trace.Trace.{Trace}
-use Rattle.law_text.specs.Feeds.{AllOf, IsOneLine}
+use Rattle.law_text.specs.Text.Feeds.{AllOf, IsOneLine}
 use Rattle.ev_trace_words.specs.Laws.{AreNames}
 use Rattle.ev_trace_words.specs.Words.{words_of}
 use Rattle.ev_trace.specs.Reading.{is_stop, read_text}
-use Rattle.law_trace.specs.Seen.{seen}
-use Rattle.law_trace.specs.Readable.{Below, IsRead}
-use Rattle.law_trace.specs.Renamed.{event_to}
-use Rattle.law_trace.specs.Texts.{found}
+use Rattle.law_trace.specs.Trace.Seen.{seen}
+use Rattle.law_trace.specs.Trace.Readable.{Below, IsRead}
+use Rattle.law_trace.specs.Trace.Renamed.{event_to}
+use Rattle.law_trace.specs.Trace.Texts.{found}
 
 -- of any events, with texts as a line shows them
 abbrev pub OrderOfWhatIsSeen : Type 0

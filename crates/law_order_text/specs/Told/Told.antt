@@ -7,7 +7,7 @@ use Rattle.law_name.specs.Runs.{KnowsOnce}
 use Rattle.law_order.specs.Order.{Ordered}
 use Rattle.law_order_text.specs.Shown.Shown.{AreInPlace, NameMessages, CarryWhatWasSent, NamesApart}
 use Rattle.law_reference.specs.Cuts.{NoticesFollowCuts}
-use Rattle.law_text.specs.Runs.{events_of}
+use Rattle.law_text.specs.Text.Runs.{events_of}
 
 -- each line of a vat stands at the place of that vat
 abbrev pub LinesAreInPlace : Type 0

@@ -19,7 +19,7 @@ use Rattle.law_order.specs.Worlds.{FollowsEnd}
 use Rattle.law_ordered.specs.Waits.Answers.{asked_at, waits_at}
 use Rattle.law_ordered.proofs.Waits.Classes.{owed_at, other_host}
 use Rattle.law_ordered.proofs.Waits.Room.{share}
-use Rattle.law_own_waits.proofs.Runs.{waits_in_runs}
+use Rattle.law_gift.proofs.OwnWaits.Runs.{waits_in_runs}
 use Rattle.law_ordered.proofs.Steady.Facts as facts
 use Rattle.law_ordered.proofs.Steady.Facts.{IsClear}
 use Rattle.law_ordered.proofs.Steady.Starts.{of_all, steady_at}

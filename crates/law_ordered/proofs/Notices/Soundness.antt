@@ -23,7 +23,7 @@ use Rattle.law_reference.proofs.OwnRuns.{own_in_runs}
 use Rattle.law_reference.proofs.RinglessRuns.{waits_end_in_runs}
 use Rattle.law_reference.proofs.Told.{found_all}
 use Rattle.law_reference.proofs.ViewsRuns.{views_wait_in_runs}
-use Rattle.law_own_waits.proofs.Runs.{waits_in_runs}
+use Rattle.law_gift.proofs.OwnWaits.Runs.{waits_in_runs}
 use Rattle.law_order.specs.Settle.{IsEnded}
 use Rattle.law_order.specs.Steps.{Ready}
 use Rattle.law_order.specs.Worlds.{IsObject}

@@ -15,8 +15,8 @@ use Rattle.law_name.specs.Runs.{KnowsOnce}
 use Rattle.law_name.proofs.Laws.{names_known, notes_made}
 use Rattle.law_fate.specs.Lasting.{NamesNoObject}
 use Rattle.law_frame.proofs.Frame.AlikeArrivals.{new_last}
-use Rattle.law_gift.proofs.Kept.{found_named}
-use Rattle.law_own_waits.proofs.Runs.{waits_in_runs}
+use Rattle.law_gift.proofs.Gift.Kept.{found_named}
+use Rattle.law_gift.proofs.OwnWaits.Runs.{waits_in_runs}
 use Rattle.law_reference.specs.Cuts.{NoticesFollowCuts}
 use Rattle.law_reference.specs.Knowing.{one, claims, new_name, new_gift_here, brings}
 use Rattle.law_reference.specs.NameTableRuns.{allowed, brings_here, BringsNew}

@@ -12,8 +12,8 @@ use Rattle.law_name.specs.Names.{AllOf, IsAmong, HostIsTrue}
 use Rattle.law_name.specs.Runs.{KnowsOnce}
 use Rattle.law_name.proofs.Facts.{all_map}
 use Rattle.law_fate.specs.Sound.{KnownSound}
-use Rattle.law_gift.proofs.Opened.{IsOpenedBy, opens}
-use Rattle.law_gift.proofs.Runs.{all_named, stepped_well}
+use Rattle.law_gift.proofs.Gift.Opened.{IsOpenedBy, opens}
+use Rattle.law_gift.proofs.Gift.Runs.{all_named, stepped_well}
 use Rattle.law_reference.specs.Cuts.{NoticesFollowCuts}
 use Rattle.law_reference.specs.ListRingless.{IsNamed}
 use Rattle.law_reference.proofs.Gentle.{AfterGives}

@@ -24,7 +24,7 @@ use Rattle.law_ordered.proofs.Waits.Classes.{owed_at}
 use Rattle.law_ordered.proofs.Waits.Costs as costs
 use Rattle.law_ordered.proofs.Waits.Counts.{comes_stands}
 use Rattle.law_ordered.proofs.Waits.Room.{share}
-use Rattle.law_gift.proofs.Kept.{opened_named}
+use Rattle.law_gift.proofs.Gift.Kept.{opened_named}
 use Rattle.law_ordered.proofs.Steady.Ends.{later_come}
 use Rattle.law_ordered.proofs.Steady.Steady.{Steady}
 

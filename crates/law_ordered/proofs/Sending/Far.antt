@@ -27,10 +27,10 @@ use Rattle.law_reference.proofs.Moves.{Moved, Still, Severs, Drops, Steps, Arriv
 use Rattle.law_reference.proofs.Told.{told_is}
 use Rattle.law_reference.proofs.VatStep.{link_all}
 use Rattle.law_reference.specs.ListRingless.{told_name}
-use Rattle.law_gift.proofs.Found.{kept_more, calms}
-use Rattle.law_gift.proofs.Keeps.{after_given, alone_kept, arrive_kept}
-use Rattle.law_gift.proofs.Kept.{settling, Kept}
-use Rattle.law_gift.proofs.Rests as rests
+use Rattle.law_gift.proofs.Gift.Found.{kept_more, calms}
+use Rattle.law_gift.proofs.Gift.Keeps.{after_given, alone_kept, arrive_kept}
+use Rattle.law_gift.proofs.Gift.Kept.{settling, Kept}
+use Rattle.law_gift.proofs.Gift.Rests as rests
 use Rattle.law_told_once.proofs.News.{fresh_kept}
 use Rattle.law_order.proofs.Sends.{found_ends}
 use Rattle.law_order_steps.proofs.Runs.Beginnings.{reached_is, each_all}

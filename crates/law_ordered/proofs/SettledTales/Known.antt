@@ -24,7 +24,7 @@ use Rattle.law_order_steps.proofs.Runs.Beginnings.{each_all, entry_name, named_o
 use Rattle.law_order_steps.proofs.Runs.Truths.{data_self, object_self}
 use Rattle.law_ordered.specs.Waits.Answers.{IsWaitOf}
 use Rattle.law_ordered.proofs.Waits.Runs.{waiters_wait_in_runs}
-use Rattle.law_own_waits.proofs.Runs.{waits_in_runs}
+use Rattle.law_gift.proofs.OwnWaits.Runs.{waits_in_runs}
 use Rattle.law_ordered.proofs.Steady.Facts as facts
 use Rattle.law_ordered.proofs.Steady.Starts.{of_all, steady_at}
 use Rattle.law_ordered.proofs.Steady.Steady.{Steady, less}

@@ -19,7 +19,7 @@ use Rattle.law_fate.proofs.Light.{found_sound}
 use Rattle.law_fate.proofs.PlacesLast.{Global}
 use Rattle.law_fate.proofs.PlacesRefs.{found_well, settle_well}
 use Rattle.law_fate.proofs.PlacesSteps.{global_names}
-use Rattle.law_gift.proofs.Kept.{IsBreak}
+use Rattle.law_gift.proofs.Gift.Kept.{IsBreak}
 use Rattle.law_name.specs.Names.{AllOf, IsAmong}
 use Rattle.law_name.proofs.Among.{get_put}
 use Rattle.law_reference.specs.Knowing.{onward, onward_all}

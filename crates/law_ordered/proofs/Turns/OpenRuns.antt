@@ -10,7 +10,7 @@ use Rattle.def_run.specs.World.{Script, Program, World, Goes, names, readied}
 use Rattle.law_fate.specs.Fate.{one, total}
 use Rattle.law_name.specs.Names.{AllOf}
 use Rattle.law_name.specs.Runs.{KnowsOnce}
-use Rattle.law_own_waits.proofs.Runs.{waits_in_runs}
+use Rattle.law_gift.proofs.OwnWaits.Runs.{waits_in_runs}
 use Rattle.law_reference.specs.Knowing.{claims}
 use Rattle.law_reference.specs.NameTableRuns.{allowed}
 use Rattle.law_reference.proofs.Counts.{opened_counted}

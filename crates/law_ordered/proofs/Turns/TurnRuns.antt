@@ -7,7 +7,7 @@ use Rattle.def_run.specs.World as world
 use Rattle.def_run.specs.World.{Script, Entry, World, Goes, names, readied}
 use Rattle.law_fate.specs.Fate.{total}
 use Rattle.law_name.specs.Runs.{KnowsOnce}
-use Rattle.law_own_waits.proofs.Runs.{waits_in_runs}
+use Rattle.law_gift.proofs.OwnWaits.Runs.{waits_in_runs}
 use Rattle.law_reference.specs.Cuts.{NoticesFollowCuts}
 use Rattle.law_ordered.specs.Waits.Answers.{answers, answered_by}
 use Rattle.law_ordered.proofs.Steady.Ends.{WaitsAreOwn}

@@ -13,7 +13,7 @@ use Rattle.law_name.specs.Names.{AllOf, IsMessageName}
 use Rattle.law_name.proofs.Facts.{all_end}
 use Rattle.law_name.proofs.SameNames.{message_is}
 use Rattle.law_fate.specs.Fate.{one}
-use Rattle.law_gift.proofs.Kept.{opened_named, found_named}
+use Rattle.law_gift.proofs.Gift.Kept.{opened_named, found_named}
 use Rattle.law_order.proofs.Moves.{Keeps, IsKept, keeps_bind, keeps_then, keeps_give, keeps_look}
 use Rattle.law_reference.specs.ListRingless.{IsNamed, told_name}
 use Rattle.law_reference.proofs.Following.{standing_found}

@@ -7,7 +7,7 @@ use Rattle.law_machine.specs.Steps.{After}
 use Rattle.law_name.specs.Names.{AllOf, IsEventual}
 use Rattle.law_name.proofs.SameNames.{same_is}
 use Rattle.law_fate.specs.Fate.{once, one, total}
-use Rattle.law_gift.proofs.Kept.{opened_named}
+use Rattle.law_gift.proofs.Gift.Kept.{opened_named}
 use Rattle.law_order.proofs.Moves.{Keeps, IsKept, keeps_give}
 use Rattle.law_reference.specs.ListRingless.{IsNamed}
 use Rattle.law_reference.specs.Views.{IsOpen}

@@ -18,7 +18,7 @@ use Rattle.law_name.proofs.SameNames.{old_known, reference_self}
 use Rattle.law_fate.specs.Fate.{one, total}
 use Rattle.law_frozen.specs.Frozen.{AllOf as EachOf, MessageThere, Sound}
 use Rattle.law_frozen.proofs.RunSound.{WorldSound, given_well}
-use Rattle.law_gift.proofs.Kept.{found_named}
+use Rattle.law_gift.proofs.Gift.Kept.{found_named}
 use Rattle.law_reference.specs.ListRingless.{IsNamed, told_name}
 use Rattle.law_reference.specs.Notes.{IsBetween}
 use Rattle.law_reference.proofs.Follow.{put_cases}

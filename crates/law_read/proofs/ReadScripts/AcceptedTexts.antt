@@ -7,9 +7,9 @@ use Rattle.def_run.specs.World.{Program}
 use Rattle.law_kernel_form.specs.Trees.{IsTree}
 use Rattle.law_schedule.specs.Scripts.{machine_entry, machine_vats, machine_script}
 use Rattle.law_read.proofs.ReadScripts.Vats.{vats_named}
-use Rattle.law_text.specs.Feeds.{AllOf}
-use Rattle.law_text_runs.specs.Laws.{IsEntryOf as IsOfThese, IsShort, IsOfVats}
-use Rattle.law_text_runs.proofs.Runs.{tell_runs}
+use Rattle.law_text.specs.Text.Feeds.{AllOf}
+use Rattle.law_text.specs.RunTexts.Laws.{IsEntryOf as IsOfThese, IsShort, IsOfVats}
+use Rattle.law_text.proofs.RunTexts.Runs.{tell_runs}
 use Rattle.ev_script.specs.Rules.{IsEntryOf, IsAdmitted}
 use Rattle.ev_script.specs.declared.script.Entry.{Entry}
 use Rattle.ev_script.specs.declared.script.Entry.TheVariants.{Turn}

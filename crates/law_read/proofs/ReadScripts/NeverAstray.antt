@@ -9,7 +9,7 @@ use Rattle.ev_script.specs.Script.{read}
 use Rattle.ev_script.specs.declared.script.Script.{Script}
 use Rattle.ev_script.specs.declared.script.VatScript.{VatScript}
 use Rattle.law_read.proofs.ReadScripts.Sources.{sources_are_texts}
-use Rattle.law_expanded.proofs.Tokens.{what_is_read_is_a_tree}
+use Rattle.law_reading.proofs.Expansion.Tokens.{what_is_read_is_a_tree}
 use Rattle.law_read.specs.ReadScripts.Checked.{IsChecked, AreChecked}
 use Rattle.law_read.proofs.ReadScripts.Checked.{no_checked_script_goes_astray}
 use Rattle.law_read.specs.ReadScripts.Runs.{IsReadTo, AreReadTo, NoReadScriptGoesAstray}

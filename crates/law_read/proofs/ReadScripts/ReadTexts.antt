@@ -4,8 +4,8 @@ use Rattle.std.specs.Str.{IsUtf8}
 use Rattle.std.proofs.lemmas.List.Elements.{All-head, All-tail}
 use Rattle.def_kernel.specs.declared.node.Node.{Node}
 use Rattle.law_kernel_form.specs.Trees.{IsTree}
-use Rattle.law_text.specs.Feeds.{AllOf}
-use Rattle.law_text_runs.specs.Laws.{IsShort}
+use Rattle.law_text.specs.Text.Feeds.{AllOf}
+use Rattle.law_text.specs.RunTexts.Laws.{IsShort}
 use Rattle.ev_script.specs.Vats.{is_vat_name}
 use Rattle.ev_script.specs.Rules.{IsAdmitted}
 use Rattle.ev_script.specs.Script.{read}
@@ -13,8 +13,8 @@ use Rattle.ev_script.specs.declared.script.Script.{Script}
 use Rattle.ev_script.specs.declared.script.VatScript.{VatScript}
 use Rattle.ev_script.proofs.Admitted.{read_admitted}
 use Rattle.law_read.proofs.ReadScripts.Sources.{sources_are_texts}
-use Rattle.law_expanded.proofs.Tokens.{what_is_read_is_a_tree}
-use Rattle.law_sized.proofs.Small.{what_is_read_is_small}
+use Rattle.law_reading.proofs.Expansion.Tokens.{what_is_read_is_a_tree}
+use Rattle.law_reading.proofs.Sized.Small.{what_is_read_is_small}
 use Rattle.law_read.specs.ReadScripts.Runs.{IsReadTo, AreReadTo}
 use Rattle.law_read.specs.ReadScripts.Texts.{HasTrees, HasFewNodes}
 use Rattle.law_read.proofs.ReadScripts.Bounded.{bounded, tell_scripts}

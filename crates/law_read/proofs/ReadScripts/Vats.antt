@@ -16,7 +16,7 @@ use Rattle.ev_script.specs.Vats.{begins_lower, is_lower_or_digit, is_vat_name}
 use Rattle.ev_script.specs.declared.script.VatScript.{VatScript}
 use Rattle.ev_script.proofs.Admitted.{read_admitted}
 use Rattle.law_schedule.specs.Scripts.{machine_vats}
-use Rattle.law_text.specs.Values.{names_vat, AreVats}
+use Rattle.law_text.specs.Text.Values.{names_vat, AreVats}
 use Rattle.law_read.specs.ReadScripts.Accepted.{AcceptedVatsAreNamed}
 
 -- ---- of letters and digits

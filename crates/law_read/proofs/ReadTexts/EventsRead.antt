@@ -16,14 +16,14 @@ use Rattle.def_machine.specs.State.{Bound, Fixed, Slot, Message, Passed, Passeds
 use Rattle.def_run.specs.World.{Event, Turned, Carried, CutAt, NoticedAt, Here, LostCut, LeftQueue, LeftHeld, LeftWait, LeftLink, Ends}
 use Rattle.def_run.specs.Shown.{shown_gift, shown_name, shown_msg, shown_value, shown_values, shown_slot, shown_capture, shown_passed, shown_all, shown_delivery, shown_note, shown_send, shown_reaction, shown_happened, shown_event}
 use Rattle.def_run.specs.Text.{shown_events}
-use Rattle.law_text.specs.Feeds.{AllOf}
-use Rattle.law_text.specs.Names.{IsNameOf}
-use Rattle.law_text_runs.specs.Fitting.{Limits, IsVat, IsLow, IsNoList, NameFits, ValueFits, ValuesFit, BoundFits, MessageFits, PassedFits, PassedsFit, NoteFits, LineFits, is_primitive}
-use Rattle.law_text_runs.specs.Worlds.{EventFits}
-use Rattle.law_text_runs.proofs.Shown.{bounds, gift_fits, msg_fits, name_fits}
+use Rattle.law_text.specs.Text.Feeds.{AllOf}
+use Rattle.law_text.specs.Text.Names.{IsNameOf}
+use Rattle.law_text.specs.RunTexts.Fitting.{Limits, IsVat, IsLow, IsNoList, NameFits, ValueFits, ValuesFit, BoundFits, MessageFits, PassedFits, PassedsFit, NoteFits, LineFits, is_primitive}
+use Rattle.law_text.specs.RunTexts.Worlds.{EventFits}
+use Rattle.law_text.proofs.RunTexts.Shown.{bounds, gift_fits, msg_fits, name_fits}
 use Rattle.ev_trace_words.specs.Parts.{guarded}
-use Rattle.law_trace.specs.Laws.{IsPrimitive}
-use Rattle.law_trace.specs.Readable.{Below, IsMessage, IsName, IsNote, IsPassed, IsRead, IsValue}
+use Rattle.law_trace.specs.Trace.Laws.{IsPrimitive}
+use Rattle.law_trace.specs.Trace.Readable.{Below, IsMessage, IsName, IsNote, IsPassed, IsRead, IsValue}
 use Rattle.law_read.proofs.ReadTexts.LinesTell.{all_join}
 
 -- ---- primitives

@@ -9,12 +9,12 @@ use Rattle.def_event.specs.Lines.{words}
 use Rattle.ev_script.specs.Vats.{differ, is_vat_name, place_of}
 use Rattle.ev_trace_words.specs.Laws.{AreNames}
 use Rattle.ev_trace.specs.Naming.{line_vats, with_name, with_names}
-use Rattle.law_text.specs.Feeds.{AllOf}
-use Rattle.law_trace.specs.Found.{Stands}
-use Rattle.law_trace.specs.Readable.{Below, IsRead}
-use Rattle.law_trace.specs.Texts.{found}
-use Rattle.law_trace.proofs.NamesFound.{names_are}
-use Rattle.law_trace.proofs.ValuesAgain.{both}
+use Rattle.law_text.specs.Text.Feeds.{AllOf}
+use Rattle.law_trace.specs.Trace.Found.{Stands}
+use Rattle.law_trace.specs.Trace.Readable.{Below, IsRead}
+use Rattle.law_trace.specs.Trace.Texts.{found}
+use Rattle.law_trace.proofs.Trace.NamesFound.{names_are}
+use Rattle.law_trace.proofs.Trace.ValuesAgain.{both}
 use Rattle.law_read.specs.ReadTexts.Found.{LinesNameVats, OnlyVatsAreFound}
 use Rattle.law_read.proofs.ReadTexts.Tells.{AreVats}
 use Rattle.law_read.proofs.ReadTexts.LinesTell.{all_join, line}

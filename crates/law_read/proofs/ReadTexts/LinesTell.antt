@@ -13,16 +13,16 @@ use Rattle.def_event.specs.declared.event.Event.{Event}
 use Rattle.def_event.specs.declared.event.Event.TheVariants.{Open, Turn, Idle, Carry, Cut, Notice, Frame, Take, Call, Back, Thrown, Gone, Got, Slot as SlotMade, Read, Wrote, List as ListMade, Arrived, Ejector, Audition, Promise, Made, Send, SendOnly, When, Done, Threw, Settle, Wait, View, LostCut, LostBroken, LeftQueue, LeftHeld, LeftWait, LeftLink, End}
 use Rattle.def_event.specs.Lines.{begun_words, note_words, part, vat, words}
 use Rattle.def_event.specs.Lines as lines
-use Rattle.law_text.specs.Feeds.{AllOf}
+use Rattle.law_text.specs.Text.Feeds.{AllOf}
 use Rattle.ev_trace_words.specs.Laws.{AreNames}
 use Rattle.ev_trace_words.specs.declared.words.Quote.TheVariants.{Outside}
 use Rattle.ev_trace_words.proofs.Printed.{count_again, vat_letters}
 use Rattle.ev_trace_lines.specs.Events.{Words}
 use Rattle.ev_trace.specs.Naming.{line_vats, note_vats, pair_vats, entry_vats, scan, scanned}
-use Rattle.law_trace.specs.Readable.{AreValues, Below, IsMessage, IsNote, IsPassed, IsRead, IsThing, IsValue}
-use Rattle.law_trace.proofs.IntegersAgain.{digits_alone, no_mark, not_word}
-use Rattle.law_trace.proofs.ScanLemmas.{run_on}
-use Rattle.law_trace.proofs.WordsAgain.{fits_as}
+use Rattle.law_trace.specs.Trace.Readable.{AreValues, Below, IsMessage, IsNote, IsPassed, IsRead, IsThing, IsValue}
+use Rattle.law_trace.proofs.Trace.IntegersAgain.{digits_alone, no_mark, not_word}
+use Rattle.law_trace.proofs.Trace.ScanLemmas.{run_on}
+use Rattle.law_trace.proofs.Trace.WordsAgain.{fits_as}
 use Rattle.law_read.proofs.ReadTexts.Quiet.{In, rooted}
 use Rattle.law_read.proofs.ReadTexts.Tells.{AreVats, Tells, activation, fixed, list_word, message, name, number, passed, slot_word, stands, value, vat_word, verb}
 

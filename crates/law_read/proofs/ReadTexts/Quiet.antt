@@ -6,15 +6,15 @@ use Rattle.std.specs.Char.{digit_char, encode_utf8}
 use Rattle.std.proofs.lemmas.Bool.Decides.{nat_tests}
 use Rattle.def_text.specs.Quoting.{by_number, escaped, escaped_character, quoted, quoted_character}
 use Rattle.ev_script.specs.Vats.{is_lower_or_digit}
-use Rattle.law_text.proofs.Front.{both_true, true_false}
-use Rattle.law_text.proofs.Quotes.{encoded}
-use Rattle.law_text.proofs.Reading.{differs, unmet}
+use Rattle.law_text.proofs.Text.Front.{both_true, true_false}
+use Rattle.law_text.proofs.Text.Quotes.{encoded}
+use Rattle.law_text.proofs.Text.Reading.{differs, unmet}
 use Rattle.ev_trace_words.specs.declared.words.Quote.{Quote}
 use Rattle.ev_trace_words.specs.declared.words.Quote.TheVariants.{Outside, InText, InCharacter, EscapedText, EscapedCharacter}
 use Rattle.ev_trace_words.specs.Words.{behind_quote, is_outside}
 use Rattle.ev_trace.specs.Naming.{is_mark, only_if, scan}
-use Rattle.law_trace.proofs.ValuesAgain.{both}
-use Rattle.law_trace.proofs.ScanLemmas.{other_on, run_on}
+use Rattle.law_trace.proofs.Trace.ValuesAgain.{both}
+use Rattle.law_trace.proofs.Trace.ScanLemmas.{other_on, run_on}
 
 -- what is found in a word that stands for a value
 abbrev pub In : List ℕ → List (List ℕ)

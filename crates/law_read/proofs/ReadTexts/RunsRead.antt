@@ -9,14 +9,14 @@ use Rattle.def_run.specs.World as world
 use Rattle.def_run.specs.World.{Script, Event, Ends, World, Run, Goes, Stopped, run}
 use Rattle.def_run.specs.Shown.{shown_event}
 use Rattle.def_run.specs.Text.{vat_names, shown_events, history_of, draws_of, stop_text, stop_line, text}
-use Rattle.law_text.specs.Feeds.{AllOf}
-use Rattle.law_text_runs.proofs.Runs.{named, run_history, drawn_of}
+use Rattle.law_text.specs.Text.Feeds.{AllOf}
+use Rattle.law_text.proofs.RunTexts.Runs.{named, run_history, drawn_of}
 use Rattle.ev_trace_words.specs.Laws.{AreNames}
 use Rattle.ev_trace.specs.Reading.{read}
-use Rattle.law_trace.specs.Placed.{numbered}
-use Rattle.law_trace.specs.Readable.{Below, IsRead}
-use Rattle.law_trace.specs.Seen.{seen}
-use Rattle.law_trace.specs.Texts.{found}
+use Rattle.law_trace.specs.Trace.Placed.{numbered}
+use Rattle.law_trace.specs.Trace.Readable.{Below, IsRead}
+use Rattle.law_trace.specs.Trace.Seen.{seen}
+use Rattle.law_trace.specs.Trace.Texts.{found}
 use Rattle.law_read.specs.ReadTexts.Runs.{EventsOfRunsAreRead, TextsOfRunsAreRead, IsNotAstray, TellsLowOf, shown_of, trace_of}
 use Rattle.law_read.proofs.ReadTexts.EventsRead.{events_read}
 use Rattle.law_read.proofs.ReadTexts.Stops.{IsStopLine, stop_lines, steps_few}

@@ -20,8 +20,8 @@ use Rattle.law_read.proofs.ReadScripts.NeverAstray.{no_read_script_goes_astray}
 use Rattle.law_read.proofs.ReadScripts.ReadTexts.{read_runs_are_bounded, trees}
 use Rattle.law_read.proofs.ReadScripts.Vats.{names_are}
 use Rattle.law_schedule.specs.Scripts.{machine_script}
-use Rattle.law_text.proofs.Front.{both_true}
-use Rattle.law_text_runs.specs.Laws.{IsOfVats}
+use Rattle.law_text.proofs.Text.Front.{both_true}
+use Rattle.law_text.specs.RunTexts.Laws.{IsOfVats}
 use Rattle.law_read.specs.ReadTexts.Scripts.{EventsOfReadScriptsAreRead, TextsOfReadScriptsAreRead}
 use Rattle.law_read.proofs.ReadTexts.RunsRead.{events_of_runs, texts_of_runs}
 

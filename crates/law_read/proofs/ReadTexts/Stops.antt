@@ -9,15 +9,15 @@ use Rattle.def_machine.specs.State.{Message, Note, Stop, Fuel, Deep, Repeated, A
 use Rattle.def_run.specs.World as world
 use Rattle.def_run.specs.World.{Script, Program, Entry, Turn, Carry, CutLink, NoticeLink, Link, Event, World, Run, Goes, Stopped, run}
 use Rattle.def_run.specs.Text.{stop_line}
-use Rattle.law_halt.specs.Halted.{OpeningStops, EntryStops}
-use Rattle.law_halt.proofs.Halted.{stopped_leave}
-use Rattle.law_text.specs.Feeds.{IsOneLine}
-use Rattle.law_text.proofs.Plain.{decimal_line, line_append, line_cons}
-use Rattle.law_text.proofs.Reading.{decimal_word, ordinary_word}
+use Rattle.law_costs.specs.Halting.Halted.{OpeningStops, EntryStops}
+use Rattle.law_costs.proofs.Halting.Halted.{stopped_leave}
+use Rattle.law_text.specs.Text.Feeds.{IsOneLine}
+use Rattle.law_text.proofs.Text.Plain.{decimal_line, line_append, line_cons}
+use Rattle.law_text.proofs.Text.Reading.{decimal_word, ordinary_word}
 use Rattle.ev_trace_words.specs.Words.{words_of}
 use Rattle.ev_trace_words.proofs.Printed.{count_again}
 use Rattle.ev_trace.specs.Reading.{is_stop}
-use Rattle.law_trace.proofs.WordsAgain.{words_back}
+use Rattle.law_trace.proofs.Trace.WordsAgain.{words_back}
 use Rattle.law_read.specs.ReadTexts.Runs.{TellsLow}
 use Rattle.law_read.proofs.ReadTexts.Utf8.{ascii, decimal_low}
 

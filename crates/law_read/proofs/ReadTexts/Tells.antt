@@ -19,19 +19,19 @@ use Rattle.def_event.specs.declared.shown.Shown.{Shown, Null, Bool, Int, Char, T
 use Rattle.def_event.specs.Lines.{member_values, primitive_name, spaced, vat}
 use Rattle.def_event.specs.Lines as lines
 use Rattle.ev_script.specs.Vats.{is_lower_or_digit}
-use Rattle.law_text.specs.Feeds.{AllOf}
-use Rattle.law_text.proofs.Front.{both_true}
-use Rattle.law_text.proofs.Quotes.{encoded}
-use Rattle.law_text.proofs.Valued.{decimal_passes}
+use Rattle.law_text.specs.Text.Feeds.{AllOf}
+use Rattle.law_text.proofs.Text.Front.{both_true}
+use Rattle.law_text.proofs.Text.Quotes.{encoded}
+use Rattle.law_text.proofs.Text.Valued.{decimal_passes}
 use Rattle.ev_trace_words.specs.Laws.{AreNames}
 use Rattle.ev_trace_words.specs.declared.words.Quote.TheVariants.{Outside}
 use Rattle.ev_trace_words.specs.Words.{behind_quote}
 use Rattle.ev_trace_words.proofs.Printed.{vat_letters}
 use Rattle.ev_trace.specs.Naming.{is_mark, only_if, scan}
-use Rattle.law_trace.specs.Found.{Stands}
-use Rattle.law_trace.specs.Readable.{AreMembers, Below, IsMessage, IsName, IsPassed, IsSimple, IsValue}
-use Rattle.law_trace.proofs.ValuesAgain.{both}
-use Rattle.law_trace.proofs.ScanLemmas.{other_on, run_on}
+use Rattle.law_trace.specs.Trace.Found.{Stands}
+use Rattle.law_trace.specs.Trace.Readable.{AreMembers, Below, IsMessage, IsName, IsPassed, IsSimple, IsValue}
+use Rattle.law_trace.proofs.Trace.ValuesAgain.{both}
+use Rattle.law_trace.proofs.Trace.ScanLemmas.{other_on, run_on}
 use Rattle.law_read.proofs.ReadTexts.Quiet.{In, Stops, character_word, is_quiet, quiet_by, quiet_word, quoted_word, rooted}
 use Rattle.law_read.proofs.ReadTexts.Utf8.{ascii, decimal_low, is_low, quoted_character_utf8, shortened_utf8, verb_utf8}
 

@@ -11,8 +11,8 @@ use Rattle.std.proofs.lemmas.Str.{IsUtf8-append, IsUtf8-encode, IsUtf8-from_asci
 use Rattle.def_text.specs.Quoting.{by_number, escaped, escaped_character, quoted, quoted_character, shortened, shown_length}
 use Rattle.def_text.specs.Keywords.{is_identifier, printed_verb}
 use Rattle.ev_text.proofs.QuotingLemmas.{escaped_first}
-use Rattle.law_text.proofs.Front.{both_true}
-use Rattle.law_text.proofs.Valued.{decimal_passes}
+use Rattle.law_text.proofs.Text.Front.{both_true}
+use Rattle.law_text.proofs.Text.Valued.{decimal_passes}
 
 -- a byte of a word in ASCII
 abbrev pub is_low : ℕ → Bool

@@ -6,13 +6,13 @@ use Rattle.def_event.specs.declared.event.Event.{Event}
 use Rattle.def_event.specs.declared.event.Event.TheVariants.{End}
 use Rattle.def_event.specs.Lines.{line_of, render, words}
 use Rattle.ev_script.specs.Script.{rule}
-use Rattle.law_text.specs.Feeds.{AllOf}
+use Rattle.law_text.specs.Text.Feeds.{AllOf}
 use Rattle.ev_trace_words.specs.Laws.{AreNames}
 use Rattle.ev_trace.specs.Reading.{read, read_text}
-use Rattle.law_trace.specs.Readable.{Below, IsRead}
-use Rattle.law_trace.specs.Texts.{found}
-use Rattle.law_trace.proofs.LinesAgain.{goes}
-use Rattle.law_trace.proofs.Placed.{texts_numbered}
+use Rattle.law_trace.specs.Trace.Readable.{Below, IsRead}
+use Rattle.law_trace.specs.Trace.Texts.{found}
+use Rattle.law_trace.proofs.Trace.LinesAgain.{goes}
+use Rattle.law_trace.proofs.Trace.Placed.{texts_numbered}
 use Rattle.law_read.specs.ReadTexts.Texts.{TextsAreRead, TextsAreUtf8}
 use Rattle.law_read.proofs.ReadTexts.FewFound.{only_vats}
 use Rattle.law_read.proofs.ReadTexts.LinesTell.{line}

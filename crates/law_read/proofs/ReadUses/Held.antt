@@ -5,7 +5,7 @@ use Rattle.def_trace.specs.Uses.{JudgesUses}
 use Rattle.law_uses.proofs.KnownUses.Whole.{runs_hold_uses}
 use Rattle.law_read.proofs.ReadScripts.Meets.{accepted}
 use Rattle.law_schedule.specs.Scripts.{machine_script}
-use Rattle.law_text.specs.Runs.{events_of}
+use Rattle.law_text.specs.Text.Runs.{events_of}
 use Rattle.law_read.specs.ReadUses.Uses.{TextsHoldUses}
 use Rattle.law_read.proofs.ReadUses.Judged.{judged_as_read}
 

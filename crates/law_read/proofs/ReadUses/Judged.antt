@@ -19,17 +19,17 @@ use Rattle.law_read.proofs.ReadTexts.ScriptsRead.{are_names, events_of_scripts}
 use Rattle.law_read.proofs.ReadTexts.Stops.{stop_lines}
 use Rattle.law_read.proofs.ReadTexts.WholeTexts.{texts_read}
 use Rattle.law_schedule.specs.Scripts.{machine_script}
-use Rattle.law_text.specs.Feeds.{AllOf}
-use Rattle.law_text.specs.Runs.{events_of}
-use Rattle.law_text_runs.proofs.Runs.{named}
-use Rattle.law_trace.specs.Placed.{numbered}
-use Rattle.law_trace.specs.Readable.{Below, IsRead}
-use Rattle.law_trace.specs.Seen.{seen}
-use Rattle.law_trace.specs.Texts.{found}
-use Rattle.law_uses_seen.specs.Alike.{UsesAreSame}
-use Rattle.law_uses_seen.proofs.Joining.{hold_same, hold_through}
-use Rattle.law_uses_seen.proofs.ReadAgain.{read_alike}
-use Rattle.law_uses_seen.proofs.SeenAlike.{uses_without_frames}
+use Rattle.law_text.specs.Text.Feeds.{AllOf}
+use Rattle.law_text.specs.Text.Runs.{events_of}
+use Rattle.law_text.proofs.RunTexts.Runs.{named}
+use Rattle.law_trace.specs.Trace.Placed.{numbered}
+use Rattle.law_trace.specs.Trace.Readable.{Below, IsRead}
+use Rattle.law_trace.specs.Trace.Seen.{seen}
+use Rattle.law_trace.specs.Trace.Texts.{found}
+use Rattle.law_trace.specs.UsesSeen.Alike.{UsesAreSame}
+use Rattle.law_trace.proofs.UsesSeen.Joining.{hold_same, hold_through}
+use Rattle.law_trace.proofs.UsesSeen.ReadAgain.{read_alike}
+use Rattle.law_trace.proofs.UsesSeen.SeenAlike.{uses_without_frames}
 use Rattle.law_read.specs.ReadUses.Uses.{UsesAreJudgedAsRead}
 
 -- what bytes say is what their text says

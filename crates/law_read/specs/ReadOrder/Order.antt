@@ -10,7 +10,7 @@ use Rattle.law_order.specs.Order.{Ordered}
 use Rattle.law_read.specs.ReadScripts.Runs.{AreReadTo}
 use Rattle.law_read.specs.ReadTexts.Runs.{trace_of}
 use Rattle.law_schedule.specs.Scripts.{machine_script}
-use Rattle.law_text.specs.Runs.{events_of}
+use Rattle.law_text.specs.Text.Runs.{events_of}
 
 -- Law: of a script that is read, and so are its programs, the history of the run, with its frames, and what is read of its text.
 abbrev pub OrderIsKeptAsRead : Type 0

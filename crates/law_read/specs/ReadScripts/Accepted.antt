@@ -9,7 +9,7 @@ use Rattle.ev_script.specs.declared.script.Script.{Script}
 use Rattle.law_name.specs.Runs.{KnowsOnce}
 use Rattle.law_reference.specs.Cuts.{NoticesFollowCuts}
 use Rattle.law_fate.specs.WholeFateRuns.{KnowsVats}
-use Rattle.law_text.specs.Values.{AreVats}
+use Rattle.law_text.specs.Text.Values.{AreVats}
 
 -- what they ask
 abbrev pub MeetsTheLaws : world.Script → Type 0

@@ -6,7 +6,7 @@ use Rattle.def_run.specs.Text.{vat_names}
 use Rattle.ev_script.specs.Script.{read}
 use Rattle.ev_script.specs.declared.script.Script.{Script}
 use Rattle.law_schedule.specs.Scripts.{machine_script}
-use Rattle.law_text_runs.specs.Laws.{IsBounded, TextsTell}
+use Rattle.law_text.specs.RunTexts.Laws.{IsBounded, TextsTell}
 use Rattle.law_read.specs.ReadScripts.Runs.{AreReadTo}
 
 -- Law: in the run of a script that is read, of programs that are read, no vat makes 2 ^ 64 things, and fewer words are drawn.

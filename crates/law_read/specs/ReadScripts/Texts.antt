@@ -5,8 +5,8 @@ use Rattle.def_run.specs.World.{run}
 use Rattle.def_run.specs.Text.{vat_names}
 use Rattle.law_kernel_form.specs.Trees.{IsTree}
 use Rattle.law_schedule.specs.Scripts.{machine_script}
-use Rattle.law_text.specs.Feeds.{AllOf}
-use Rattle.law_text_runs.specs.Laws.{IsShort, IsBounded, TextsTell}
+use Rattle.law_text.specs.Text.Feeds.{AllOf}
+use Rattle.law_text.specs.RunTexts.Laws.{IsShort, IsBounded, TextsTell}
 use Rattle.ev_script.specs.Script.{read}
 use Rattle.ev_script.specs.declared.script.Script.{Script}
 

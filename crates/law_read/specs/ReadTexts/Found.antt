@@ -4,10 +4,10 @@ use Rattle.def_event.specs.declared.event.Event.{Event}
 use Rattle.def_event.specs.Lines.{words}
 use Rattle.ev_trace_words.specs.Laws.{AreNames}
 use Rattle.ev_trace.specs.Naming.{line_vats}
-use Rattle.law_text.specs.Feeds.{AllOf}
-use Rattle.law_trace.specs.Found.{Stands}
-use Rattle.law_trace.specs.Readable.{Below, IsRead}
-use Rattle.law_trace.specs.Texts.{found}
+use Rattle.law_text.specs.Text.Feeds.{AllOf}
+use Rattle.law_trace.specs.Trace.Found.{Stands}
+use Rattle.law_trace.specs.Trace.Readable.{Below, IsRead}
+use Rattle.law_trace.specs.Trace.Texts.{found}
 
 -- each name that is found in the line of an event is that of a vat
 abbrev pub LinesNameVats : Type 0

@@ -6,15 +6,15 @@ use Rattle.def_machine.specs.State.{Stop, Fuel, Deep, Repeated, Astray}
 use Rattle.def_run.specs.World.{Script, World, Run, Goes, Stopped, run}
 use Rattle.def_run.specs.Text.{vat_names, stop_line, text}
 use Rattle.def_trace.specs.declared.trace.Trace.{Trace}
-use Rattle.law_text.specs.Feeds.{AllOf}
-use Rattle.law_text.specs.Runs.{events_of}
-use Rattle.law_text_runs.specs.Laws.{IsOfVats, IsBounded}
+use Rattle.law_text.specs.Text.Feeds.{AllOf}
+use Rattle.law_text.specs.Text.Runs.{events_of}
+use Rattle.law_text.specs.RunTexts.Laws.{IsOfVats, IsBounded}
 use Rattle.ev_trace_words.specs.Laws.{AreNames}
 use Rattle.ev_trace.specs.Reading.{read}
-use Rattle.law_trace.specs.Placed.{numbered}
-use Rattle.law_trace.specs.Readable.{Below, IsRead}
-use Rattle.law_trace.specs.Seen.{seen}
-use Rattle.law_trace.specs.Texts.{found}
+use Rattle.law_trace.specs.Trace.Placed.{numbered}
+use Rattle.law_trace.specs.Trace.Readable.{Below, IsRead}
+use Rattle.law_trace.specs.Trace.Seen.{seen}
+use Rattle.law_trace.specs.Trace.Texts.{found}
 
 -- the events of which the text of a run has lines
 abbrev pub shown_of : Run → List Event

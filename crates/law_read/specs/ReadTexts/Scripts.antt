@@ -8,8 +8,8 @@ use Rattle.ev_script.specs.declared.script.Script.{Script}
 use Rattle.ev_trace.specs.Reading.{read}
 use Rattle.law_read.specs.ReadScripts.Runs.{AreReadTo}
 use Rattle.law_schedule.specs.Scripts.{machine_script}
-use Rattle.law_text.specs.Feeds.{AllOf}
-use Rattle.law_trace.specs.Readable.{Below, IsRead}
+use Rattle.law_text.specs.Text.Feeds.{AllOf}
+use Rattle.law_trace.specs.Trace.Readable.{Below, IsRead}
 use Rattle.law_read.specs.ReadTexts.Runs.{TellsLowOf, shown_of, trace_of}
 
 -- Law: the line of each event of the run of a script that is read, of programs that are read, is read again.

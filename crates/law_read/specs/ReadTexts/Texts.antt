@@ -4,14 +4,14 @@ use Rattle.std.specs.Str.{IsUtf8}
 use Rattle.def_event.specs.declared.event.Event.{Event}
 use Rattle.def_event.specs.declared.event.Event.TheVariants.{End}
 use Rattle.def_event.specs.Lines.{render}
-use Rattle.law_text.specs.Feeds.{AllOf, IsOneLine}
+use Rattle.law_text.specs.Text.Feeds.{AllOf, IsOneLine}
 use Rattle.ev_trace_words.specs.Laws.{AreNames}
 use Rattle.ev_trace_words.specs.Words.{words_of}
 use Rattle.ev_trace.specs.Reading.{is_stop, read}
-use Rattle.law_trace.specs.Placed.{numbered}
-use Rattle.law_trace.specs.Readable.{Below, IsRead}
-use Rattle.law_trace.specs.Seen.{seen}
-use Rattle.law_trace.specs.Texts.{found}
+use Rattle.law_trace.specs.Trace.Placed.{numbered}
+use Rattle.law_trace.specs.Trace.Readable.{Below, IsRead}
+use Rattle.law_trace.specs.Trace.Seen.{seen}
+use Rattle.law_trace.specs.Trace.Texts.{found}
 
 -- the text of events is UTF-8
 abbrev pub TextsAreUtf8 : Type 0

@@ -8,8 +8,8 @@ use Rattle.ev_script.specs.declared.script.Script.{Script}
 use Rattle.law_read.specs.ReadScripts.Runs.{AreReadTo}
 use Rattle.law_read.specs.ReadTexts.Runs.{trace_of}
 use Rattle.law_schedule.specs.Scripts.{machine_script}
-use Rattle.law_text.specs.Runs.{events_of}
-use Rattle.law_uses_seen.specs.Alike.{HoldAlike}
+use Rattle.law_text.specs.Text.Runs.{events_of}
+use Rattle.law_trace.specs.UsesSeen.Alike.{HoldAlike}
 
 -- Law: of a script that is read, and so are its programs, the history of the run, with its frames, and what is read of its text.
 abbrev pub UsesAreJudgedAsRead : Type 0

@@ -1,4 +1,4 @@
-use Rattle.law_gift.proofs.Stays.{gifts_stay}
+use Rattle.law_gift.proofs.Gift.Stays.{gifts_stay}
 use Rattle.law_gift.proofs.gifts.gifts_stay.Goals as goal
 
 pub returns : goal.returns

@@ -1,4 +1,4 @@
-use Rattle.law_text.proofs.Stopped.{texts_tell_runs}
+use Rattle.law_text.proofs.Text.Stopped.{texts_tell_runs}
 use Rattle.law_text.proofs.histories.texts_tell_runs.Goals as goal
 
 pub returns : goal.returns

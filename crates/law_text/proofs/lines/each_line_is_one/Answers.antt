@@ -1,4 +1,4 @@
-use Rattle.law_text.proofs.Told.{event_line}
+use Rattle.law_text.proofs.Text.Told.{event_line}
 use Rattle.law_text.proofs.lines.each_line_is_one.Goals as goal
 
 pub returns : goal.returns

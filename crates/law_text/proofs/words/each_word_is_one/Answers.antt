@@ -1,4 +1,4 @@
-use Rattle.law_text.proofs.Told.{event_words}
+use Rattle.law_text.proofs.Text.Told.{event_words}
 use Rattle.law_text.proofs.words.each_word_is_one.Goals as goal
 
 pub returns : goal.returns

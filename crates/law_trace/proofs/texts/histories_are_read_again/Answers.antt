@@ -1,4 +1,4 @@
-use Rattle.law_trace.proofs.WholeAgain.{histories_again}
+use Rattle.law_trace.proofs.Trace.WholeAgain.{histories_again}
 use Rattle.law_trace.proofs.texts.histories_are_read_again.Goals as goal
 
 pub returns : goal.returns

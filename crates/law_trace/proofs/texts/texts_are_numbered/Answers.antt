@@ -1,4 +1,4 @@
-use Rattle.law_trace.proofs.Placed.{texts_numbered}
+use Rattle.law_trace.proofs.Trace.Placed.{texts_numbered}
 use Rattle.law_trace.proofs.texts.texts_are_numbered.Goals as goal
 
 pub returns : goal.returns

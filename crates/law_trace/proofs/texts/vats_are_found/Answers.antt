@@ -1,4 +1,4 @@
-use Rattle.law_trace.proofs.VatsFound.{vats_found}
+use Rattle.law_trace.proofs.Trace.VatsFound.{vats_found}
 use Rattle.law_trace.proofs.texts.vats_are_found.Goals as goal
 
 pub returns : goal.returns

@@ -1,4 +1,4 @@
-use Rattle.law_trace.proofs.CharactersAgain.{characters_again}
+use Rattle.law_trace.proofs.Trace.CharactersAgain.{characters_again}
 use Rattle.law_trace.proofs.values.characters_are_read_again.Goals as goal
 
 pub returns : goal.returns

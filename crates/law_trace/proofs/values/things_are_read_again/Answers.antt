@@ -1,4 +1,4 @@
-use Rattle.law_trace.proofs.ValuesAgain.{values_again}
+use Rattle.law_trace.proofs.Trace.ValuesAgain.{values_again}
 use Rattle.law_trace.proofs.values.things_are_read_again.Goals as goal
 
 pub returns : goal.returns

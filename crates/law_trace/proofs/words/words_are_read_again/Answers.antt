@@ -1,4 +1,4 @@
-use Rattle.law_trace.proofs.WordsAgain.{words_again}
+use Rattle.law_trace.proofs.Trace.WordsAgain.{words_again}
 use Rattle.law_trace.proofs.words.words_are_read_again.Goals as goal
 
 pub returns : goal.returns

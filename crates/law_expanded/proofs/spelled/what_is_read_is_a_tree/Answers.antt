@@ -1,5 +1,0 @@
-use Rattle.law_expanded.proofs.Tokens.{what_is_read_is_a_tree}
-use Rattle.law_expanded.proofs.spelled.what_is_read_is_a_tree.Goals as goal
-
-pub returns : goal.returns
-returns c = what_is_read_is_a_tree

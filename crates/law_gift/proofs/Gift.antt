@@ -1,0 +1,10 @@
+pub mod Stays
+pub mod BrokenForGood
+pub mod Kept
+pub mod Rests
+pub mod Opened
+pub mod Steps
+pub mod Found
+pub mod Keeps
+pub mod Runs
+pub mod Broken

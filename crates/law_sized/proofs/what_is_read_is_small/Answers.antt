@@ -1,5 +1,0 @@
-use Rattle.law_sized.proofs.Small.{what_is_read_is_small}
-use Rattle.law_sized.proofs.what_is_read_is_small.Goals as goal
-
-pub returns : goal.returns
-returns c = what_is_read_is_small

@@ -1,0 +1,12 @@
+pub mod Fine
+pub mod Texts
+pub mod Natives
+pub mod Refs
+pub mod Arrive
+pub mod Perform
+pub mod Calls
+pub mod Eval
+pub mod Worlds
+pub mod Shown
+pub mod Trees
+pub mod Runs

@@ -1,0 +1,15 @@
+pub mod Front
+pub mod Plain
+pub mod Reading
+pub mod Quotes
+pub mod Spelled
+pub mod Split
+pub mod Told
+pub mod Named
+pub mod Valued
+pub mod Kinded
+pub mod Hexed
+pub mod Verbs
+pub mod Parted
+pub mod Rebuilt
+pub mod Stopped
