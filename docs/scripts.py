@@ -1,5 +1,5 @@
 #!/usr/bin/env python3
-"""Makes the scripts of several vats in crates/test_rows/data from what a reader reads.
+"""Makes the scripts of several vats in rows from what a reader reads.
 
 Run it at the top of the repository. Of each NAME.vats it writes the script NAME.json. NAME.vats has, in this order, some
 lines on what the script shows; for each vat a line `=== vat NAME`, with `knows` and the names of those that it knows where
@@ -10,7 +10,7 @@ import json
 import pathlib
 import sys
 
-DATA = pathlib.Path("crates/test_rows/data")
+DATA = pathlib.Path("rows")
 KEY = "0" * 64
 
 
