@@ -18,6 +18,8 @@ Words of the form `KEY=NUMBER` are none of the command, and say how the program 
 
 The last line counts the rows. The status is 1 where a row comes out otherwise, and those are named.
 """
+from __future__ import annotations
+
 import os
 import pathlib
 import subprocess
@@ -29,6 +31,8 @@ BINARY = ROWS.parent / "crates" / "evat" / "out" / "evat"
 KEYS = {"spaces", "byte", "serves", "fails", "refuses", "puts"}
 # The most bytes that are one packet of a pipe of packets, of which a read takes one.
 PACKET = 4096
+# What a call may take, in seconds.
+SECONDS = 120
 RIGHT = b"order yes\nuses yes\n"
 
 
@@ -78,23 +82,33 @@ def packets(end: int) -> list[bytes]:
     return found
 
 
+def called_where_streams_fail(binary: str, words: list[str], keys: dict, given: bytes) -> tuple[int, bytes, int]:
+    """The same where the input is a folder, which cannot be read, or the output a device that is full."""
+    how = {"stderr": subprocess.DEVNULL, "timeout": SECONDS}
+    if "refuses" in keys:
+        with open("/dev/full", "wb") as full:
+            return subprocess.run([binary, *words], input=given, stdout=full, **how).returncode, b"", 0
+    folder = os.open(ROWS, os.O_RDONLY)
+    ran = subprocess.run([binary, *words], stdin=folder, stdout=subprocess.PIPE, **how)
+    os.close(folder)
+    return ran.returncode, ran.stdout, 0
+
+
 def called(binary: str, words: list[str], keys: dict, given: bytes) -> tuple[int, bytes, int]:
     """The status, what was written, and in how many writes (of at most PACKET bytes)."""
-    if "fails" in keys or "refuses" in keys:
-        with open(os.devnull) as nothing, open("/dev/full", "wb") as full:
-            source = os.open(ROWS, os.O_RDONLY) if "fails" in keys else None
-            how = {"stdin": source} if source is not None else {"input": given}
-            ran = subprocess.run([binary, *words], stdout=full if "refuses" in keys else subprocess.PIPE, stderr=nothing, **how)
-            if source is not None:
-                os.close(source)
-            return ran.returncode, ran.stdout or b"", 0
+    if keys.keys() & {"fails", "refuses"}:
+        return called_where_streams_fail(binary, words, keys, given)
     source, feed = os.pipe2(os.O_DIRECT | os.O_CLOEXEC)
     drain, sink = os.pipe2(os.O_DIRECT | os.O_CLOEXEC)
     with subprocess.Popen([binary, *words], stdin=source, stdout=sink, stderr=subprocess.DEVNULL) as program:
         os.close(source)
         os.close(sink)
         threading.Thread(target=put, args=(feed, given, min(keys.get("serves", PACKET), PACKET)), daemon=True).start()
+        too_long = threading.Timer(SECONDS, program.kill)
+        too_long.start()
         told = packets(drain)
+        program.wait()
+        too_long.cancel()
     return program.returncode, b"".join(told), len(told)
 
 
