@@ -142,7 +142,7 @@ def print_senders(script: pathlib.Path) -> None:
 def main() -> None:
     bench = build()
     with tempfile.TemporaryDirectory() as room:
-        print_loops(bench, pathlib.Path(room) / "form")
+        print_loops(bench, pathlib.Path(room) / "program")
         print_senders(pathlib.Path(room) / "script")
 
 
