@@ -1,7 +1,6 @@
 //! The nodes of a kernel tree.
 
-use ev_base::{NodeId, Seq};
-use ev_word::{Text, Word};
+use ev_base::{NodeId, Seq, Text, Word};
 
 /// A literal value. A text is held in UTF-8, and an integer within 128 bits with a sign.
 pub enum Literal {

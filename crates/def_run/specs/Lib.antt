@@ -4,3 +4,7 @@ pub mod Wire
 pub mod World
 pub mod Shown
 pub mod Text
+pub mod Names
+pub mod Vats
+pub mod Numbers
+pub mod LocalText

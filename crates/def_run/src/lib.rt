@@ -1,2 +1,2 @@
-//! Runs of the machine: vats on links, the schedule, and the text of the history.
+//! The run of a script in the machine: worlds, entries, links, costs; and the same run in the numbers of each vat.
 #![tactic(auto)]

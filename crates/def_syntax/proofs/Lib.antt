@@ -1,0 +1,10 @@
+pub mod Numbering
+pub mod Checks
+pub mod Good
+pub mod Sound
+pub mod Complete
+pub mod Lawful
+pub mod Low
+pub mod Verdicts
+pub mod Answers
+pub mod Examples

@@ -12,3 +12,10 @@ pub mod Notices
 pub mod Views
 pub mod Viewings
 pub mod Delivers
+pub mod Kept
+pub mod Learns
+pub mod Hears
+pub mod Arrives
+pub mod Received
+pub mod Receives
+pub mod Fits

@@ -7,3 +7,10 @@ pub mod Viewing
 pub mod Delivering
 pub mod Reading
 pub mod Statements
+pub mod Bringing
+pub mod Learning
+pub mod Noting
+pub mod Receiving
+pub mod Hearing
+pub mod Fitting
+pub mod ReceivingStatements

@@ -8,11 +8,10 @@ ghost use Rattle.ev_settle.specs.Settling as settling;
 
 use crate::breaking::break_name;
 use crate::host::{Carried, Host, come, send_out, to_tell};
-use ev_base::{MsgId, PromId, Seq, Value, VatId};
+use ev_base::{MsgId, PromId, Seq, Value, VatId, Word};
 use ev_pass::{Note, Stop, Swiss};
 use ev_refs::Message;
 use ev_settle::changes;
-use ev_word::Word;
 
 /// A message of another vat comes to be here.
 #[tactic(auto, using(crate::proofs::Within::inside_gives), unfolding(crate::specs::Acts::within))]

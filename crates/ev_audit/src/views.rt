@@ -4,9 +4,8 @@ ghost use Rattle.std.specs.Prelude.{◌≡◌, IfOk, option_map};
 ghost use Rattle.ev_audit.specs.Views.{free_held};
 
 use crate::auditions::bound_of;
-use ev_base::Memory;
+use ev_base::{Memory, Word};
 use ev_heap::{Capture, FreeName};
-use ev_word::Word;
 use std::alloc::Global;
 
 /// A free name of an object that is being made, by the object's own name and by what the scope of the object expression binds

@@ -1,2 +1,3 @@
 pub mod SafeScope
 pub mod formers
+pub mod Keys

@@ -17,7 +17,7 @@ impl Model for VatId {
 }
 
 /// The number of a primitive of the safe scope.
-#[derive(Clone, Copy, PartialEq, Eq, Hash)]
+#[derive(Clone, Copy, PartialEq, Eq)]
 pub struct PrimId(pub u8);
 
 impl Model for PrimId {
@@ -31,7 +31,7 @@ impl Model for PrimId {
 }
 
 /// The number of an object, ejector, resolver or audition in the heap of its vat.
-#[derive(Clone, Copy, PartialEq, Eq, Hash)]
+#[derive(Clone, Copy, PartialEq, Eq)]
 pub struct ObjId(pub u64);
 
 impl Model for ObjId {
@@ -45,7 +45,7 @@ impl Model for ObjId {
 }
 
 /// The number of a name of a promise or a far reference in its vat, by the order in which the vat came to know it.
-#[derive(Clone, Copy, PartialEq, Eq, Hash)]
+#[derive(Clone, Copy, PartialEq, Eq)]
 pub struct PromId(pub u64);
 
 impl Model for PromId {
@@ -59,7 +59,7 @@ impl Model for PromId {
 }
 
 /// The number of a var slot in the heap of its vat.
-#[derive(Clone, Copy, PartialEq, Eq, Hash)]
+#[derive(Clone, Copy)]
 pub struct SlotId(pub u64);
 
 impl Model for SlotId {
@@ -73,7 +73,7 @@ impl Model for SlotId {
 }
 
 /// The number of a list in the heap of its vat.
-#[derive(Clone, Copy, PartialEq, Eq, Hash)]
+#[derive(Clone, Copy, PartialEq, Eq)]
 pub struct ListId(pub u64);
 
 impl Model for ListId {
@@ -87,7 +87,7 @@ impl Model for ListId {
 }
 
 /// The number of a text in the heap of its vat.
-#[derive(Clone, Copy, PartialEq, Eq, Hash)]
+#[derive(Clone, Copy, PartialEq, Eq)]
 pub struct TextId(pub u64);
 
 impl Model for TextId {
@@ -101,7 +101,7 @@ impl Model for TextId {
 }
 
 /// The number of a message in its vat.
-#[derive(Clone, Copy, PartialEq, Eq, Hash)]
+#[derive(Clone, Copy)]
 pub struct MsgId(pub u64);
 
 impl Model for MsgId {
@@ -115,7 +115,7 @@ impl Model for MsgId {
 }
 
 /// The number of an activation of its vat.
-#[derive(Clone, Copy, PartialEq, Eq, Hash)]
+#[derive(Clone, Copy)]
 pub struct ActId(pub u64);
 
 impl Model for ActId {
@@ -129,7 +129,7 @@ impl Model for ActId {
 }
 
 /// The number of a node in its kernel tree.
-#[derive(Clone, Copy, Debug, PartialEq, Eq, Hash)]
+#[derive(Clone, Copy, Debug)]
 pub struct NodeId(pub u64);
 
 impl Model for NodeId {

@@ -5,7 +5,7 @@ use std::error::Error;
 use std::fmt;
 
 /// Want of memory.
-#[derive(Clone, Copy, Debug, PartialEq, Eq)]
+#[derive(Clone, Copy, Debug)]
 pub struct Memory;
 
 impl fmt::Display for Memory {
@@ -33,7 +33,7 @@ impl<T: Drop> From<AllocFailed<T>> for Memory {
 }
 
 /// What a turn may use at most: `depth` is the greatest depth at which a node may begin.
-#[derive(Clone, Copy, PartialEq, Eq)]
+#[derive(Clone, Copy)]
 pub struct Limits {
     pub depth: u32,
 }

@@ -49,14 +49,6 @@ impl Str {
         })
     }
 
-    /// The string, given back.
-    pub fn into_string(self) -> String
-        ensures { string_bytes result ≡ self }
-    {
-        let Str { text } = self;
-        text
-    }
-
     /// The text, lent.
     pub fn as_str(&self) -> &str
         ensures { result.now ≡ self.now }

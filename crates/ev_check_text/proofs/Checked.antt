@@ -3,13 +3,13 @@ use Rattle.std.proofs.Common.{◌≡◌, ◌<◌, ◌≤◌, ℕ, length, List, 
 use Rattle.std.specs.Io.KnownBytes.{IsAtEnd}
 use Rattle.ev_io.specs.Ends.{Takes}
 use Rattle.ev_io.specs.declared.read.ReadEnd.TheVariants.{TooLong as TooMany}
-use Rattle.def_trace.specs.declared.trace.Trace.{Trace}
+use Rattle.def_event.specs.declared.trace.Trace.{Trace}
 use Rattle.ev_check_text.specs.Due.{IsDueOfBytes, IsDueOfInput, IsDueOfTrace}
-use Rattle.ev_reply.specs.Debt.{IsFor, most_bytes, too_long}
-use Rattle.ev_reply.specs.Paying.{IsDueOfCounted, IsOfWhole, Pays}
-use Rattle.ev_reply.specs.declared.status.Status.{Status}
-use Rattle.ev_reply.specs.declared.status.Status.TheVariants.{Memory, ReadFault}
-use Rattle.ev_reply.proofs.PayLemmas.{due_read, due_unread, is_few, is_long, memory_left, read_fault_left}
+use Rattle.ev_io.specs.Debt.{IsFor, most_bytes, too_long}
+use Rattle.ev_io.specs.Paying.{IsDueOfCounted, IsOfWhole, Pays}
+use Rattle.ev_io.specs.declared.status.Status.{Status}
+use Rattle.ev_io.specs.declared.status.Status.TheVariants.{Memory, ReadFault}
+use Rattle.ev_io.proofs.PayLemmas.{due_read, due_unread, is_few, is_long, memory_left, read_fault_left}
 use Rattle.ev_trace.specs.Reading.{read as trace_from}
 
 pub of_trace : (found : Result Trace ℕ) (status : Status) (text : List ℕ) → IsDueOfTrace found status text → IsOfWhole status

@@ -4,8 +4,8 @@ use Rattle.std.proofs.Common.{refl, sym, ap, subst, ◌∙◌, inl, inr}
 use Rattle.std.proofs.lemmas.Bool.{cases_order}
 use Rattle.ev_base.specs.declared.names.Msg.{Msg}
 use Rattle.def_event.specs.declared.event.Event.{Event}
-use Rattle.def_trace.specs.Order.{Sending, Taking, sending, taking, DoesAt, IsOvertaken, IsFirstOvertaken, JudgesOrder}
-use Rattle.def_trace.specs.Uses.{Line, IsFirstFailing, LineHolds}
+use Rattle.def_event.specs.Order.{Sending, Taking, sending, taking, DoesAt, IsOvertaken, IsFirstOvertaken, JudgesOrder}
+use Rattle.def_event.specs.Uses.{Line, IsFirstFailing, LineHolds}
 use Rattle.ev_check_text.specs.Checks.{order_line, uses_line}
 use Rattle.ev_check_text.specs.Laws.{IsJudgedOnce}
 

@@ -4,9 +4,9 @@ use Rattle.std.specs.declared.alloc.Global.{Global}
 use Rattle.std.specs.declared.option.Option.{Option}
 use Rattle.ev_base.specs.declared.names.Msg.{Msg}
 use Rattle.def_event.specs.Lines.{message}
-use Rattle.def_trace.specs.Order.{JudgesOrder}
-use Rattle.def_trace.specs.Uses.{JudgesUses}
-use Rattle.def_trace.specs.declared.trace.Trace.{Trace}
+use Rattle.def_event.specs.Order.{JudgesOrder}
+use Rattle.def_event.specs.Uses.{JudgesUses}
+use Rattle.def_event.specs.declared.trace.Trace.{Trace}
 use Rattle.ev_script.specs.declared.script.ScriptFault.{ScriptFault}
 use Rattle.ev_script.specs.declared.script.ScriptFault.TheVariants.{Rule, Memory}
 

@@ -1,11 +1,11 @@
 -- What is due for the text of a run.
 use Rattle.std.specs.Prelude.{◌≡◌, ℕ, nat_lt, List, length, Result, Ok, Err}
-use Rattle.def_trace.specs.declared.trace.Trace.{Trace}
+use Rattle.def_event.specs.declared.trace.Trace.{Trace}
 use Rattle.ev_check_text.specs.Checks.{Checks}
-use Rattle.ev_reply.specs.Debt.{IsFor, bytes_refused, most_bytes}
-use Rattle.ev_reply.specs.Paying.{IsDueOfCounted}
-use Rattle.ev_reply.specs.declared.status.Status.{Status}
-use Rattle.ev_reply.specs.declared.status.Status.TheVariants.{Done}
+use Rattle.ev_io.specs.Debt.{IsFor, bytes_refused, most_bytes}
+use Rattle.ev_io.specs.Paying.{IsDueOfCounted}
+use Rattle.ev_io.specs.declared.status.Status.{Status}
+use Rattle.ev_io.specs.declared.status.Status.TheVariants.{Done}
 use Rattle.ev_trace.specs.Reading.{read as trace_from}
 
 -- the judgement on its trace, or the refusal of bytes that are none

@@ -1,6 +1,6 @@
 -- What holds of judgements.
 use Rattle.std.specs.Prelude.{◌≡◌, ℕ, List}
-use Rattle.def_trace.specs.declared.trace.Trace.{Trace}
+use Rattle.def_event.specs.declared.trace.Trace.{Trace}
 use Rattle.ev_check_text.specs.Checks.{Checks}
 
 -- No two texts are the judgement on a trace.

@@ -4,12 +4,14 @@ ghost use Rattle.std.specs.Prelude.{◌≡◌, ◌≤◌, IfOk, IfSome, string_b
 ghost use Rattle.std.specs.Io.KnownBytes.{IsAtEnd};
 ghost use Rattle.ev_check_text.specs.Due.{IsDueOfBytes, IsDueOfInput};
 ghost use Rattle.ev_io.specs.Causes.{Rose};
-ghost use Rattle.ev_reply.specs.Paying.{IsOfRead, IsOfWhole, Pays, Reads, ReadsFor};
+ghost use Rattle.ev_io.specs.Paying.{IsOfRead, IsOfWhole, Pays, Reads, ReadsFor};
 
 use crate::telling::tell;
 use ev_base::Memory;
-use ev_io::{ReadEnd, Sink, Source, read_all};
-use ev_reply::{Early, MOST_BYTES, Reply, Status, finish, reply_line, reply_rule};
+use ev_io::{
+    Early, MOST_BYTES, ReadEnd, Reply, Sink, Source, Status, finish, read_all, reply_line,
+    reply_rule,
+};
 use ev_script::ScriptFault;
 use std::alloc::Global;
 
@@ -45,7 +47,7 @@ fn check_input<S: Source>(alloc: Global, src: &mut S) -> Result<Reply, Early>
 }
 
 /// Judges the text of a run that a source holds, and writes what `evat check` writes. At most `MOST_BYTES` and one more are read.
-#[tactic(auto, using(ev_reply::proofs::PayLemmas::plain, ev_reply::proofs::PayLemmas::no_usage, crate::proofs::Checked::pays_memory, crate::proofs::Checked::pays_read_fault))]
+#[tactic(auto, using(ev_io::proofs::PayLemmas::plain, ev_io::proofs::PayLemmas::no_usage, crate::proofs::Checked::pays_memory, crate::proofs::Checked::pays_read_fault))]
 pub fn check_source<S: Source, K: Sink>(alloc: Global, src: &mut S, out: &mut K) -> Status
     // What is appended is what is due for all that the source has left, and so is the status.
     ensures due { IfSome (S.left src.old) (λ input. Pays (Unit {0}) (IsDueOfInput input) (K.written out.old) (K.written out.new) result) }

@@ -5,7 +5,7 @@ ghost use Rattle.def_event.specs.Lines.{message, vat};
 ghost use Rattle.ev_trace.specs.Reading.{read};
 ghost use Rattle.ev_check_text.specs.Checks.{Checks, Tells, order_line, overtaken_line, uses_line};
 
-use def_trace::Trace;
+use def_event::Trace;
 use ev_base::{Memory, Msg, Str, VatId};
 use ev_order::judge_order;
 use ev_script::ScriptFault;

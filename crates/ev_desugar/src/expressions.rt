@@ -8,9 +8,8 @@ use crate::asking::{ask, ask_named, named};
 use crate::lists::{one, three, two};
 use crate::words::{arithmetic, comparing, prefixing, ranging, updating};
 use def_kernel::{Literal, Node};
-use ev_base::{Memory, Seq, Str};
+use ev_base::{Memory, Seq, Str, Text};
 use ev_piece::{if_, lit, seq, set};
-use ev_word::Text;
 use std::alloc::Global;
 
 /// `null`

@@ -54,16 +54,6 @@ impl History {
         self.events.as_slice()
     }
 
-    /// Adds the events at the end in order, or refuses and adds none.
-    pub fn push_all(&mut self, events: Seq<Event>) -> Result<(), Memory>
-        ensures ok { OnOk result (self.new ≡ self.old ++ events) }
-        ensures err { OnErr result (self.new ≡ self.old) }
-    {
-        let mut events = events.into_vec();
-        self.events.append(&mut events)?;
-        Ok(())
-    }
-
     /// Forgets all events. The room that they took is kept for those to come.
     pub fn clear(&mut self)
         ensures { self.new ≡ [] }

@@ -9,4 +9,3 @@ pub mod values;
 pub mod words;
 
 pub use history::History;
-pub use line::push_line;

@@ -1,6 +1,6 @@
 //! The lines of events.
 
-ghost use Rattle.std.specs.Prelude.{◌≡◌, ◌/◌, ◌%◌, ◌++◌, ◌∷◌, [], IfOk, OnOk, OnErr, string_bytes, decimal, codes, flat_map};
+ghost use Rattle.std.specs.Prelude.{◌≡◌, ◌/◌, ◌%◌, ◌++◌, ◌∷◌, [], IfOk, OnOk, string_bytes, decimal, codes, flat_map};
 ghost use Rattle.std.specs.Char.{digit_char};
 ghost use Rattle.def_text.specs.Keywords.{printed_verb};
 ghost use Rattle.def_event.specs.declared.event.Event.TheVariants.{Call, Made, Send, When};
@@ -470,22 +470,6 @@ fn push_event(
         Event::Made(made) => push_made(alloc, out, names, made.get()),
         other => push_referred(alloc, out, names, other),
     }
-}
-
-/// Appends the line of an event and its line feed. A refusal leaves the text as it was.
-pub fn push_line(
-    alloc: Global,
-    event: &Event,
-    names: &Seq<Str>,
-    text: &mut Str,
-) -> Result<(), Memory>
-    ensures ok { OnOk result (text.new ≡ text.old ++ line_of names.now event.now ++ 10 ∷ []) }
-    ensures err { OnErr result (text.new ≡ text.old) }
-{
-    let mut line = String::new(alloc);
-    push_event(alloc, &mut line, names.as_slice(), event)?;
-    line.push('\n')?;
-    text.push(line.as_str())
 }
 
 /// About how many bytes a line has.

@@ -15,7 +15,7 @@ use std::error::Error;
 use std::fmt;
 
 /// Why a surface tree is not expanded. Each place is the number of a token.
-#[derive(Clone, Copy, Debug, PartialEq, Eq)]
+#[derive(Clone, Copy, Debug)]
 pub enum ExpandFault {
     /// A `return` round which the innermost `to`, `def f()`, `method`, `match`, `fn` or `when` is neither of the first two,
     /// or round which there is none.

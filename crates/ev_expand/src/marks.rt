@@ -10,7 +10,7 @@ use ev_base::{Memory, NodeId, Seq, Str, safe_value};
 use std::alloc::Global;
 
 /// What is wrong with a source that spells a tree.
-#[derive(Clone, Copy, PartialEq, Eq)]
+#[derive(Clone, Copy)]
 pub enum FaultKind {
     /// A `return` that belongs to no `to` and to no `def f()`.
     Return,
@@ -21,7 +21,7 @@ pub enum FaultKind {
 }
 
 /// A fault and the number of its token.
-#[derive(Clone, Copy, PartialEq, Eq)]
+#[derive(Clone, Copy)]
 pub struct Fault {
     pub kind: FaultKind,
     pub token: u64,
@@ -29,7 +29,7 @@ pub struct Fault {
 
 /// What is known of a node: the first `return`, `break` and `continue` in it that belong to something round it, each by
 /// the number of its token, and the first fault in it.
-#[derive(Clone, Copy, PartialEq, Eq)]
+#[derive(Clone, Copy)]
 pub struct Marks {
     pub returns: Option<u64>,
     pub breaks: Option<u64>,

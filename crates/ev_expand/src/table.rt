@@ -20,10 +20,9 @@ use crate::part::Part;
 use crate::reads::value_at;
 use def_kernel::{Literal, Node};
 use def_syntax::{Form, SugarNode};
-use ev_base::{Memory, Seq, Str};
+use ev_base::{Memory, Seq, Str, Text as Shared};
 use ev_desugar::{character, number, text};
 use ev_piece::{lit, noun};
-use ev_word::Text as Shared;
 use std::alloc::Global;
 
 /// A number.

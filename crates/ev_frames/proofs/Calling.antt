@@ -17,7 +17,7 @@ use Rattle.ev_room.specs.declared.object.Code.TheVariants.{Runs, Leaves, Resolve
 use Rattle.ev_room.specs.declared.scope.Binding.{Binding}
 use Rattle.ev_room.specs.declared.scope.Scope.{Scope}
 use Rattle.ev_room.specs.Acts.{Act, Out, Gives, Unless, and_then, ◌>>=◌, ◌>>◌, give, answer, cut, closed, closed_by, tell, new_activation, first_method, look_code, ejected, ejector_answer, call_ejector}
-use Rattle.ev_eventual.specs.Eventual.{resolving, resolver_answer, call_resolver}
+use Rattle.ev_steps.specs.Eventual.{resolving, resolver_answer, call_resolver}
 use Rattle.ev_steps.specs.Steps.{Caller, Evaluator, again_by, audition_answer, call_audition, answered, call_data, evaluator, bind_all, call, call_at, call_object, call_code, call_made, run_object, run_found, run_method, turn_code, turn_object, value_of_matchers}
 use Rattle.ev_frames.specs.declared.frames.Frame.{Frame}
 use Rattle.ev_frames.specs.declared.frames.Frame.TheVariants.{Body, Guard as GuardOf}

@@ -22,7 +22,7 @@ use Rattle.ev_pass.specs.declared.interior.Interior.{Interior as Room}
 use Rattle.ev_room.specs.declared.scope.Scope.{Scope}
 use Rattle.ev_room.specs.Acts.{Out, and_then, ◌>>=◌, ◌>>◌, give, fail, closed_by, ended_by, call_there}
 use Rattle.ev_refs.specs.Follow.{followed}
-use Rattle.ev_eventual.specs.declared.message.Request.{Request}
+use Rattle.ev_steps.specs.declared.message.Request.{Request}
 use Rattle.ev_steps.specs.Steps.{Caller, evaluator, again_by, call_at, call_value, called_with, iterate, turns, loop, after_turn, replied, compared, compared_at, compared_there, pair_there, answered, answered_there}
 use Rattle.ev_steps.proofs.Depth as depth
 use Rattle.ev_frames.specs.declared.frames.Frame.{Frame}

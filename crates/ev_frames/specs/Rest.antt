@@ -14,7 +14,7 @@ use Rattle.ev_room.specs.declared.exit.Came.TheVariants.{Gave, Threw, Left}
 use Rattle.ev_pass.specs.declared.interior.Interior.{Interior as Room}
 use Rattle.ev_prims.specs.declared.reply.Reply.{Reply}
 use Rattle.ev_refs.specs.Follow.{followed}
-use Rattle.ev_eventual.specs.Eventual.{message_in}
+use Rattle.ev_steps.specs.Eventual.{message_in}
 use Rattle.ev_room.specs.declared.scope.Scope.{Scope}
 use Rattle.ev_room.specs.Acts.{Act, Out, Unless, and_then, ◌>>=◌, ◌>>◌, give, fail, cut, write_slot, closed_by, new_activation, tell}
 use Rattle.ev_steps.specs.Steps.{Caller, Evaluator, evaluator, define_by, write_bound, bind_coerced, bind_under, bind_via, match_on, match_ended, matched, match_all, try_matchers, gathered, call, last_of, choose, escaped, tried, at_last, bind_all, again_by, iterate, turns, after_turn, replied, answered, called_with, is_true, audited, with_stamp, make_object, object_on}

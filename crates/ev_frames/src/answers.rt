@@ -11,7 +11,7 @@ ghost use Rattle.ev_frames.specs.Rest.{Goes, Nested, Replies, Stays, rest, settl
 use crate::frames::{Frames, Guard};
 use crate::natives::members_from;
 use crate::now::{Now, guard};
-use ev_base::{ActId, Memory, Seq, Value};
+use ev_base::{ActId, Memory, Seq, Value, Word};
 use ev_prims::{Reply, data_reply};
 use ev_refs::Refs;
 use ev_room::Program;
@@ -20,7 +20,6 @@ use ev_room::data::{call_there, make_list, problem_id, write_text};
 use ev_room::exit::{Came, Exit};
 use ev_room::room::{Room, tell_call};
 use ev_room::scope::Scope;
-use ev_word::Word;
 use std::alloc::Global;
 
 /// Does what data answers that does not call again.

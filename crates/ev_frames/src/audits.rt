@@ -15,7 +15,7 @@ use crate::natives::member_at;
 use crate::now::{Now, again, enter, given, guard};
 use crate::patterns::copied;
 use ev_audit::{AuditView, AuditionAsk, audition_ask};
-use ev_base::{NodeId, ObjId, Seq, TextId, Value};
+use ev_base::{NodeId, ObjId, Seq, TextId, Value, Word};
 use ev_prims::Problem;
 use ev_room::Program;
 use ev_room::audition::{
@@ -29,7 +29,6 @@ use ev_room::object::object_at;
 use ev_room::room::{Room, tell_call};
 use ev_room::scope::Scope;
 use ev_steps::pattern::part_at;
-use ev_word::Word;
 
 /// Whether an auditor's answer, as it is followed, approves: only true does.
 fn is_true(value: Value) -> bool

@@ -16,9 +16,7 @@ use crate::now::{Now, given};
 use crate::patterns::method_on;
 use crate::performs::perform;
 use def_kernel::Node;
-use ev_base::{ActId, Memory, NodeId, ObjId, Value};
-use ev_eventual::call_resolver;
-use ev_eventual::sending::NOT_NEAR;
+use ev_base::{ActId, Memory, NodeId, ObjId, Value, Word};
 use ev_room::Program;
 use ev_room::ejector::call_ejector;
 use ev_room::exit::Exit;
@@ -26,8 +24,9 @@ use ev_room::object::{Code, Object, look_code};
 use ev_room::room::{Room, new_activation, tell_call};
 use ev_room::scope::Scope;
 use ev_room::tree::{first_method, members_of};
+use ev_steps::call_resolver;
 use ev_steps::pattern::bind_from;
-use ev_word::Word;
+use ev_steps::sending::NOT_NEAR;
 use std::mem;
 
 /// The scope of a call is kept while the body of a method is run in its own.

@@ -8,7 +8,7 @@ ghost use Rattle.ev_frames.specs.Leaves.{Gathers, GathersAll, LeafGives, LeavesN
 ghost use Rattle.ev_room.specs.declared.scope.Scope.{Scope as Surroundings};
 
 use def_kernel::{Literal, Node};
-use ev_base::{NodeId, Seq, Value};
+use ev_base::{NodeId, Seq, Value, Word};
 use ev_room::Program;
 use ev_room::data::text_kept;
 use ev_room::exit::Exit;
@@ -17,7 +17,6 @@ use ev_room::room::{Room, spend};
 use ev_room::scope::Scope;
 use ev_room::tree::node_at;
 use ev_steps::pattern::part_at;
-use ev_word::Word;
 
 /// The value of a literal.
 #[tactic(auto, unfolding(ev_steps::specs::Steps::literal_value, ev_room::specs::Acts::give))]

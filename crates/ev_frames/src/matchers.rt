@@ -12,7 +12,7 @@ ghost use Rattle.ev_frames.specs.declared.frames.Frame.TheVariants.{Case as Case
 use crate::frames::{Frame, Frames};
 use crate::now::Now;
 use crate::patterns::binding;
-use ev_base::{Memory, NodeId, ObjId, Seq, Value};
+use ev_base::{Memory, NodeId, ObjId, Seq, Value, Word};
 use ev_heap::Happened;
 use ev_prims::Problem;
 use ev_room::Program;
@@ -22,7 +22,6 @@ use ev_room::exit::{Came, Exit};
 use ev_room::room::{Room, tell};
 use ev_room::scope::{Scope, cut};
 use ev_steps::matchers::{Matcher, matcher_at, matchers_of, message_pair};
-use ev_word::Word;
 
 /// A matcher has begun, whose pattern is to be bound.
 #[tactic(auto, using(crate::proofs::Rests::case_nested))]

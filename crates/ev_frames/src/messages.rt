@@ -11,8 +11,7 @@ use crate::calls::found_begins;
 use crate::frames::{Frames, Guard};
 use crate::now::{Now, given, guard};
 use crate::performs::perform;
-use ev_base::{ObjId, Value};
-use ev_eventual::resolver_answer;
+use ev_base::{ObjId, Value, Word};
 use ev_room::Program;
 use ev_room::ejector::ejector_answer;
 use ev_room::exit::Exit;
@@ -20,7 +19,7 @@ use ev_room::object::{Code, Object, look_code};
 use ev_room::room::Room;
 use ev_room::scope::Scope;
 use ev_room::tree::{first_method, members_of};
-use ev_word::Word;
+use ev_steps::resolver_answer;
 
 /// The code of an object runs in the turn's own activation, in the scope of the object's captures.
 #[tactic(auto, using(crate::proofs::Calling::run_begins, crate::proofs::Calling::run_nested))]

@@ -17,8 +17,7 @@ use crate::failings::coerces;
 use crate::frames::Frames;
 use crate::natives::turns_from;
 use crate::now::{Now, given};
-use ev_base::{PrimId, Value};
-use ev_eventual::{broken, make_promise, send_with, test_value, when_by};
+use ev_base::{PrimId, Value, Word};
 use ev_heap::Heap;
 use ev_prims::{Asked, Problem, Test, ask, compare, range};
 use ev_room::Program;
@@ -27,8 +26,7 @@ use ev_room::data::{is_there, make_list, problem_id, thrown_id};
 use ev_room::exit::{Came, Exit};
 use ev_room::room::Room;
 use ev_room::scope::Scope;
-use ev_same::same_ever;
-use ev_word::Word;
+use ev_steps::{broken, make_promise, same_ever, send_with, test_value, when_by};
 
 /// Whether two values stand in the heap.
 #[tactic(auto, unfolding(ev_steps::specs::Steps::pair_there))]

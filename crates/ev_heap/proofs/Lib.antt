@@ -1,1 +1,2 @@
 pub mod HeightLemmas
+pub mod Behind

@@ -1,8 +1,7 @@
 //! What happens in a step of one vat, in its own numbers.
 
 use crate::kept::Capture;
-use ev_base::{ActId, ListId, MsgId, PromId, Seq, SlotId, Value, VatId};
-use ev_word::Word;
+use ev_base::{ActId, ListId, MsgId, PromId, Seq, SlotId, Value, VatId, Word};
 
 /// What happens in a step. A vat turns each but the last three into a line of the history.
 #[derive(Drop)]

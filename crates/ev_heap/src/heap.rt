@@ -4,8 +4,7 @@ ghost use Rattle.std.specs.Prelude.{◌≡◌, ◌+◌, ◌<◌, ◌≤◌, ◌�
 ghost use Rattle.ev_heap.specs.Contents.{Contents, IsWeighable, are_plain, height_of, height_of_all, is_light, is_plain, listed, most_height, most_weight, nothing, weight_of, weight_of_all, within};
 
 use crate::kept::{Cell, GuardKind, Listed, Shape, Thing};
-use ev_base::{ActId, ListId, Memory, ObjId, Seq, SlotId, TextId, Value};
-use ev_word::Text;
+use ev_base::{ActId, ListId, Memory, ObjId, Seq, SlotId, Text, TextId, Value};
 use std::alloc::Global;
 use std::marker::Model;
 
@@ -16,7 +15,7 @@ const MOST_WEIGHT: u64 = 65536;
 const MOST_HEIGHT: u64 = 100;
 
 /// Why a list was not made.
-#[derive(Clone, Copy, PartialEq, Eq)]
+#[derive(Clone, Copy)]
 pub enum ListFault {
     /// It would be heavier or higher than the limits.
     TooHeavy,

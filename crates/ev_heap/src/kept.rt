@@ -1,8 +1,7 @@
 //! What a heap keeps.
 
 use crate::shared::Shared;
-use ev_base::{NodeId, ObjId, PrimId, PromId, Seq, SlotId, Value};
-use ev_word::Word;
+use ev_base::{NodeId, ObjId, PrimId, PromId, Seq, SlotId, Value, Word};
 
 /// The guard under which a name is bound: a native guard, or an object.
 #[derive(Clone, Copy)]

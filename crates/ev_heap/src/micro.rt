@@ -1,16 +1,18 @@
 //! The fuel that is left, and what happened in a step.
 
-ghost use Rattle.std.specs.Prelude.{◌≡◌, ◌-◌, ◌≤◌, ◌↔◌, ◌++◌, ◌∷◌, [], IsTrue, OnOk, OnErr};
+ghost use Rattle.std.specs.Prelude.{◌≡◌, ◌-◌, ◌≤◌, ◌↔◌, ◌++◌, ◌∷◌, [], IsTrue, OnOk};
 ghost use Rattle.std.specs.Bool.{OnFalse, OnTrue};
+ghost use Rattle.ev_heap.specs.declared.happened.Happened.TheVariants as event;
 
-use crate::happened::Happened;
-use ev_base::{Memory, Seq};
+use crate::Happened;
+use crate::lines::Lines;
+use ev_base::{ActId, ListId, Memory, Value, Word};
 use std::alloc::Global;
 
 /// The fuel left for the run, in units, and what happened in this step, in order.
 pub struct Micro {
     pub fuel: u32,
-    pub events: Seq<Happened>,
+    pub events: Lines,
 }
 
 impl Drop for Micro {
@@ -29,7 +31,7 @@ impl Micro {
     {
         Micro {
             fuel,
-            events: Seq::new(alloc),
+            events: Lines::new(alloc),
         }
     }
 
@@ -46,11 +48,36 @@ impl Micro {
         true
     }
 
-    /// Adds what happened, or refuses and changes nothing.
+    /// Adds what happened.
     pub fn push(&mut self, event: Happened) -> Result<(), Memory>
         ensures ok { OnOk result (self.new ≡ record self.old { events = self.old.events ++ event ∷ [] }) }
-        ensures err { OnErr result (self.new ≡ self.old) }
     {
         self.events.push(event)
+    }
+
+    /// Adds a call.
+    pub fn push_call(
+        &mut self,
+        activation: ActId,
+        target: Value,
+        verb: Word,
+        args: &[Value],
+        begun: Option<ActId>,
+    ) -> Result<(), Memory>
+        ensures ok { OnOk result (self.new ≡ record self.old { events = self.old.events ++ event.Call activation target verb args.now begun ∷ [] }) }
+    {
+        self.events.call(activation, target, verb, args, begun)
+    }
+
+    /// Adds that a list was made.
+    pub fn push_list(
+        &mut self,
+        activation: ActId,
+        list: ListId,
+        members: &[Value],
+    ) -> Result<(), Memory>
+        ensures ok { OnOk result (self.new ≡ record self.old { events = self.old.events ++ event.List activation list members.now ∷ [] }) }
+    {
+        self.events.list(activation, list, members)
     }
 }

@@ -30,7 +30,7 @@ pub enum IntOp {
 }
 
 /// Why an operation has no answer.
-#[derive(Clone, Copy, Debug, PartialEq, Eq)]
+#[derive(Clone, Copy, Debug)]
 pub enum NumFault {
     /// The exact result is below -2^127 or is 2^127 or more.
     Overflow,

@@ -14,7 +14,7 @@ use std::fmt;
 use std::marker::Model;
 
 /// Why no word was drawn.
-#[derive(Clone, Copy, Debug, PartialEq, Eq)]
+#[derive(Clone, Copy, Debug)]
 pub enum DrawFault {
     /// The second of these draws gives what the first gave.
     WordRepeated(u64, u64),

@@ -11,7 +11,7 @@ use ev_base::Seq;
 use std::alloc::Global;
 
 /// Why a read of all bytes ended before the end of input.
-#[derive(Clone, Copy, PartialEq, Eq)]
+#[derive(Clone, Copy)]
 pub enum ReadEnd {
     /// The source failed.
     Failed,

@@ -9,8 +9,7 @@ ghost use Rattle.ev_kernel_printer.specs.declared.items.Item.TheVariants as item
 use crate::parts::push_parts;
 use crate::pieces::{Piece, Pieces};
 use def_kernel::{Kernel, Literal, Node};
-use ev_base::{Memory, NodeId, Seq};
-use ev_word::{Text, Word};
+use ev_base::{Memory, NodeId, Seq, Text, Word};
 use std::alloc::Global;
 
 /// An item of a form: where a list begins or ends, a word, or a literal.

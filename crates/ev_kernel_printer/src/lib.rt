@@ -1,4 +1,4 @@
-//! Kernel trees as text and in items, and the names that they use.
+//! Prints the form of a kernel tree, and keeps a program with its form.
 #![tactic(auto)]
 
 pub mod items;
@@ -6,9 +6,11 @@ pub mod names;
 pub mod parts;
 pub mod pieces;
 pub mod printer;
+pub mod program;
 pub mod tasks;
 pub mod walker;
 
 pub use items::{Item, as_items};
 pub use printer::print;
+pub use program::Program;
 pub use walker::free_names;

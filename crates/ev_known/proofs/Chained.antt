@@ -3,7 +3,7 @@ use Rattle.std.proofs.Common.{◌≡◌, ℕ, ◌+◌, ◌<◌, ◌≤◌, arith
 use Rattle.std.specs.Prelude.{◌⊎◌, is_some}
 use Rattle.std.proofs.lemmas.Bool.Decides.{leb_tells}
 use Rattle.ev_base.specs.declared.names.Name.{Name}
-use Rattle.def_trace.specs.Uses.{AName, Given_for, is_object}
+use Rattle.def_event.specs.Uses.{AName, Given_for, is_object}
 use Rattle.ev_links.specs.declared.chains.End.{End}
 use Rattle.ev_links.specs.declared.chains.Spot.{Spot}
 use Rattle.ev_links.specs.declared.chains.Standing.{Standing}

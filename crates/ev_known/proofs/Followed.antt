@@ -4,8 +4,8 @@ use Rattle.std.specs.Prelude.{◌↔◌, IsTrue, is_some}
 use Rattle.ev_base.specs.declared.names.Name.{Name}
 use Rattle.ev_base.specs.declared.names.Name.TheVariants.{Object, Own, Answer, Gift, Root}
 use Rattle.def_event.specs.declared.event.Event.{Event}
-use Rattle.def_trace.specs.Uses.{AName, Line, Given_for, IsGivenBy, IsFirstGivenBy, IsNext, IsFollowed, settles, views, is_object}
-use Rattle.def_trace.specs.Uses as uses
+use Rattle.def_event.specs.Uses.{AName, Line, Given_for, IsGivenBy, IsFirstGivenBy, IsNext, IsFollowed, settles, views, is_object}
+use Rattle.def_event.specs.Uses as uses
 use Rattle.ev_links.specs.declared.label.Label.{Label}
 use Rattle.ev_links.specs.declared.chains.End.{End}
 use Rattle.ev_links.specs.declared.chains.Spot.{Spot}

@@ -1,6 +1,6 @@
 -- A search goes back from labels up to one to which something known leads.
 use Rattle.std.proofs.Common.{◌≡◌, ℕ, ◌+◌, ◌<◌, ◌≤◌, true, false, List, [], ◌∷◌, length, take, slice_get, Some, None, sym, ap, subst, ◌∙◌, inl, inr}
-use Rattle.def_trace.specs.Uses.{IsAmong}
+use Rattle.def_event.specs.Uses.{IsAmong}
 use Rattle.ev_known.specs.declared.facts.Activation.{Activation}
 use Rattle.ev_links.specs.declared.label.Label.{Label}
 use Rattle.ev_links.specs.declared.links.Scope.TheVariants.{Place}

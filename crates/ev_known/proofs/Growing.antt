@@ -2,8 +2,8 @@
 use Rattle.std.proofs.Common.{◌≡◌, true, List, [], ◌∷◌, refl, inl, inr, rules}
 use Rattle.std.specs.Prelude.{◌⊎◌, ◌↔◌, IsTrue}
 use Rattle.def_event.specs.declared.event.Event.{Event}
-use Rattle.def_trace.specs.Uses as uses
-use Rattle.def_trace.specs.Uses.{Has, IsAmong, IsLead, IsOpenAt, IsTold, Knows, Line, Reaches, Thing, Way, start, onward}
+use Rattle.def_event.specs.Uses as uses
+use Rattle.def_event.specs.Uses.{Has, IsAmong, IsLead, IsOpenAt, IsTold, Knows, Line, Reaches, Thing, Way, start, onward}
 use Rattle.ev_known.specs.declared.found.Finding.{Finding}
 use Rattle.ev_known.specs.contracts.found.FindingPartialEq.TheImpl.{eq-value}
 use Rattle.ev_known.specs.Found.{FoundStand, is_found, with_found}

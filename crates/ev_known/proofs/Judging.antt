@@ -3,7 +3,7 @@ use Rattle.std.proofs.Common.{◌≡◌, ℕ, zero, suc, ◌+◌, ◌<◌, ◌�
 use Rattle.std.proofs.lemmas.Bool.{cases_lt}
 use Rattle.std.specs.Prelude.{◌⊎◌, ◌↔◌}
 use Rattle.def_event.specs.declared.event.Event.{Event}
-use Rattle.def_trace.specs.Uses.{Line, HoldsAt, IsFirstFailing, line_after, lines_before, place_after, place_of}
+use Rattle.def_event.specs.Uses.{Line, HoldsAt, IsFirstFailing, line_after, lines_before, place_after, place_of}
 use Rattle.ev_links.proofs.Lines.{lines_step}
 
 -- what was kept stands for the lines so far, all of which hold

@@ -4,8 +4,8 @@ use Rattle.std.specs.Prelude.{◌⊎◌, ◌&&◌, if◌then◌else◌}
 use Rattle.std.proofs.lemmas.Bool.{eqb-true, leb-true}
 use Rattle.ev_base.specs.declared.names.Name.{Name}
 use Rattle.ev_base.specs.declared.names.Name.TheVariants.{Object, Own, Answer, Gift, Root}
-use Rattle.def_trace.specs.Uses as uses
-use Rattle.def_trace.specs.Uses.{IsAmong, Thing, AName, AList, Line, Lead, Has, Knows, IsOpenAt, IsTold, Runs, is_root}
+use Rattle.def_event.specs.Uses as uses
+use Rattle.def_event.specs.Uses.{IsAmong, Thing, AName, AList, Line, Lead, Has, Knows, IsOpenAt, IsTold, Runs, is_root}
 use Rattle.ev_known.specs.declared.facts.Activation.{Activation}
 use Rattle.ev_known.specs.declared.facts.Fact.{Fact}
 use Rattle.ev_known.specs.declared.facts.Fact.TheVariants as fact

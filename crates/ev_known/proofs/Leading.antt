@@ -3,8 +3,8 @@ use Rattle.std.proofs.Common.{◌≡◌, ℕ, zero, suc, ◌+◌, arith, List, [
 use Rattle.std.proofs.lemmas.List.{append-nil}
 use Rattle.def_event.specs.declared.shown.Shown.{Shown}
 use Rattle.def_event.specs.declared.event.Event.{Event}
-use Rattle.def_trace.specs.Uses as uses
-use Rattle.def_trace.specs.Uses.{IsAmong, IsLead, Lead, Line, Thing, led, leads, things, things_of}
+use Rattle.def_event.specs.Uses as uses
+use Rattle.def_event.specs.Uses.{IsAmong, IsLead, Lead, Line, Thing, led, leads, things, things_of}
 use Rattle.ev_links.specs.declared.label.Label.{Label}
 use Rattle.ev_links.specs.declared.links.Link.{Link}
 use Rattle.ev_links.specs.Label.{label}

@@ -7,8 +7,8 @@ use Rattle.ev_base.specs.declared.names.Name.{Name}
 use Rattle.def_event.specs.declared.shown.Shown.{Shown, Name as Named}
 use Rattle.def_event.specs.declared.event.Event.{Event}
 use Rattle.def_event.specs.declared.event.Event.TheVariants.{Settle}
-use Rattle.def_trace.specs.Uses as uses
-use Rattle.def_trace.specs.Uses.{AName, IsAmong, IsFirstGivenBy, IsLead, IsTold, Knows, Lead, Line, Thing, leads, led, name_of, settles, things_of}
+use Rattle.def_event.specs.Uses as uses
+use Rattle.def_event.specs.Uses.{AName, IsAmong, IsFirstGivenBy, IsLead, IsTold, Knows, Lead, Line, Thing, leads, led, name_of, settles, things_of}
 use Rattle.ev_links.specs.declared.chains.Spot.{Spot}
 use Rattle.ev_links.specs.declared.chains.Standing.{Standing}
 use Rattle.ev_links.specs.declared.label.Label.{Label}

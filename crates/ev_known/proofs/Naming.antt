@@ -2,7 +2,7 @@
 use Rattle.std.proofs.Common.{◌≡◌, refl}
 use Rattle.ev_base.specs.declared.names.Name.{Name}
 use Rattle.ev_base.specs.declared.names.Name.TheVariants.{Object, Own, Answer, Gift, Root}
-use Rattle.def_trace.specs.Uses.{AName, is_object}
+use Rattle.def_event.specs.Uses.{AName, is_object}
 use Rattle.ev_links.specs.Label.{label}
 use Rattle.ev_known.specs.Following.{is_object_label}
 

@@ -4,8 +4,8 @@ use Rattle.ev_base.specs.declared.names.Name.{Name}
 use Rattle.def_event.specs.declared.event.Called.{Called}
 use Rattle.def_event.specs.declared.event.Event.{Event}
 use Rattle.def_event.specs.declared.event.Event.TheVariants.{Take, Call}
-use Rattle.def_trace.specs.Uses as uses
-use Rattle.def_trace.specs.Uses.{AName, Line, IsAmong, IsTold, IsFollowed, Anew, Running, begins, begun, begun_call, runs, running_call}
+use Rattle.def_event.specs.Uses as uses
+use Rattle.def_event.specs.Uses.{AName, Line, IsAmong, IsTold, IsFollowed, Anew, Running, begins, begun, begun_call, runs, running_call}
 use Rattle.ev_known.specs.declared.facts.Activation.{Activation}
 use Rattle.ev_links.specs.declared.label.Label.{Label}
 use Rattle.ev_known.specs.contracts.facts.ActivationPartialEq.TheImpl.{eq-value}

@@ -6,8 +6,8 @@ use Rattle.def_event.specs.declared.shown.Shown.{Shown, Name as Named}
 use Rattle.def_event.specs.declared.event.Called.{Called}
 use Rattle.def_event.specs.declared.event.Event.{Event}
 use Rattle.def_event.specs.declared.event.Event.TheVariants.{Open, Take, Call, Made as ObjectMade}
-use Rattle.def_trace.specs.Uses as uses
-use Rattle.def_trace.specs.Uses.{IsAmong, Thing, things_of, things, lists_of, given, gains, begins, makes, captured, begun_call, Anew, TellsAnew, IsTold, Line}
+use Rattle.def_event.specs.Uses as uses
+use Rattle.def_event.specs.Uses.{IsAmong, Thing, things_of, things, lists_of, given, gains, begins, makes, captured, begun_call, Anew, TellsAnew, IsTold, Line}
 use Rattle.ev_known.specs.declared.facts.Activation.{Activation}
 use Rattle.ev_known.specs.declared.facts.Fact.{Fact}
 use Rattle.ev_known.specs.contracts.facts.FactPartialEq.TheImpl.{eq-value}

@@ -3,7 +3,7 @@ use Rattle.std.specs.Prelude.{◌≡◌, ◌≤◌, ℕ, Bool, true, false, cond
 use Rattle.std.specs.Map.{lookup}
 use Rattle.ev_base.specs.declared.names.Name.{Name}
 use Rattle.def_event.specs.declared.event.Event.{Event}
-use Rattle.def_trace.specs.Uses.{AName, Given_for, IsGivenBy, IsFirstGivenBy, IsFollowed, Line, is_object, settles, views}
+use Rattle.def_event.specs.Uses.{AName, Given_for, IsGivenBy, IsFirstGivenBy, IsFollowed, Line, is_object, settles, views}
 use Rattle.ev_links.specs.declared.label.Label.{Label}
 use Rattle.ev_links.specs.declared.label.Kind.{Kind}
 use Rattle.ev_links.specs.declared.label.Kind.TheVariants as kind

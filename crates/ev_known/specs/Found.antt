@@ -2,8 +2,8 @@
 use Rattle.std.specs.Prelude.{Bool, List}
 use Rattle.std.specs.List.{list_any}
 use Rattle.indexmap.specs.IndexSet.{insert_key}
-use Rattle.def_trace.specs.Uses as uses
-use Rattle.def_trace.specs.Uses.{IsAmong, Knows, Line, Thing}
+use Rattle.def_event.specs.Uses as uses
+use Rattle.def_event.specs.Uses.{IsAmong, Knows, Line, Thing}
 use Rattle.ev_known.specs.declared.found.Finding.{Finding}
 use Rattle.ev_known.specs.contracts.found.FindingPartialEq.TheImpl.{eq-value}
 use Rattle.ev_links.specs.Label.{label}

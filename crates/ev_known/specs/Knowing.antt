@@ -2,7 +2,7 @@
 use Rattle.std.specs.Prelude.{◌≡◌, ◌<◌, ℕ, Bool, true, false, ◌&&◌, not, if◌then◌else◌, List, length, reverse, Option, Some, None}
 use Rattle.std.specs.List.{list_any}
 use Rattle.ev_base.specs.declared.names.Name.{Name}
-use Rattle.def_trace.specs.Uses.{Audition, IsFollowed, IsTold, Line}
+use Rattle.def_event.specs.Uses.{Audition, IsFollowed, IsTold, Line}
 use Rattle.ev_known.specs.declared.facts.Activation.{Activation}
 use Rattle.ev_known.specs.declared.facts.Fact.{Fact}
 use Rattle.ev_known.specs.declared.facts.Fact.TheVariants as fact

@@ -1,7 +1,7 @@
 -- Links of what is led to, and what the lines say of that.
 use Rattle.std.specs.Prelude.{◌≡◌, ◌⊎◌, ◌↔◌, List}
-use Rattle.def_trace.specs.Uses as uses
-use Rattle.def_trace.specs.Uses.{IsAmong, IsLead, Lead, Line}
+use Rattle.def_event.specs.Uses as uses
+use Rattle.def_event.specs.Uses.{IsAmong, IsLead, Lead, Line}
 use Rattle.ev_links.specs.declared.label.Label.{Label}
 use Rattle.ev_links.specs.declared.links.Link.{Link}
 use Rattle.ev_links.specs.declared.links.Way.{Way}

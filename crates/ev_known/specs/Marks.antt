@@ -2,8 +2,8 @@
 use Rattle.std.specs.Prelude.{◌≡◌, ℕ, ◌+◌, ◌<◌, ◌≤◌, Bool, true, false, cond, nat_le, slice_get, List, Option, Some, None}
 use Rattle.std.specs.Map.{lookup}
 use Rattle.ev_base.specs.declared.names.Name.{Name}
-use Rattle.def_trace.specs.Uses as uses
-use Rattle.def_trace.specs.Uses.{AName, IsTold, Line, Thing}
+use Rattle.def_event.specs.Uses as uses
+use Rattle.def_event.specs.Uses.{AName, IsTold, Line, Thing}
 use Rattle.ev_links.specs.declared.chains.Standing.{Standing}
 use Rattle.ev_links.specs.declared.label.Label.{Label}
 use Rattle.ev_links.specs.Chains.{PlanTables, standing}

@@ -2,8 +2,8 @@
 use Rattle.std.specs.Prelude.{◌≡◌, ◌⊎◌, ℕ, cond, List, Option, Some, None}
 use Rattle.std.specs.Map.{lookup}
 use Rattle.ev_base.specs.declared.names.Name.{Name}
-use Rattle.def_trace.specs.Uses as uses
-use Rattle.def_trace.specs.Uses.{AName, Line, IsTold, Running}
+use Rattle.def_event.specs.Uses as uses
+use Rattle.def_event.specs.Uses.{AName, Line, IsTold, Running}
 use Rattle.ev_known.specs.declared.facts.Activation.{Activation}
 use Rattle.ev_links.specs.declared.label.Label.{Label}
 use Rattle.ev_known.specs.contracts.facts.ActivationPartialEq.TheImpl.{eq-value}

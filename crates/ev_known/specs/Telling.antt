@@ -8,8 +8,8 @@ use Rattle.def_event.specs.declared.event.Addressed.{Addressed}
 use Rattle.def_event.specs.declared.event.Called.{Called}
 use Rattle.def_event.specs.declared.event.Event.{Event}
 use Rattle.def_event.specs.declared.event.Event.TheVariants.{Open, Take, Call, Made as ObjectMade}
-use Rattle.def_trace.specs.Uses as uses
-use Rattle.def_trace.specs.Uses.{things_of, lists_of, given, gains, Captured, IsAmong, IsTold, Line}
+use Rattle.def_event.specs.Uses as uses
+use Rattle.def_event.specs.Uses.{things_of, lists_of, given, gains, Captured, IsAmong, IsTold, Line}
 use Rattle.ev_known.specs.declared.facts.Activation.{Activation}
 use Rattle.ev_known.specs.declared.facts.Fact.{Fact}
 use Rattle.ev_known.specs.declared.facts.Fact.TheVariants as fact

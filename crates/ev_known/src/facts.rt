@@ -1,7 +1,7 @@
 //! What the lines so far tell, as a set.
 
 ghost use Rattle.std.specs.Prelude.{◌≡◌, ◌<◌, [], ◌∷◌, List, Some, length, map, slice_get, OnOk};
-ghost use Rattle.def_trace.specs.Uses.{AName, Line, Captured as Captures, gains, given, lists_of, things_of};
+ghost use Rattle.def_event.specs.Uses.{AName, Line, Captured as Captures, gains, given, lists_of, things_of};
 ghost use Rattle.def_event.specs.declared.event.Event.TheVariants.{Audition as AuditionMade};
 ghost use Rattle.ev_known.specs.Telling.{StandsFor, is_told, key, told, told_begun, told_called, told_captures, told_line, told_made, told_object, told_opened, told_taken, told_value, told_values, with_fact};
 
@@ -107,7 +107,7 @@ impl Facts {
     }
 
     /// An activation is given what a value is.
-    #[tactic(auto, unfolding(def_trace::specs::Uses::things_of, crate::specs::Telling::key))]
+    #[tactic(auto, unfolding(def_event::specs::Uses::things_of, crate::specs::Telling::key))]
     fn give(&mut self, activation: Activation, value: &Shown) -> Result<(), Memory>
         ensures { OnOk result (self.new ≡ told self.old (map key (given activation.at activation.number (things_of value.now)))) }
     {
@@ -121,7 +121,7 @@ impl Facts {
     }
 
     /// An activation is given the list that a value is.
-    #[tactic(auto, unfolding(def_trace::specs::Uses::lists_of, crate::specs::Telling::key))]
+    #[tactic(auto, unfolding(def_event::specs::Uses::lists_of, crate::specs::Telling::key))]
     fn give_list(&mut self, activation: Activation, value: &Shown) -> Result<(), Memory>
         ensures { OnOk result (self.new ≡ told self.old (map key (given activation.at activation.number (lists_of value.now)))) }
     {
@@ -144,7 +144,7 @@ impl Facts {
     }
 
     /// An object captures what a value is.
-    #[tactic(auto, unfolding(def_trace::specs::Uses::things_of, crate::specs::Telling::key))]
+    #[tactic(auto, unfolding(def_event::specs::Uses::things_of, crate::specs::Telling::key))]
     fn capture(&mut self, object: &Name, value: &Shown) -> Result<(), Memory>
         ensures { OnOk result (self.new ≡ told self.old (map key (map (λ t. Captures object.now t) (things_of value.now)))) }
     {
@@ -168,7 +168,7 @@ impl Facts {
     }
 
     /// An activation makes an audition.
-    #[tactic(auto, unfolding(def_trace::specs::Uses::gains, crate::specs::Telling::key))]
+    #[tactic(auto, unfolding(def_event::specs::Uses::gains, crate::specs::Telling::key))]
     fn tell_audition(&mut self, activation: Activation, value: &Shown) -> Result<(), Memory>
         ensures { OnOk result (self.new ≡ told self.old (map key (gains activation.at (AuditionMade activation.number value.now)))) }
     {
@@ -182,7 +182,7 @@ impl Facts {
     }
 
     /// What the activation of a line comes to have by it.
-    #[tactic(auto, unfolding(def_trace::specs::Uses::gains, crate::specs::Telling::key))]
+    #[tactic(auto, unfolding(def_event::specs::Uses::gains, crate::specs::Telling::key))]
     fn tell_gains(&mut self, at: u64, event: &Event) -> Result<(), Memory>
         ensures { OnOk result (self.new ≡ told self.old (map key (gains at event.now))) }
     {

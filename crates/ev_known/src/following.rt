@@ -2,7 +2,7 @@
 
 ghost use Rattle.std.specs.Prelude.{◌≡◌, ◌+◌, [], ◌∷◌, ◌<◌, Bool, true, false, List, IfOk, IfSome, IsTrue, OnOk, Some, is_some};
 ghost use Rattle.ev_base.specs.declared.names.Name.{Name as NameValue};
-ghost use Rattle.def_trace.specs.Uses.{AName, Line, is_object as is_object_name, name_of, settles, views};
+ghost use Rattle.def_event.specs.Uses.{AName, Line, is_object as is_object_name, name_of, settles, views};
 ghost use Rattle.ev_known.specs.declared.following.Goal.TheVariants.{To as ToName};
 ghost use Rattle.ev_known.specs.Following.{ChainsStand, FollowedAs, Follows, FollowsTo, GivesFirst, Noted, NotedFor, Puts, Strides, StridesTo, Table, TablesStand, goal, goal_at, is_object_label, is_told_in, next_of, place_told};
 ghost use Rattle.ev_links.specs.Chains.{PlanStands, standing};
@@ -46,7 +46,7 @@ impl Model for Firsts {
 }
 
 /// What a value gives.
-#[tactic(auto, unfolding(def_trace::specs::Uses::name_of))]
+#[tactic(auto, unfolding(def_event::specs::Uses::name_of))]
 fn goal_of(value: &Shown) -> Goal
     ensures { result ≡ goal (name_of value.now) }
 {
@@ -179,7 +179,7 @@ fn follow_in(
 }
 
 /// Notes what a settle line gives.
-#[tactic(auto, unfolding(def_trace::specs::Uses::settles))]
+#[tactic(auto, unfolding(def_event::specs::Uses::settles))]
 fn note_settled(settled: &mut Firsts, at: u64, event: &Event) -> Result<(), Memory>
     ensures { OnOk result (NotedFor at (settles event.now) settled.old settled.new) }
 {
@@ -190,7 +190,7 @@ fn note_settled(settled: &mut Firsts, at: u64, event: &Event) -> Result<(), Memo
 }
 
 /// Notes what a view line gives.
-#[tactic(auto, unfolding(def_trace::specs::Uses::views))]
+#[tactic(auto, unfolding(def_event::specs::Uses::views))]
 fn note_viewed(viewed: &mut Firsts, at: u64, event: &Event) -> Result<(), Memory>
     ensures { OnOk result (NotedFor at (views event.now) viewed.old viewed.new) }
 {

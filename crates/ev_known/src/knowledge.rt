@@ -1,7 +1,7 @@
 //! What activations know by the lines so far.
 
 ghost use Rattle.std.specs.Prelude.{◌≡◌, false, ◌↔◌, ◌∷◌, ◌<◌, [], ◌&&◌, List, IfOk, IsTrue, OnOk, length};
-ghost use Rattle.def_trace.specs.Uses.{AName, Line, Knows, Thing};
+ghost use Rattle.def_event.specs.Uses.{AName, Line, Knows, Thing};
 ghost use Rattle.ev_links.specs.Label.{label as label_of};
 ghost use Rattle.ev_links.specs.Chains.{PlanStands};
 ghost use Rattle.ev_known.specs.Knowing.{KnownStand, LeadsToAudition, Searched, any_leads, has_captured, has_in, is_chained, is_led, is_root_label, knows_in, leads_from};

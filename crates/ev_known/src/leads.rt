@@ -1,7 +1,7 @@
 //! What lines say of what leads to what, as links of what is led to.
 
 ghost use Rattle.std.specs.Prelude.{◌≡◌, ◌∷◌, [], List, OnOk, map};
-ghost use Rattle.def_trace.specs.Uses.{AName, Line, leads, things, things_of};
+ghost use Rattle.def_event.specs.Uses.{AName, Line, leads, things, things_of};
 ghost use Rattle.ev_links.specs.Label.{label};
 ghost use Rattle.ev_links.specs.declared.links.Way.TheVariants.{Listed as Listing, Settled as Settling};
 ghost use Rattle.ev_known.specs.Leads.{AddsEach, AddsLeads, LinksStand};
@@ -26,7 +26,7 @@ fn lead_to_name(links: &mut Links, alloc: Global, link: &Link, name: &Name) -> R
 }
 
 /// Something leads to what a value is.
-#[tactic(auto, using(crate::proofs::Leading::none_added), unfolding(def_trace::specs::Uses::things_of))]
+#[tactic(auto, using(crate::proofs::Leading::none_added), unfolding(def_event::specs::Uses::things_of))]
 fn lead_to_value(links: &mut Links, alloc: Global, link: &Link, value: &Shown) -> Result<(), Memory>
     ensures { OnOk result (AddsEach link.now (map label (things_of value.now)) links.old links.new) }
 {
@@ -73,7 +73,7 @@ fn list_link(from: Label) -> Link
 }
 
 /// What an event says of what leads to what.
-#[tactic(auto, using(crate::proofs::Leading::led_added, crate::proofs::Leading::no_leads), unfolding(def_trace::specs::Uses::leads))]
+#[tactic(auto, using(crate::proofs::Leading::led_added, crate::proofs::Leading::no_leads), unfolding(def_event::specs::Uses::leads))]
 fn tell_event(links: &mut Links, alloc: Global, at: u64, event: &Event) -> Result<(), Memory>
     ensures { OnOk result (AddsLeads (leads at event.now) links.old links.new) }
 {

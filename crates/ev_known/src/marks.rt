@@ -1,7 +1,7 @@
 //! From where on activations and objects have the chains in which what they hold stands.
 
 ghost use Rattle.std.specs.Prelude.{◌≡◌, ◌<◌, [], List, Some, IsTrue, OnOk, length, nat_le, slice_get};
-ghost use Rattle.def_trace.specs.Uses.{IsAmong, Line};
+ghost use Rattle.def_event.specs.Uses.{IsAmong, Line};
 ghost use Rattle.ev_known.specs.Marks.{AreKept, AreMarked, HeldAs, IsMarkedFor, MarksStand, PutsMark, holding, is_from, is_marked, mark_at};
 ghost use Rattle.ev_known.specs.Telling.{StandsFor};
 

@@ -1,7 +1,7 @@
 //! Which object's code activations run.
 
 ghost use Rattle.std.specs.Prelude.{◌≡◌, [], ◌∷◌, List, OnOk};
-ghost use Rattle.def_trace.specs.Uses.{Line, name_of, running_call, runs};
+ghost use Rattle.def_event.specs.Uses.{Line, name_of, running_call, runs};
 ghost use Rattle.ev_known.specs.Following.{TablesStand};
 ghost use Rattle.ev_known.specs.Runs.{RunAfter, RunTarget, RunTold, RunsPut, RunsStand, runner};
 ghost use Rattle.ev_known.specs.Telling.{StandsFor};
@@ -85,7 +85,7 @@ impl Runs {
     }
 
     /// An activation begins with a target that may be no name.
-    #[tactic(auto, unfolding(def_trace::specs::Uses::name_of))]
+    #[tactic(auto, unfolding(def_event::specs::Uses::name_of))]
     fn run_value(
         &mut self,
         alloc: Global,
@@ -126,7 +126,7 @@ impl Runs {
     }
 
     /// What an event at a place tells.
-    #[tactic(auto, unfolding(def_trace::specs::Uses::runs))]
+    #[tactic(auto, unfolding(def_event::specs::Uses::runs))]
     fn tell_event(
         &mut self,
         alloc: Global,

@@ -12,7 +12,7 @@ use std::error::Error;
 use std::fmt;
 
 /// Why a text has no tokens.
-#[derive(Clone, Copy, Debug, PartialEq, Eq)]
+#[derive(Clone, Copy, Debug)]
 pub enum LexFault {
     /// The kind of the first fault, and the byte at which it stands. 1: a character that begins no token, at it. 2: an
     /// unclosed text or character, at its opening quote. 3: a bad escape, at its backslash, or a character literal that is

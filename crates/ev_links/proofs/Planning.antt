@@ -6,7 +6,7 @@ use Rattle.ev_base.specs.declared.names.Name.{Name}
 use Rattle.def_event.specs.declared.event.Event.{Event}
 use Rattle.def_event.specs.declared.event.Event.TheVariants.{Settle}
 use Rattle.def_event.specs.declared.shown.Shown.{Shown, Name as Named}
-use Rattle.def_trace.specs.Uses.{AName, Line, and_lines, line_after, lines_before, name_of, place_after, place_of, settles}
+use Rattle.def_event.specs.Uses.{AName, Line, and_lines, line_after, lines_before, name_of, place_after, place_of, settles}
 use Rattle.ev_links.specs.declared.chains.End.{End}
 use Rattle.ev_links.specs.declared.chains.Spot.{Spot}
 use Rattle.ev_links.specs.declared.chains.Standing.{Standing}

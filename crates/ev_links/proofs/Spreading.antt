@@ -5,7 +5,7 @@ use Rattle.std.specs.Map.{lookup}
 use Rattle.std.specs.List.{list_any}
 use Rattle.std.proofs.Common.{append_assoc}
 use Rattle.std.proofs.lemmas.List.{append-nil}
-use Rattle.def_trace.specs.Uses.{IsAmong}
+use Rattle.def_event.specs.Uses.{IsAmong}
 use Rattle.ev_links.specs.declared.label.Label.{Label}
 use Rattle.ev_links.specs.declared.links.Link.{Link}
 use Rattle.ev_links.specs.declared.links.Scope.{Scope}

@@ -1,7 +1,7 @@
 -- Labels of names and lists.
 use Rattle.std.specs.Prelude.{ℕ}
 use Rattle.ev_base.specs.declared.names.Name.TheVariants.{Object, Own, Answer, Gift, Root}
-use Rattle.def_trace.specs.Uses.{Thing, AName, AList}
+use Rattle.def_event.specs.Uses.{Thing, AName, AList}
 use Rattle.ev_links.specs.declared.label.Label.{Label}
 use Rattle.ev_links.specs.declared.label.Kind.{Kind}
 use Rattle.ev_links.specs.declared.label.Kind.TheVariants as kind

@@ -3,7 +3,7 @@ use Rattle.std.specs.Prelude.{◌≡◌, ◌==◌, Bool, true, false, cond, if�
 use Rattle.std.specs.Map.{lookup}
 use Rattle.std.specs.List.{list_any}
 use Rattle.indexmap.specs.IndexSet.{insert_key}
-use Rattle.def_trace.specs.Uses.{IsAmong}
+use Rattle.def_event.specs.Uses.{IsAmong}
 use Rattle.ev_links.specs.declared.label.Label.{Label}
 use Rattle.ev_links.specs.declared.links.Link.{Link}
 use Rattle.ev_links.specs.declared.links.Way.{Way}

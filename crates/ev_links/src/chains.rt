@@ -3,7 +3,7 @@
 ghost use Rattle.std.specs.Prelude.{◌≡◌, ◌<◌, ◌^◌, [], ◌∷◌, IfOk, IfSome, List, OnOk, Some};
 ghost use Rattle.def_event.specs.declared.event.Event.{Event as EventValue};
 ghost use Rattle.def_event.specs.declared.event.Event.TheVariants.{Settle as Settles};
-ghost use Rattle.def_trace.specs.Uses.{Line, and_lines};
+ghost use Rattle.def_event.specs.Uses.{Line, and_lines};
 ghost use Rattle.ev_links.specs.Chains.{IsNextPlace, PutsEnd, PutsStanding, end_of, standing};
 ghost use Rattle.ev_links.specs.Plan.{Appended, IsPlanOf, settling};
 

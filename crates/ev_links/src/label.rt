@@ -1,7 +1,7 @@
 //! Names and lists as keys of tables.
 
 ghost use Rattle.std.specs.Prelude.{◌≡◌};
-ghost use Rattle.def_trace.specs.Uses.{AList, AName};
+ghost use Rattle.def_event.specs.Uses.{AList, AName};
 ghost use Rattle.ev_links.specs.Label.{label};
 
 use ev_base::{Name, VatId};

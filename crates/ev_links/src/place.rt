@@ -1,7 +1,7 @@
 //! The places of lines.
 
 ghost use Rattle.std.specs.Prelude.{◌≡◌, ◌+◌};
-ghost use Rattle.def_trace.specs.Uses.{place_after};
+ghost use Rattle.def_event.specs.Uses.{place_after};
 
 use def_event::Event;
 use ev_base::VatId;
@@ -14,7 +14,7 @@ fn place_of(vat: &VatId) -> u64
 }
 
 /// The place of a line, by that of the line before it: the number of the vat of its step from 1 on, or 0 where it has none.
-#[tactic(auto, unfolding(def_trace::specs::Uses::place_after))]
+#[tactic(auto, unfolding(def_event::specs::Uses::place_after))]
 pub fn place_after(at: u64, event: &Event) -> u64
     ensures { result ≡ place_after at event.now }
 {

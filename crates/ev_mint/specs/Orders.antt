@@ -2,7 +2,7 @@
 use Rattle.std.specs.Prelude.{ℕ, if◌then◌else◌, List, codes, Some, None, option_map, Result, Ok, Err}
 use Rattle.std.specs.declared.option.Option.{Option}
 use Rattle.std.specs.Str.{bytes_eq}
-use Rattle.ev_command_lines.specs.Lines.{text_of, lines, split, number, integer}
+use Rattle.ev_text.specs.Lines.{text_of, lines, split, number, integer}
 use Rattle.ev_script.specs.Json.{each, ◌>>=◌}
 use Rattle.ev_mint.specs.Money.{most}
 use Rattle.ev_mint.specs.declared.orders.Order.{Order}

@@ -1,14 +1,14 @@
 //! What the input of `mint` says.
 
 ghost use Rattle.std.specs.Prelude.{◌≡◌, IfOk, map, option_map};
-ghost use Rattle.ev_command_lines.specs.Lines.{number};
+ghost use Rattle.ev_text.specs.Lines.{number};
 ghost use Rattle.ev_script.specs.Json.{each};
 ghost use Rattle.ev_script.specs.Script.{Reads};
 ghost use Rattle.ev_mint.specs.Orders.{alone, deposit_of, issue_of, most_number, order_of, orders, orders_by, read, seal_of, told, unseal_of};
 
 use ev_base::{Memory, Seq};
-use ev_command_lines::{integer, lines, number, split, text_of};
 use ev_script::ScriptFault;
+use ev_text::{integer, lines, number, split, text_of};
 use std::alloc::Global;
 
 /// The greatest number of what was made.

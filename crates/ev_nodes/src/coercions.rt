@@ -8,7 +8,7 @@ ghost use Rattle.ev_room.specs.Acts.{Gives};
 ghost use Rattle.ev_room.specs.declared.scope.Scope.{Scope as Surroundings};
 ghost use Rattle.ev_frames.specs.Rest.{Goes, Nested, Stays, bound_as, rest, settled};
 
-use ev_base::{ActId, NodeId, ObjId, PrimId, SlotId, TextId, Value};
+use ev_base::{ActId, NodeId, ObjId, PrimId, SlotId, TextId, Value, Word};
 use ev_frames::calls::calling;
 use ev_frames::failings::{NOT_A_GUARD, is_null};
 use ev_frames::frames::{Frames, Part};
@@ -23,7 +23,6 @@ use ev_room::slots::{guard_of, write_slot};
 use ev_steps::handing::handed;
 use ev_steps::pattern::bind_coerced;
 use ev_steps::target::Target;
-use ev_word::Word;
 
 /// A failing calls the ejector where there is one, and throws where that comes back.
 #[tactic(auto, using(crate::proofs::Coercing::fails_at_once, crate::proofs::Coercing::fails_by))]

@@ -2,7 +2,7 @@
 
 ghost use Rattle.std.specs.Prelude.{◌≡◌, ◌∷◌, [], Err, codes, pos};
 ghost use Rattle.ev_steps.specs.Steps.{again_by, called_with, evaluator, turn_value};
-ghost use Rattle.ev_eventual.specs.Eventual.{message_in};
+ghost use Rattle.ev_steps.specs.Eventual.{message_in};
 ghost use Rattle.ev_refs.specs.Follow.{followed};
 ghost use Rattle.ev_base.specs.declared.values.Value.TheVariants.{Int, Obj, Text};
 ghost use Rattle.ev_room.specs.Acts.{Gives, GivesIn};
@@ -15,9 +15,7 @@ use crate::ends::{back, guard_ended};
 use crate::nodes::begin;
 use crate::parts::part_gave;
 use crate::patterns::{bind, match_resumes};
-use ev_base::{ActId, NodeId, ObjId, TextId, Value};
-use ev_eventual::message_in;
-use ev_eventual::sending::BAD_MESSAGE;
+use ev_base::{ActId, NodeId, ObjId, TextId, Value, Word};
 use ev_frames::calls::call_again;
 use ev_frames::frames::{Frame, Frames, Guard, Part};
 use ev_frames::matchers::case_resumes;
@@ -29,7 +27,8 @@ use ev_room::call::closed;
 use ev_room::exit::{Came, Exit};
 use ev_room::room::Room;
 use ev_room::scope::{Scope, cut};
-use ev_word::Word;
+use ev_steps::message_in;
+use ev_steps::sending::BAD_MESSAGE;
 
 /// A node that hands on what its part throws goes on.
 #[tactic(auto, using(crate::proofs::Looping::part_goes, crate::proofs::Looping::part_threw, crate::proofs::Looping::part_left, crate::proofs::Looping::part_nested, crate::proofs::Looping::part_mark, crate::proofs::Looping::part_below))]

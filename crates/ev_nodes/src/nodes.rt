@@ -11,7 +11,7 @@ ghost use Rattle.ev_frames.specs.Rest.{Goes, Nested, Stays, call_on, rest};
 use crate::guards::{escape_node, finally_node, hide_node, try_node};
 use crate::parts::args_on;
 use def_kernel::{Literal, Node};
-use ev_base::{NodeId, Seq, Value};
+use ev_base::{NodeId, Seq, Value, Word};
 use ev_frames::audits::object_node;
 use ev_frames::frames::{Frames, Part};
 use ev_frames::leaves::{leaf, literal_node, noun_node};
@@ -22,7 +22,6 @@ use ev_room::room::{Room, spend};
 use ev_room::scope::Scope;
 use ev_room::tree::node_at;
 use ev_steps::pattern::part_at;
-use ev_word::Word;
 
 /// A literal ends at once.
 #[tactic(auto, using(ev_frames::proofs::Rests::goes_on, ev_frames::proofs::Rests::gone))]

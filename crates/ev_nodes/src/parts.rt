@@ -11,7 +11,7 @@ ghost use Rattle.ev_frames.specs.Rest.{Goes, Nested, Stays, args_of, call_on, go
 use crate::coercions::{assigned, coerced, under};
 use crate::patterns::{asks, matching};
 use def_kernel::Node;
-use ev_base::{Memory, NodeId, Seq, SlotId, Value};
+use ev_base::{Memory, NodeId, Seq, SlotId, Value, Word};
 use ev_frames::audits::{auditors_on, stamped};
 use ev_frames::calls::calling;
 use ev_frames::frames::{Frames, Part};
@@ -27,7 +27,6 @@ use ev_room::scope::{Scope, cut};
 use ev_room::slots::write_slot;
 use ev_room::tree::node_at;
 use ev_steps::pattern::{Early, bind_at_once, part_at};
-use ev_word::Word;
 use std::alloc::Global;
 
 /// The parts of a sequence, and none of any other node.

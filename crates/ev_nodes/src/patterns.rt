@@ -12,7 +12,7 @@ ghost use Rattle.ev_frames.specs.declared.frames.Frame.TheVariants.{Match as Mat
 
 use crate::coercions::{failing, guarded};
 use def_kernel::Node;
-use ev_base::{Memory, NodeId, ObjId, Seq, TextId, Value};
+use ev_base::{Memory, NodeId, ObjId, Seq, TextId, Value, Word};
 use ev_frames::calls::calling;
 use ev_frames::frames::{Frame, Frames, Part};
 use ev_frames::now::{Now, again, enter};
@@ -27,7 +27,6 @@ use ev_room::tree::node_at;
 use ev_steps::handing::handed;
 use ev_steps::matches::not_matched;
 use ev_steps::target::Target;
-use ev_word::Word;
 
 /// The problem of a specimen that is no list of so many members.
 const NOT_A_LIST: TextId = TextId(16);

@@ -6,7 +6,7 @@ ghost use Rattle.ev_op.specs.declared.fault.ReadError.TheVariants.{Memory};
 use std::alloc::{AllocError, AllocFailed};
 
 /// Want of memory, or nothing allowed at this place.
-#[derive(Clone, Copy, PartialEq, Eq)]
+#[derive(Clone, Copy)]
 pub enum ReadError {
     Memory,
     Refused,

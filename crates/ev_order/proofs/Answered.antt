@@ -7,7 +7,7 @@ use Rattle.std.proofs.lemmas.Bool.{ltb-true, ltb-false}
 use Rattle.std.proofs.lemmas.Bool.Decides.{eqb_tells}
 use Rattle.ev_base.specs.declared.names.Msg.{Msg}
 use Rattle.def_event.specs.declared.event.Event.{Event}
-use Rattle.def_trace.specs.Order.{Taking, taking, IsTakenBefore, Before, IsOrdered, IsFirstOvertaken}
+use Rattle.def_event.specs.Order.{Taking, taking, IsTakenBefore, Before, IsOrdered, IsFirstOvertaken}
 use Rattle.ev_order.specs.declared.mentions.Mention.{Mention}
 use Rattle.ev_order.specs.declared.spread.Place.{Place}
 use Rattle.ev_order.specs.Mentions.{MentionList, IsThere, IsAbsent}

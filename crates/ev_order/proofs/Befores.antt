@@ -8,8 +8,8 @@ use Rattle.std.proofs.lemmas.Bool.Decides.{eqb_tells}
 use Rattle.ev_base.specs.declared.names.Msg.{Msg}
 use Rattle.def_event.specs.declared.event.Event.{Event}
 use Rattle.def_event.specs.declared.shown.Shown.{Shown, Null, Name as Named}
-use Rattle.def_trace.specs.declared.reference.Reference.{Reference}
-use Rattle.def_trace.specs.Order.{Sending, Carrying, sending, carrying, DoesAt, vat_at, Behind, OnItself, Passed, IsSentOn, Before}
+use Rattle.def_event.specs.declared.reference.Reference.{Reference}
+use Rattle.def_event.specs.Order.{Sending, Carrying, sending, carrying, DoesAt, vat_at, Behind, OnItself, Passed, IsSentOn, Before}
 use Rattle.ev_order.specs.declared.spread.Place.{Place}
 use Rattle.ev_order.specs.Spread.{LeadsOn, Leads, Here, On}
 use Rattle.ev_order.specs.Chains.{HasReference, HasNext, reference}

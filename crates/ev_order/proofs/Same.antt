@@ -1,8 +1,8 @@
 -- References that compare as equal are one, and what a map has at a reference is its last place.
 use Rattle.std.proofs.Common.{◌≡◌, ◌⊎◌, ℕ, rules, cond, Bool, true, false, [], ◌∷◌, Option, Some, None, MatchOption, refl, sym, ap, ◌∙◌, inl, inr}
 use Rattle.std.specs.Map.{lookup}
-use Rattle.def_trace.specs.declared.reference.Reference.{Reference}
-use Rattle.def_trace.specs.contracts.reference.ReferencePartialEq.TheImpl as derived
+use Rattle.def_event.specs.declared.reference.Reference.{Reference}
+use Rattle.def_event.specs.contracts.reference.ReferencePartialEq.TheImpl as derived
 use Rattle.ev_order.specs.Last.{LastList, IsLast, HasNone, Sets}
 
 abbrev pub equal : Reference → Reference → Bool

@@ -6,8 +6,8 @@ use Rattle.std.proofs.lemmas.Option.{slice_get-map}
 use Rattle.std.proofs.lemmas.Bool.{cases_lt}
 use Rattle.def_event.specs.declared.event.Event.{Event}
 use Rattle.def_event.specs.declared.shown.Shown.{Shown}
-use Rattle.def_trace.specs.declared.reference.Reference.{Reference}
-use Rattle.def_trace.specs.Order.{Sending, Carrying, sending, carrying, taking, vat_behind, vat_after, vat_at, DoesAt}
+use Rattle.def_event.specs.declared.reference.Reference.{Reference}
+use Rattle.def_event.specs.Order.{Sending, Carrying, sending, carrying, taking, vat_behind, vat_after, vat_at, DoesAt}
 use Rattle.ev_order.specs.Chains.{reference}
 use Rattle.ev_order.specs.Walk.{deed_by, line_references, all_references, sent_references, carried_references}
 use Rattle.ev_order.specs.Graph.{start}

@@ -6,8 +6,8 @@ use Rattle.std.proofs.lemmas.Option.{slice_get_within, get_or_from_slice_get}
 use Rattle.ev_base.specs.declared.names.Msg.{Msg}
 use Rattle.def_event.specs.declared.event.Event.{Event}
 use Rattle.def_event.specs.declared.event.Event.TheVariants.{Send, SendOnly, Carry}
-use Rattle.def_trace.specs.declared.reference.Reference.{Reference}
-use Rattle.def_trace.specs.Order.{Sending, Carrying, Taking, sending, carrying, taking, vat_behind, vat_after, DoesAt, IsFirst}
+use Rattle.def_event.specs.declared.reference.Reference.{Reference}
+use Rattle.def_event.specs.Order.{Sending, Carrying, Taking, sending, carrying, taking, vat_behind, vat_after, DoesAt, IsFirst}
 use Rattle.ev_order.specs.declared.mentions.Mention.{Mention}
 use Rattle.ev_order.specs.Mentions.{MentionList, IsThere, IsAbsent, IsAdded}
 use Rattle.ev_order.specs.Chains.{IsChain}

@@ -2,7 +2,7 @@
 use Rattle.std.specs.Prelude.{◌≡◌, ◌<◌, ◌≤◌, ℕ, List, length, Option, Some, None, MatchOption, slice_get}
 use Rattle.std.proofs.Math.ListN.{set}
 use Rattle.def_event.specs.declared.shown.Shown.{Shown, Name as Named}
-use Rattle.def_trace.specs.declared.reference.Reference.{Reference}
+use Rattle.def_event.specs.declared.reference.Reference.{Reference}
 use Rattle.ev_order.specs.declared.spread.Place.{Place}
 use Rattle.ev_order.specs.Last.{LastList, IsLast, HasNone, Sets}
 

@@ -1,8 +1,8 @@
 -- The places of a trace and what they lead to.
 use Rattle.std.specs.Prelude.{◌≡◌, ◌+◌, ◌<◌, ℕ, List, length, take, Option, Some, None}
 use Rattle.def_event.specs.declared.event.Event.{Event}
-use Rattle.def_trace.specs.declared.reference.Reference.{Reference}
-use Rattle.def_trace.specs.Order.{Sending, Carrying, IsSent, IsCarried, vat_at}
+use Rattle.def_event.specs.declared.reference.Reference.{Reference}
+use Rattle.def_event.specs.Order.{Sending, Carrying, IsSent, IsCarried, vat_at}
 use Rattle.ev_order.specs.declared.spread.Place.{Place}
 use Rattle.ev_order.specs.Chains.{IsLinked}
 use Rattle.ev_order.specs.Over.{IsReference, HasOver}

@@ -1,6 +1,6 @@
 -- The last place of each reference, as a list of pairs of which the first counts.
 use Rattle.std.specs.Prelude.{◌≡◌, ◌≢◌, ◌⊎◌, ℕ, List, [], ◌∷◌}
-use Rattle.def_trace.specs.declared.reference.Reference.{Reference}
+use Rattle.def_event.specs.declared.reference.Reference.{Reference}
 
 abbrev pub LastList : Type 0
 LastList = List (Reference × ℕ)

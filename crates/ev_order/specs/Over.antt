@@ -1,7 +1,7 @@
 -- Places of arguments that lead over to where the arguments come.
 use Rattle.std.specs.Prelude.{◌≡◌, ◌+◌, ◌<◌, ◌≤◌, ◌⊎◌, ℕ, Bool, true, false, List, length, Option, Some, slice_get}
 use Rattle.ev_base.specs.declared.names.Msg.{Msg}
-use Rattle.def_trace.specs.declared.reference.Reference.{Reference}
+use Rattle.def_event.specs.declared.reference.Reference.{Reference}
 use Rattle.ev_order.specs.declared.mentions.Mention.{Mention}
 use Rattle.ev_order.specs.declared.spread.Place.{Place}
 use Rattle.ev_order.specs.Mentions.{MentionList, IsThere}

@@ -5,8 +5,7 @@ ghost use Rattle.ev_order.specs.Chains.{IsChain, LinksLast, linked, reference};
 
 use crate::last::LastPlaces;
 use crate::spread::Place;
-use def_event::Shown;
-use def_trace::Reference;
+use def_event::{Reference, Shown};
 use ev_base::{Memory, Name};
 use std::alloc::Global;
 use std::marker::Model;

@@ -3,7 +3,7 @@
 ghost use Rattle.std.specs.Prelude.{◌≡◌, ◌+◌, ◌-◌, ◌<◌, IfOk, Some, length, slice_get};
 ghost use Rattle.ev_base.specs.declared.names.Msg.{Msg};
 ghost use Rattle.ev_order.specs.declared.mentions.Mention.{Mention};
-ghost use Rattle.def_trace.specs.Order.{JudgesOrder};
+ghost use Rattle.def_event.specs.Order.{JudgesOrder};
 ghost use Rattle.ev_order.specs.Graph.{IsGraph};
 ghost use Rattle.ev_order.specs.Over.{AreSingle};
 ghost use Rattle.ev_order.specs.Walk.{HoldsSent, HoldsTaken};
@@ -13,8 +13,7 @@ use crate::graph::graph_of;
 use crate::mentions::{Mention, Mentions};
 use crate::spread::{Place, first_labels};
 use crate::walk::is_object;
-use def_event::Event;
-use def_trace::Trace;
+use def_event::{Event, Trace};
 use ev_base::{Memory, Msg};
 use std::alloc::Global;
 

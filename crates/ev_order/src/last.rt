@@ -3,7 +3,7 @@
 ghost use Rattle.std.specs.Prelude.{◌≡◌, [], MatchOption, OnOk};
 ghost use Rattle.ev_order.specs.Last.{HasNone, IsLast, Sets};
 
-use def_trace::Reference;
+use def_event::Reference;
 use ev_base::{Memory, Name};
 use indexmap::IndexMap;
 use std::alloc::Global;

@@ -17,7 +17,7 @@ struct MessageKey {
 
 /// A line that speaks of a message: its number, the number of the first place that stands in it, how many arguments it
 /// has, and the number of the vat where it happens, or that a note leaves.
-#[derive(Clone, Copy, PartialEq, Eq)]
+#[derive(Clone, Copy)]
 pub struct Mention {
     pub line: usize,
     pub first: usize,

@@ -5,7 +5,7 @@ ghost use Rattle.ev_order.specs.Over.{AreSingle, FitIn, IsJoin, IsJoined, IsPair
 
 use crate::mentions::{Mention, Mentions};
 use crate::spread::Place;
-use def_trace::Reference;
+use def_event::Reference;
 
 /// Whether a reference stands at a place.
 fn is_reference(references: &[Option<Reference>], place: usize) -> bool

@@ -7,7 +7,7 @@ use ev_base::Memory;
 use std::alloc::Global;
 
 /// A place, and the two that it may lead to. A number at which there is no place leads nowhere.
-#[derive(Clone, Copy, PartialEq, Eq)]
+#[derive(Clone, Copy)]
 pub struct Place {
     pub next: Option<usize>,
     pub over: Option<usize>,

@@ -1,7 +1,7 @@
 //! What the lines of a trace say of the order of messages, gathered line by line.
 
 ghost use Rattle.std.specs.Prelude.{◌≡◌, ◌∷◌, ◌++◌, [], Some, None, length, map, IfOk, OnOk};
-ghost use Rattle.def_trace.specs.Order.{is_object, note_carrying, vat_behind};
+ghost use Rattle.def_event.specs.Order.{is_object, note_carrying, vat_behind};
 ghost use Rattle.ev_order.specs.Chains.{IsChain, reference};
 ghost use Rattle.ev_order.specs.Walk.{Does, IsWalked, Steps, carries_of, deed_of, does_carry, does_send, does_take, started};
 

@@ -2,16 +2,16 @@
 use Rattle.std.proofs.Common.{◌≡◌, ℕ, zero, suc, ◌-◌, ◌<◌, [], ◌∷◌, true, false, Option, Some, None, is_some, refl, sym, ◌∙◌, ap, subst, arith, sub-one}
 use Rattle.def_syntax.specs.declared.token.TokenKind.{TokenKind}
 use Rattle.def_syntax.specs.declared.token.TokenKind.TheVariants as kinds
-use Rattle.def_grammar.specs.declared.syntax.Line.{Line}
-use Rattle.def_grammar.specs.declared.syntax.Line.TheVariants as lines
-use Rattle.def_grammar.specs.declared.syntax.Tail.{Tail}
-use Rattle.def_grammar.specs.declared.place.Place.{Place}
-use Rattle.def_grammar.specs.declared.place.Place.TheVariants as places
-use Rattle.def_grammar.specs.declared.place.Move.TheVariants.{Takes}
-use Rattle.def_grammar.specs.declared.place.Series.{Series}
-use Rattle.def_grammar.specs.Grammar.{moves, closing, form_at, tower_of}
-use Rattle.def_grammar.specs.Machine.{Begun, begin, choose, under}
-use Rattle.def_grammar.proofs.Complete.{begin_unrolls, begin_tower, under_of}
+use Rattle.def_syntax.specs.declared.syntax.Line.{Line}
+use Rattle.def_syntax.specs.declared.syntax.Line.TheVariants as lines
+use Rattle.def_syntax.specs.declared.syntax.Tail.{Tail}
+use Rattle.def_syntax.specs.declared.place.Place.{Place}
+use Rattle.def_syntax.specs.declared.place.Place.TheVariants as places
+use Rattle.def_syntax.specs.declared.place.Move.TheVariants.{Takes}
+use Rattle.def_syntax.specs.declared.place.Series.{Series}
+use Rattle.def_syntax.specs.Grammar.{moves, closing, form_at, tower_of}
+use Rattle.def_syntax.specs.Machine.{Begun, begin, choose, under}
+use Rattle.def_syntax.proofs.Complete.{begin_unrolls, begin_tower, under_of}
 
 -- the moves behind a member, where more may come
 pub more_moves : (n : ℕ) (x : Series) → (n ≡ 0 → ⊥) → moves (places.More n x) ≡ Takes kinds.Comma (places.Item (n - 1) x) ∷ closing x ∷ []

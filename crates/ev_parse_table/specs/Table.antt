@@ -1,10 +1,10 @@
 -- The moves of the code as a list.
 use Rattle.std.specs.Prelude.{ℕ, Bool, true, false, List, [], ◌∷◌, min}
-use Rattle.def_grammar.specs.declared.place.Move.{Move}
-use Rattle.def_grammar.specs.declared.place.Moves.{Moves}
-use Rattle.def_grammar.specs.declared.place.Moves.TheVariants as counts
-use Rattle.def_grammar.specs.declared.place.Place.{Place}
-use Rattle.def_grammar.specs.declared.place.Place.TheVariants as places
+use Rattle.def_syntax.specs.declared.place.Move.{Move}
+use Rattle.def_syntax.specs.declared.place.Moves.{Moves}
+use Rattle.def_syntax.specs.declared.place.Moves.TheVariants as counts
+use Rattle.def_syntax.specs.declared.place.Place.{Place}
+use Rattle.def_syntax.specs.declared.place.Place.TheVariants as places
 
 abbrev pub listed : Moves → List Move
 listed counts.None = []

@@ -1,10 +1,10 @@
 //! How low a node can be that is read at a place.
 
 ghost use Rattle.std.specs.Prelude.{◌≡◌, ◌≤◌};
-ghost use Rattle.def_grammar.specs.Heights.{base, behind_need, closing_need, lift, low, lowest_of, need, weight};
+ghost use Rattle.def_syntax.specs.Heights.{base, behind_need, closing_need, lift, low, lowest_of, need, weight};
 ghost use Rattle.ev_parse_table.specs.Table.{capped};
 
-use def_grammar::{Head, Line, Place, Series, Shape};
+use def_syntax::{Head, Line, Place, Series, Shape};
 
 /// What a node of this shape adds to the height of its parts.
 pub fn weight_of(shape: Shape) -> u8

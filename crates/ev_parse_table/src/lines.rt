@@ -1,11 +1,10 @@
 //! The lines of the grammar: their alternatives by the first token, and what goes on behind a tree.
 
 ghost use Rattle.std.specs.Prelude.{◌≡◌};
-ghost use Rattle.def_grammar.specs.Grammar.{again, assigned, becomes, changed, form_at, more_at, tower_of};
+ghost use Rattle.def_syntax.specs.Grammar.{again, assigned, becomes, changed, form_at, more_at, tower_of};
 
 use crate::moves::MOST_MORE;
-use def_grammar::{Context, Head, Line, Place, Role, Series, Shape, Tail};
-use def_syntax::TokenKind;
+use def_syntax::{Context, Head, Line, Place, Role, Series, Shape, Tail, TokenKind};
 
 fn expr_form(kind: TokenKind) -> Option<Place>
     ensures { result ≡ form_at Line.Expr kind }

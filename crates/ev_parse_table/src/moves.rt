@@ -1,13 +1,13 @@
 //! The moves at each place.
 
 ghost use Rattle.std.specs.Prelude.{◌≡◌, [], ◌∷◌, true};
-ghost use Rattle.def_grammar.specs.Grammar.{behind, caught_shape, closing, definition_shape, ending, item_line, moves, named_shape, parameters, role_shape, value_line};
+ghost use Rattle.def_syntax.specs.Grammar.{behind, caught_shape, closing, definition_shape, ending, item_line, moves, named_shape, parameters, role_shape, value_line};
 ghost use Rattle.ev_parse_table.specs.Table.{is_in_definition, is_in_form, is_in_object, listed};
 
-use def_grammar::{
-    Caught, Context, Definition, Ending, Head, Line, Move, Moves, Named, Place, Role, Series, Shape,
+use def_syntax::{
+    Caught, Context, Definition, Ending, Head, Line, Move, Moves, Named, Place, Role, Series,
+    Shape, TokenKind,
 };
-use def_syntax::TokenKind;
 
 /// A list has one member and at most so many more.
 pub const MOST_MORE: u8 = 254;

@@ -1,14 +1,13 @@
 //! The move that a token begins.
 
 ghost use Rattle.std.specs.Prelude.{◌≡◌, is_some, if◌then◌else◌};
-ghost use Rattle.def_grammar.specs.Grammar.{is_stop};
-ghost use Rattle.def_grammar.specs.Kinds.{same};
-ghost use Rattle.def_grammar.specs.Machine.{accepts, begin, pick};
+ghost use Rattle.def_syntax.specs.Grammar.{is_stop};
+ghost use Rattle.def_syntax.specs.Kinds.{same};
+ghost use Rattle.def_syntax.specs.Machine.{accepts, begin, pick};
 ghost use Rattle.ev_parse_table.specs.Table.{listed};
 
 use crate::lines::{form_of, tower_at};
-use def_grammar::{Line, Move, Moves};
-use def_syntax::TokenKind;
+use def_syntax::{Line, Move, Moves, TokenKind};
 
 /// Whether a token is a separator or a closing bracket.
 pub fn is_stopping(kind: TokenKind) -> bool

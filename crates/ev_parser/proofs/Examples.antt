@@ -3,10 +3,10 @@ use Rattle.std.proofs.Common.{◌≡◌, ℕ, suc, List, [], ◌∷◌, ◌++◌
 use Rattle.def_syntax.specs.declared.token.Token.{Token}
 use Rattle.def_syntax.specs.declared.token.TokenKind.{TokenKind}
 use Rattle.def_syntax.specs.declared.token.TokenKind.TheVariants as kinds
-use Rattle.def_grammar.specs.Grammar.{Tree, Trees, node, none, more, leaf, no_word}
-use Rattle.def_grammar.specs.declared.syntax.Shape.TheVariants as shapes
-use Rattle.def_grammar.specs.Heights.{Answer, tree, answer, answer_from, low_frames}
-use Rattle.def_grammar.specs.Machine.{begin, step, step_in, pop, finish, end_frames}
+use Rattle.def_syntax.specs.Grammar.{Tree, Trees, node, none, more, leaf, no_word}
+use Rattle.def_syntax.specs.declared.syntax.Shape.TheVariants as shapes
+use Rattle.def_syntax.specs.Heights.{Answer, tree, answer, answer_from, low_frames}
+use Rattle.def_syntax.specs.Machine.{begin, step, step_in, pop, finish, end_frames}
 use Rattle.ev_parser.specs.declared.draft.Part.{Part}
 use Rattle.ev_parser.specs.declared.draft.Part.TheVariants as piece
 use Rattle.def_syntax.specs.declared.form.Form.{Form}

@@ -1,12 +1,12 @@
 -- How high each tree is that goes on from a place.
 use Rattle.std.proofs.Common.{◌≡◌, ℕ, List, [], ◌∷◌, ◌++◌, Bool, true, false, cond, Some, None, refl, ◌∙◌, ap, ◌+◌, ◌≤◌, ◌<◌, max, min, arith, nat_lt, ltb-true, ltb-false}
-use Rattle.def_grammar.specs.declared.place.Place.{Place}
+use Rattle.def_syntax.specs.declared.place.Place.{Place}
 use Rattle.ev_parser.specs.declared.draft.Node.{Node}
 use Rattle.ev_parser.specs.declared.draft.Stand.{Stand}
 use Rattle.ev_parser.specs.declared.draft.Waiting.{Waiting}
 use Rattle.ev_parser.specs.declared.draft.Waiting.TheVariants as waits
-use Rattle.def_grammar.specs.Machine.{Frame, within, after, State, at}
-use Rattle.def_grammar.specs.Heights.{tallest, base, need, lift, low, low_frames, least, most_height, noted}
+use Rattle.def_syntax.specs.Machine.{Frame, within, after, State, at}
+use Rattle.def_syntax.specs.Heights.{tallest, base, need, lift, low, low_frames, least, most_height, noted}
 use Rattle.ev_parser.specs.Draft.{ShowsFrame, ShowsFrames, ShowsState, low_waiting}
 use Rattle.ev_parser.specs.Stacks.{lowered}
 use Rattle.ev_parse_table.specs.Table.{capped}

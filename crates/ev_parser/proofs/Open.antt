@@ -1,15 +1,15 @@
 -- A line is opened as the machine begins it.
 use Rattle.std.proofs.Common.{◌≡◌, List, [], ◌∷◌, ◌++◌, Option, Some, None, refl, sym, ◌∙◌, subst, ap, append_assoc}
 use Rattle.def_syntax.specs.declared.token.TokenKind.{TokenKind}
-use Rattle.def_grammar.specs.declared.syntax.Line.{Line}
-use Rattle.def_grammar.specs.declared.syntax.Tail.{Tail}
-use Rattle.def_grammar.specs.declared.place.Place.{Place}
+use Rattle.def_syntax.specs.declared.syntax.Line.{Line}
+use Rattle.def_syntax.specs.declared.syntax.Tail.{Tail}
+use Rattle.def_syntax.specs.declared.place.Place.{Place}
 use Rattle.ev_parser.specs.declared.draft.Waiting.{Waiting}
 use Rattle.ev_parser.specs.declared.draft.Waiting.TheVariants as waits
-use Rattle.def_grammar.specs.Grammar.{form_at, tower_of}
-use Rattle.def_grammar.specs.Machine.{Frame, after, Begun, choose, under, begin}
+use Rattle.def_syntax.specs.Grammar.{form_at, tower_of}
+use Rattle.def_syntax.specs.Machine.{Frame, after, Begun, choose, under, begin}
 use Rattle.ev_parser.specs.Draft.{ShowsFrames, Opened}
-use Rattle.def_grammar.proofs.Complete.{begin_unrolls, begin_tower, under_of}
+use Rattle.def_syntax.proofs.Complete.{begin_unrolls, begin_tower, under_of}
 
 pub opened_form : (l : Line) (k : TokenKind) (q : Place) (ws : List Waiting) → form_at l k ≡ Some q → Opened (begin l k) (Some q) ws ws
 opened_form l k q ws h =

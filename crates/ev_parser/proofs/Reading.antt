@@ -1,12 +1,12 @@
 -- The steps over the tokens are the machine's answer.
 use Rattle.std.proofs.Common.{◌≡◌, ℕ, suc, ◌+◌, List, [], ◌∷◌, Option, Some, None, sym, ◌∙◌, subst, ap, drop, length, add-one, get_or, drop-cons, ◌<◌}
 use Rattle.def_syntax.specs.declared.token.Token.{Token}
-use Rattle.def_grammar.specs.declared.syntax.Word.{Word}
-use Rattle.def_grammar.specs.Grammar.{Tree}
-use Rattle.def_grammar.specs.Machine.{State, step, finish}
-use Rattle.def_grammar.specs.Heights.{Answer, no_spelling, noted, ended_with, onward, answer_from, answer}
-use Rattle.def_grammar.specs.Exact.{IsAnswer}
-use Rattle.def_grammar.proofs.Answers.{answer_exact}
+use Rattle.def_syntax.specs.declared.syntax.Word.{Word}
+use Rattle.def_syntax.specs.Grammar.{Tree}
+use Rattle.def_syntax.specs.Machine.{State, step, finish}
+use Rattle.def_syntax.specs.Heights.{Answer, no_spelling, noted, ended_with, onward, answer_from, answer}
+use Rattle.def_syntax.specs.Exact.{IsAnswer}
+use Rattle.def_syntax.proofs.Answers.{answer_exact}
 use Rattle.ev_parser.specs.Parsed.{numbered}
 
 word_of : ℕ → Token → Word

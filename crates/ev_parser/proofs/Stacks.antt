@@ -1,6 +1,6 @@
 -- The two stacks of frames grow and shrink together.
 use Rattle.std.proofs.Common.{◌≡◌, ℕ, zero, suc, List, [], ◌∷◌, ◌++◌, refl, sym, ◌∙◌, ap, length, get_or, ◌≤◌, ◌<◌, ◌-◌, take, take_all, arith}
-use Rattle.def_grammar.specs.declared.syntax.Tail.{Tail}
+use Rattle.def_syntax.specs.declared.syntax.Tail.{Tail}
 use Rattle.ev_parser.specs.declared.draft.Stand.{Stand}
 use Rattle.ev_parser.specs.declared.draft.Waiting.{Waiting}
 use Rattle.ev_parser.specs.declared.draft.Waiting.TheVariants as waits

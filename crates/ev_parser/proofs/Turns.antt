@@ -1,16 +1,16 @@
 -- One turn of the code is one of the machine.
 use Rattle.std.proofs.Common.{◌≡◌, ◌<◌, ℕ, zero, suc, List, [], ◌∷◌, ◌++◌, Bool, true, false, cond, Option, Some, None, refl, sym, ◌∙◌, subst, ap, append_assoc, length, slice_get, Vec, Global, ◌+◌, max, min, arith}
 use Rattle.def_syntax.specs.declared.token.TokenKind.{TokenKind}
-use Rattle.def_grammar.specs.declared.syntax.Word.{Word}
-use Rattle.def_grammar.specs.declared.syntax.Shape.{Shape}
-use Rattle.def_grammar.specs.declared.syntax.Line.{Line}
-use Rattle.def_grammar.specs.declared.syntax.Tail.{Tail}
-use Rattle.def_grammar.specs.declared.syntax.Tail.TheVariants as tails
-use Rattle.def_grammar.specs.declared.place.Place.{Place}
-use Rattle.def_grammar.specs.declared.place.Move.{Move}
-use Rattle.def_grammar.specs.declared.place.Move.TheVariants.{Takes, Reads, Wraps}
-use Rattle.def_grammar.specs.declared.place.Ending.{Ending}
-use Rattle.def_grammar.specs.declared.place.Ending.TheVariants as endings
+use Rattle.def_syntax.specs.declared.syntax.Word.{Word}
+use Rattle.def_syntax.specs.declared.syntax.Shape.{Shape}
+use Rattle.def_syntax.specs.declared.syntax.Line.{Line}
+use Rattle.def_syntax.specs.declared.syntax.Tail.{Tail}
+use Rattle.def_syntax.specs.declared.syntax.Tail.TheVariants as tails
+use Rattle.def_syntax.specs.declared.place.Place.{Place}
+use Rattle.def_syntax.specs.declared.place.Move.{Move}
+use Rattle.def_syntax.specs.declared.place.Move.TheVariants.{Takes, Reads, Wraps}
+use Rattle.def_syntax.specs.declared.place.Ending.{Ending}
+use Rattle.def_syntax.specs.declared.place.Ending.TheVariants as endings
 use Rattle.ev_parser.specs.declared.draft.Part.{Part}
 use Rattle.ev_parser.specs.declared.draft.Part.TheVariants as piece
 use Rattle.ev_parser.specs.declared.draft.Node.{Node}
@@ -19,9 +19,9 @@ use Rattle.ev_parser.specs.declared.draft.Waiting.{Waiting}
 use Rattle.ev_parser.specs.declared.draft.Waiting.TheVariants as waits
 use Rattle.ev_parser.specs.declared.draft.Turn.{Turn}
 use Rattle.ev_parser.specs.declared.draft.Turn.TheVariants as turns
-use Rattle.def_grammar.specs.Grammar.{Tree, Trees, node, none, more, leaf, moves, ending, is_stop, shape_of, word_of, parts_of, more_at, again, begun, lead, wrapped}
-use Rattle.def_grammar.specs.Machine.{Frame, within, after, Begun, begin, pick, Outcome, ended, stuck, opened, ends_before, follow_move, step_in, State, at, settle, pop, step, tail_step, finish, end_in, end_frames, and_then}
-use Rattle.def_grammar.specs.Heights.{weight, height, tallest}
+use Rattle.def_syntax.specs.Grammar.{Tree, Trees, node, none, more, leaf, moves, ending, is_stop, shape_of, word_of, parts_of, more_at, again, begun, lead, wrapped}
+use Rattle.def_syntax.specs.Machine.{Frame, within, after, Begun, begin, pick, Outcome, ended, stuck, opened, ends_before, follow_move, step_in, State, at, settle, pop, step, tail_step, finish, end_in, end_frames, and_then}
+use Rattle.def_syntax.specs.Heights.{weight, height, tallest}
 use Rattle.ev_parser.specs.Draft.{Shows, ShowsAll, StandBefore, ShowsStand, ShowsFrame, ShowsFrames, ShowsState, Opened, IsOpened, shape_before, end_shape, Comes, IsTaken, IsPut, lead_part, IsAdded, IsWrapped, IsBegun, begun_height, IsBegunStand, Ends, Ended}
 use Rattle.ev_parse_table.specs.Table.{capped}
 

@@ -1,10 +1,10 @@
 -- What the code's nodes and frames stand for.
 use Rattle.std.specs.Prelude.{◌≡◌, ◌<◌, ℕ, List, [], ◌∷◌, ◌++◌, Option, Some, None, slice_get, length, ◌+◌, ◌*◌, max, cond}
-use Rattle.def_grammar.specs.declared.syntax.Word.{Word}
-use Rattle.def_grammar.specs.declared.syntax.Shape.{Shape}
-use Rattle.def_grammar.specs.declared.syntax.Tail.{Tail}
-use Rattle.def_grammar.specs.declared.syntax.Tail.TheVariants as tails
-use Rattle.def_grammar.specs.declared.place.Place.{Place}
+use Rattle.def_syntax.specs.declared.syntax.Word.{Word}
+use Rattle.def_syntax.specs.declared.syntax.Shape.{Shape}
+use Rattle.def_syntax.specs.declared.syntax.Tail.{Tail}
+use Rattle.def_syntax.specs.declared.syntax.Tail.TheVariants as tails
+use Rattle.def_syntax.specs.declared.place.Place.{Place}
 use Rattle.ev_parser.specs.declared.draft.Part.{Part}
 use Rattle.ev_parser.specs.declared.draft.Part.TheVariants as piece
 use Rattle.ev_parser.specs.declared.draft.Node.{Node}
@@ -14,12 +14,12 @@ use Rattle.ev_parser.specs.declared.draft.Waiting.TheVariants as waits
 use Rattle.ev_parser.specs.declared.draft.Turn.{Turn}
 use Rattle.ev_parser.specs.declared.draft.Turn.TheVariants as turns
 use Rattle.def_syntax.specs.declared.token.TokenKind.{TokenKind}
-use Rattle.def_grammar.specs.declared.syntax.Line.{Line}
-use Rattle.def_grammar.specs.declared.place.Ending.{Ending}
-use Rattle.def_grammar.specs.declared.place.Ending.TheVariants as endings
-use Rattle.def_grammar.specs.Grammar.{Tree, Trees, node, none, more, leaf, no_word, is_stop}
-use Rattle.def_grammar.specs.Machine.{Frame, within, after, Begun, begin, State, at, step, pop, finish, end_frames}
-use Rattle.def_grammar.specs.Heights.{weight, tallest, low}
+use Rattle.def_syntax.specs.declared.syntax.Line.{Line}
+use Rattle.def_syntax.specs.declared.place.Ending.{Ending}
+use Rattle.def_syntax.specs.declared.place.Ending.TheVariants as endings
+use Rattle.def_syntax.specs.Grammar.{Tree, Trees, node, none, more, leaf, no_word, is_stop}
+use Rattle.def_syntax.specs.Machine.{Frame, within, after, Begun, begin, State, at, step, pop, finish, end_frames}
+use Rattle.def_syntax.specs.Heights.{weight, tallest, low}
 use Rattle.ev_parse_table.specs.Table.{capped}
 
 -- the trees among these parts stand before that place

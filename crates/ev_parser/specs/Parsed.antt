@@ -1,10 +1,10 @@
 -- What some tokens are read as.
 use Rattle.std.specs.Prelude.{◌≡◌, Result, Ok, Err, map, ℕ, suc, List, [], ◌∷◌}
 use Rattle.def_syntax.specs.declared.token.Token.{Token}
-use Rattle.def_grammar.specs.declared.syntax.Word.{Word}
-use Rattle.def_grammar.specs.Grammar.{Tree}
-use Rattle.def_grammar.specs.Heights.{tree, no_spelling, too_nested}
-use Rattle.def_grammar.specs.Exact.{IsAnswer}
+use Rattle.def_syntax.specs.declared.syntax.Word.{Word}
+use Rattle.def_syntax.specs.Grammar.{Tree}
+use Rattle.def_syntax.specs.Heights.{tree, no_spelling, too_nested}
+use Rattle.def_syntax.specs.Exact.{IsAnswer}
 use Rattle.ev_parser.specs.Draft.{Shows}
 use Rattle.ev_parser.specs.declared.draft.Node.{Node}
 use Rattle.ev_parser.specs.declared.parser.ParseFault.{ParseFault}

@@ -1,6 +1,6 @@
 //! What the reader of tokens holds: the nodes read so far, and the nodes that wait for the rest of them.
 
-use def_grammar::{Place, Shape, Tail, Word};
+use def_syntax::{Place, Shape, Tail, Word};
 
 /// A part of a node: the number of a node, or a token.
 #[derive(Clone, Copy)]

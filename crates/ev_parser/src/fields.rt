@@ -1,12 +1,11 @@
 //! The fields of a surface node, taken from the parts of a node that has been read.
 
 ghost use Rattle.std.specs.Prelude.{◌≡◌, ℕ, IfOk, drop, length, slice_get, take, ◌-◌, ◌++◌, ◌∷◌, []};
-ghost use Rattle.def_grammar.specs.Kinds.{same};
+ghost use Rattle.def_syntax.specs.Kinds.{same};
 ghost use Rattle.ev_parser.specs.Surface.{CatchAt, before, behind, catches, caught_at, cut, front, guard_of, is_boundary, is_mark, is_part, last_tree, mark, name_if, rest_of, text_at, tree_at, tree_if, trees, verb_if, word_text};
 
 use crate::draft::Part;
-use def_grammar::Word;
-use def_syntax::{Token, TokenKind};
+use def_syntax::{Token, TokenKind, Word};
 use ev_base::{Memory, NodeId, Seq, Str};
 use ev_parse_table::is_same;
 use std::alloc::{AllocError, Global};

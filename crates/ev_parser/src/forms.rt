@@ -3,15 +3,14 @@
 ghost use Rattle.std.specs.Prelude.{◌≡◌, IfOk, slice_get};
 ghost use Rattle.ev_parser.specs.Surface.{IsFormOf, for_form, is_part, name_if, surface, verb_if};
 ghost use Rattle.def_syntax.specs.declared.token.TokenKind.TheVariants as kinds;
-ghost use Rattle.def_grammar.specs.declared.syntax.Shape.TheVariants as shapes;
+ghost use Rattle.def_syntax.specs.declared.syntax.Shape.TheVariants as shapes;
 
 use crate::draft::{Node, Part};
 use crate::fields::{
     before, behind, catches, caught_at, front, guard_of, is_part, last_tree, rest_of, tail,
     text_at, tree_at, tree_if, trees, word_text,
 };
-use def_grammar::{Shape, Word};
-use def_syntax::{Form, Token, TokenKind};
+use def_syntax::{Form, Shape, Token, TokenKind, Word};
 use ev_base::{Memory, Str};
 use std::alloc::Global;
 

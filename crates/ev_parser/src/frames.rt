@@ -5,7 +5,7 @@ ghost use Rattle.ev_parser.specs.Stacks.{lowered};
 ghost use Rattle.ev_parser.specs.declared.draft.Waiting.TheVariants as waits;
 
 use crate::draft::{Stand, Waiting};
-use def_grammar::Tail;
+use def_syntax::Tail;
 use ev_parse_table::low_at;
 use std::alloc::{AllocError, Global};
 use std::marker::Model;

@@ -12,7 +12,7 @@ use ev_base::{Memory, NodeId, Seq};
 use std::alloc::Global;
 
 /// Why some tokens are not parsed.
-#[derive(Clone, Copy, Debug, PartialEq, Eq)]
+#[derive(Clone, Copy, Debug)]
 pub enum ParseFault {
     /// They spell no tree. The number is that of the first token behind which no continuation spells one, or the count
     /// of the tokens where each of them may stand there.

@@ -1,9 +1,9 @@
 //! Reads tokens with a stack of its own, one step for each token.
 
 ghost use Rattle.std.specs.Prelude.{◌≡◌, ◌<◌, ◌+◌, ℕ, List, length, IfOk, IsTrue, MatchOption, slice_get, Option, ◌∷◌, ◌++◌, [], nat_lt, ◌↔◌};
-ghost use Rattle.def_grammar.specs.Heights.{least, most_height, noted, weight};
-ghost use Rattle.def_grammar.specs.Grammar.{Tree, ending};
-ghost use Rattle.def_grammar.specs.Machine.{State, begin};
+ghost use Rattle.def_syntax.specs.Heights.{least, most_height, noted, weight};
+ghost use Rattle.def_syntax.specs.Grammar.{Tree, ending};
+ghost use Rattle.def_syntax.specs.Machine.{State, begin};
 ghost use Rattle.ev_parser.specs.Draft.{Came, Comes, Ended, Ends, IsAdded, IsBegun, IsBegunStand, IsCopied, begun_height, IsPut, IsTaken, IsOpened, IsWrapped, Opened, ShowsState, end_shape, lead_part, shape_before, turns_left};
 ghost use Rattle.ev_parse_table.specs.Table.{capped};
 ghost use Rattle.ev_parser.specs.Parsed.{IsRead};
@@ -12,8 +12,7 @@ ghost use Rattle.ev_parser.specs.declared.draft.Waiting.{Waiting};
 
 use crate::draft::{Node, Part, Stand, Turn, Waiting};
 use crate::frames::Frames;
-use def_grammar::{Ending, Line, Move, Place, Shape, Tail, Word};
-use def_syntax::{Token, TokenKind};
+use def_syntax::{Ending, Line, Move, Place, Shape, Tail, Token, TokenKind, Word};
 use ev_parse_table::{
     ending_of, form_of, is_stopping, low_at, more_of, moves_of, once_more, pick_move, tower_at,
     weight_of,

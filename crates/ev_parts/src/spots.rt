@@ -3,7 +3,7 @@
 use ev_base::Seq;
 
 /// What an item is.
-#[derive(Clone, Copy, PartialEq, Eq)]
+#[derive(Clone, Copy)]
 pub enum Part {
     /// The byte of an operation, `0f`, or the first byte of a description.
     Code(u8),
@@ -16,7 +16,7 @@ pub enum Part {
 }
 
 /// An item, and the offset at which it begins.
-#[derive(Clone, Copy, PartialEq, Eq)]
+#[derive(Clone, Copy)]
 pub struct Spot {
     pub at: u64,
     pub part: Part,

@@ -16,7 +16,7 @@ use ev_op::text::text_of;
 use std::alloc::{AllocError, AllocFailed};
 
 /// Want of memory, or the place of the first item that is not allowed.
-#[derive(Clone, Copy, PartialEq, Eq)]
+#[derive(Clone, Copy)]
 pub(crate) enum WalkError {
     Memory,
     Stopped(u64),

@@ -6,10 +6,9 @@ ghost use Rattle.ev_pass.specs.Delivering.{deliver, inform, inform_at, inform_pl
 
 use crate::interior::{Interior, Stop};
 use crate::note::{Note, Reference};
-use ev_base::{MsgId, PromId, Value, VatId};
+use ev_base::{MsgId, PromId, Value, VatId, Word};
 use ev_heap::Happened;
 use ev_refs::Place;
-use ev_word::Word;
 
 impl Interior {
     /// A message goes out to that vat, on what it is sent on there, and asks for the answer that this vat knows as that name, if it does: its arguments pass, and then

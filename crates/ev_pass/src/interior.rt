@@ -7,10 +7,9 @@ ghost use Rattle.ev_pass.specs.Notes.{noted};
 use crate::note::Note;
 use crate::post::Post;
 use ev_base::{Memory, PromId, TextId, VatId};
-use ev_heap::{Happened, Heap};
+use ev_heap::{Happened, Heap, Micro};
 use ev_intro::Words;
 use ev_refs::Refs;
-use ev_told::Micro;
 use std::alloc::Global;
 
 /// Why something that a vat does came to no end.

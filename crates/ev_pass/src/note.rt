@@ -1,8 +1,7 @@
 //! What one vat tells another, in the numbers of the vat that tells it.
 
 use crate::draw::Swiss;
-use ev_base::{MsgId, ObjId, PromId, Value, VatId};
-use ev_word::Word;
+use ev_base::{MsgId, ObjId, PromId, Value, VatId, Word};
 
 /// What a note is about at the vat that it goes to: an object or a promise, as this vat knows it.
 #[derive(Clone, Copy)]

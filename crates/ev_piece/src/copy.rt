@@ -4,8 +4,7 @@ ghost use Rattle.std.specs.Prelude.{◌≡◌, IfOk};
 ghost use Rattle.def_kernel.specs.declared.node.Node.TheVariants.{Call, Final, ListPattern, Lit, Method, Noun, Object, Sequence, Set, Var};
 
 use def_kernel::{Literal, Node};
-use ev_base::{Memory, NodeId, Seq};
-use ev_word::Word;
+use ev_base::{Memory, NodeId, Seq, Word};
 use std::alloc::Global;
 
 fn numbers(alloc: Global, ids: &Seq<NodeId>) -> Result<Seq<NodeId>, Memory>

@@ -5,8 +5,7 @@ ghost use Rattle.ev_piece.specs.Pieces.{call, def, escape, escape_catch, finally
 
 use crate::build::{add, add_all, add_if, headed};
 use def_kernel::{Literal, Node};
-use ev_base::{Memory, Seq, Str};
-use ev_word::Word;
+use ev_base::{Memory, Seq, Str, Word};
 use std::alloc::Global;
 
 /// `(lit L)`

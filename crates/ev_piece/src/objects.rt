@@ -5,8 +5,7 @@ ghost use Rattle.ev_piece.specs.Pieces.{any, final_pattern, list, matcher, metho
 
 use crate::build::{add, add_all, add_if, headed};
 use def_kernel::Node;
-use ev_base::{Memory, Seq, Str};
-use ev_word::Word;
+use ev_base::{Memory, Seq, Str, Word};
 use std::alloc::Global;
 
 /// `(object P (E ..) M ..)`

@@ -5,8 +5,7 @@ ghost use Rattle.def_kernel.specs.declared.node.Node.TheVariants.{Any, Call, Def
 ghost use Rattle.ev_piece.specs.Placed.{node_at, placed};
 
 use def_kernel::Node;
-use ev_base::{Memory, NodeId, Seq};
-use ev_word::Word;
+use ev_base::{Memory, NodeId, Seq, Word};
 use std::alloc::Global;
 
 /// The number of a part of the node at this number.

@@ -10,8 +10,8 @@ use Rattle.def_machine.specs.Ints as machine
 use Rattle.ev_integer.specs.Ints as num
 use Rattle.ev_integer.specs.declared.arithmetic.IntOp.{IntOp}
 use Rattle.ev_integer.specs.declared.arithmetic.IntOp.TheVariants.{Subtract}
-use Rattle.law_integer.specs.Same.{op_of, told}
-use Rattle.law_integer.proofs.Sames.{same}
+use Rattle.ev_prims.specs.Same.{op_of, told}
+use Rattle.ev_prims.proofs.Sames.{same}
 use Rattle.ev_prims.specs.Verbs.{code_of, alone_named, operation_named}
 use Rattle.ev_prims.specs.declared.integers.AloneVerb.TheVariants.{Negate, ToChar}
 use Rattle.ev_prims.proofs.VerbLemmas.{int_negate, int_char, int_unary_none, int_binary_some, int_binary_none}

@@ -1,3 +1,4 @@
+pub mod Sames
 pub mod AskLemmas
 pub mod AskMeans
 pub mod Casts

@@ -9,8 +9,8 @@ use Rattle.ev_base.specs.declared.values.Value.TheVariants as held
 use Rattle.ev_base.specs.declared.memory.Memory.{Memory}
 use Rattle.ev_heap.specs.Contents.{Contents}
 use Rattle.ev_heap.specs.declared.kept.Listed.{Listed}
-use Rattle.law_integer.specs.Same.{op_of, told}
-use Rattle.law_integer.proofs.Sames as arithmetic
+use Rattle.ev_prims.specs.Same.{op_of, told}
+use Rattle.ev_prims.proofs.Sames as arithmetic
 use Rattle.def_machine.specs.Free.{entry}
 use Rattle.def_machine.specs.Ints as ints
 use Rattle.def_machine.specs.Values.{Words, Value, Letter, Number, Items, Local}

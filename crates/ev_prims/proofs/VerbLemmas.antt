@@ -9,7 +9,7 @@ use Rattle.def_machine.specs.Native as native
 use Rattle.ev_prims.specs.Asking.{ref_test_in}
 use Rattle.ev_prims.specs.Orders.{test_in}
 use Rattle.ev_prims.specs.Verbs.{picked, operations, operation_named, int_verb_of, alone_verbs, alone_named, alone_of, joinings, joining_named, flag_verb_of, text_verbs, text_verb_named, list_verbs, list_verb_named, seq_verb_of, tests, test_named, range_verbs, range_named, ref_tests, ref_test_named}
-use Rattle.law_integer.specs.Same.{op_of}
+use Rattle.ev_prims.specs.Same.{op_of}
 use Rattle.ev_integer.specs.declared.arithmetic.IntOp.{IntOp}
 use Rattle.ev_prims.specs.declared.asking.RefTest.{RefTest}
 use Rattle.ev_prims.specs.declared.flags.Joining.{Joining}

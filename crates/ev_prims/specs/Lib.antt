@@ -1,3 +1,4 @@
+pub mod Same
 pub mod Answers
 pub mod Asking
 pub mod Asks

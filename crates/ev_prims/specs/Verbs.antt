@@ -2,7 +2,7 @@
 use Rattle.std.specs.Prelude.{ℕ, ℤ, pos, negsuc, Bool, true, false, if◌then◌else◌, List, [], ◌∷◌, Some, None, codes}
 use Rattle.std.specs.declared.option.Option.{Option}
 use Rattle.std.specs.Str.{bytes_eq}
-use Rattle.law_integer.specs.Same.{op_of}
+use Rattle.ev_prims.specs.Same.{op_of}
 use Rattle.def_machine.specs.Values.{Words}
 use Rattle.def_machine.specs.Native as native
 use Rattle.ev_integer.specs.declared.arithmetic.IntOp.{IntOp}

@@ -1,6 +1,7 @@
-//! What values that are no objects answer to calls, and what is asked of primitives.
+//! What lists, texts, integers and the other values of the language answer.
 #![tactic(auto)]
 
+pub mod arithmetic;
 pub mod asking;
 pub mod data;
 mod flags;

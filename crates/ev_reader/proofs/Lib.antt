@@ -1,0 +1,4 @@
+pub mod Names
+pub mod TaskLemmas
+pub mod Weights
+mod Rows

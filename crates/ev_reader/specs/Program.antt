@@ -11,10 +11,10 @@ use Rattle.ev_expand.specs.declared.marks.Fault.{Fault}
 use Rattle.ev_expand.specs.declared.marks.FaultKind.{FaultKind}
 use Rattle.ev_expand.specs.declared.marks.FaultKind.TheVariants.{Return, Break, Name}
 use Rattle.ev_expand.specs.Expanded.{expanded}
-use Rattle.ev_scope.specs.declared.fault.ScopeFault.{ScopeFault}
-use Rattle.ev_scope.specs.declared.fault.ScopeFault.TheVariants.{Unbound, AssignToFinal, BoundTwice, Memory as NoMemory}
-use Rattle.ev_scope.specs.declared.accepted.Scoped.{Scoped}
-use Rattle.ev_scope.specs.Scopes.{first_fault}
+use Rattle.ev_reader.specs.declared.scope_fault.ScopeFault.{ScopeFault}
+use Rattle.ev_reader.specs.declared.scope_fault.ScopeFault.TheVariants.{Unbound, AssignToFinal, BoundTwice, Memory as NoMemory}
+use Rattle.ev_reader.specs.declared.accepted.Scoped.{Scoped}
+use Rattle.ev_reader.specs.Scopes.{first_fault}
 use Rattle.ev_reader.specs.declared.fault.ProgramFault.{ProgramFault}
 use Rattle.ev_reader.specs.declared.fault.ProgramFault.TheVariants.{At, Memory}
 use Rattle.ev_reader.specs.declared.fault.Stage.TheVariants.{Lex, Parse, Nested, Expand, Scope}

@@ -8,7 +8,7 @@ use std::error::Error;
 use std::fmt;
 
 /// The part of the reading at which a program is refused.
-#[derive(Clone, Copy, Debug, PartialEq, Eq)]
+#[derive(Clone, Copy, Debug)]
 pub enum Stage {
     /// The text has no tokens.
     Lex,
@@ -38,7 +38,7 @@ impl Stage {
 }
 
 /// Why a program is refused.
-#[derive(Clone, Copy, Debug, PartialEq, Eq)]
+#[derive(Clone, Copy, Debug)]
 pub enum ProgramFault {
     /// The stage, the kind of the fault there, and its place: a byte of the text for `Lex`, a node of the kernel tree for
     /// `Scope`, and else the number of a token. `Parse` and `Nested` have the one kind 0.

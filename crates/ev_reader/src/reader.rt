@@ -3,13 +3,13 @@
 ghost use Rattle.ev_reader.specs.Program.{Answers, ExpandAnswers, IsRefusal, LexAnswers, ParseAnswers, ScopeAnswers};
 
 use crate::fault::{ProgramFault, Stage};
+use crate::{ScopeFault, Scoped, check};
 use def_kernel::Kernel;
 use def_syntax::{Sugar, Token};
 use ev_base::{Seq, Str};
 use ev_expand::{ExpandFault, expand};
 use ev_lexer::{LexFault, lex};
 use ev_parser::{ParseFault, parse};
-use ev_scope::{ScopeFault, Scoped, check};
 use std::alloc::Global;
 
 /// The tokens of a text.

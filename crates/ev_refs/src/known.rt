@@ -4,8 +4,7 @@ ghost use Rattle.std.specs.Prelude.{◌≡◌, OnErr, OnOk};
 ghost use Rattle.def_machine.specs.State.{is_in, with_vat};
 ghost use Rattle.ev_refs.specs.Changes.{seen_as, settled_as, unless_settled, waiters_at, waiting_on, with_held, with_reaction, with_told, with_waiting};
 
-use ev_base::{Memory, MsgId, PromId, Seq, Value, VatId};
-use ev_word::Word;
+use ev_base::{Memory, MsgId, PromId, Seq, Value, VatId, Word};
 use std::alloc::Global;
 use std::mem;
 

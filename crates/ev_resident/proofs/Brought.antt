@@ -7,26 +7,26 @@ use Rattle.ev_base.specs.declared.names.Name.{Name as ShownName}
 use Rattle.ev_base.specs.declared.names.Name.TheVariants as shown
 use Rattle.ev_base.specs.declared.values.Value.{Value}
 use Rattle.ev_base.specs.declared.values.Value.TheVariants as held
-use Rattle.def_local.specs.Names as local
-use Rattle.def_local.specs.Names.{Told, of_promise}
-use Rattle.def_local.specs.Numbers.{brought, carried_in, name_at_vat, name_exported, told_answer, told_imports, told_learnt}
-use Rattle.def_local.specs.Vats.{Member as Theirs, connection_for}
+use Rattle.def_run.specs.Names as local
+use Rattle.def_run.specs.Names.{Told, of_promise}
+use Rattle.def_run.specs.Numbers.{brought, carried_in, name_at_vat, name_exported, told_answer, told_imports, told_learnt}
+use Rattle.def_run.specs.Vats.{Member as Theirs, connection_for}
 use Rattle.def_machine.specs.State.{Note, Deliver, Open, Ask, SettledTo, Elsewhere, Shorten, Vat}
 use Rattle.def_machine.specs.Values.{Name, Root, Gift, Local, key, answer_of}
 use Rattle.def_run.specs.Connections.{Connection, Learnt}
 use Rattle.def_run.specs.Shown.{msg_of, shown_name}
 use Rattle.ev_intro.specs.Word.{Drawn}
-use Rattle.ev_member.specs.Hearing.{Brings, HeardNote}
-use Rattle.ev_naming.proofs.Saying.{key_shown, says_more, says_same}
-use Rattle.ev_naming.specs.Names.{Entry, Named, carried_mails, each_tells, gift_at, told_at}
-use Rattle.ev_naming.specs.Printing.{Agrees}
-use Rattle.ev_naming.specs.Standing.{Says, mail_of, mails_of, printed, words_of}
-use Rattle.ev_outcome.proofs.Naming.{agrees}
-use Rattle.ev_outcome.specs.Standing.{NamesStand, ObjectsStand}
-use Rattle.ev_peer.specs.Standing.{AreReferences, connection_of, is_reference, local_of}
-use Rattle.ev_read.specs.Learnt.{LearntGifts}
-use Rattle.ev_read.specs.Reading.{learnt_of}
-use Rattle.ev_read.specs.declared.news.News.{News}
+use Rattle.ev_vat.specs.Hearing.{Brings, HeardNote}
+use Rattle.ev_resident.proofs.Saying.{key_shown, says_more, says_same}
+use Rattle.ev_resident.specs.Names.{Entry, Named, carried_mails, each_tells, gift_at, told_at}
+use Rattle.ev_resident.specs.Printing.{Agrees}
+use Rattle.ev_resident.specs.NamesStanding.{Says, mail_of, mails_of, printed, words_of}
+use Rattle.ev_resident.proofs.Naming.{agrees}
+use Rattle.ev_resident.specs.OutcomeStanding.{NamesStand, ObjectsStand}
+use Rattle.ev_tables.specs.Standing.{AreReferences, connection_of, is_reference, local_of}
+use Rattle.ev_wire.specs.Learnt.{LearntGifts}
+use Rattle.ev_wire.specs.Reading.{learnt_of}
+use Rattle.ev_wire.specs.declared.news.News.{News}
 use Rattle.ev_resident.specs.Brought.{all_learnt_tell, answer_tells, import_tells, imports_tell, learnt_tells, message_tells, name_if}
 use Rattle.ev_tables.specs.Table.{Table}
 use Rattle.ev_ways.specs.Standing.{asks_in}

@@ -1,13 +1,13 @@
 -- What a vat exported to a peer, in the code and in the run.
 use Rattle.std.proofs.Common.{◌≡◌, ℕ, List, get_or, sym, ap, ◌∙◌}
-use Rattle.def_local.specs.Vats.{Member as Theirs, connection_for, unconnected}
+use Rattle.def_run.specs.Vats.{Member as Theirs, connection_for, unconnected}
 use Rattle.def_machine.specs.Values.{Local}
 use Rattle.def_run.specs.Connections.{Connection}
-use Rattle.ev_member.specs.Standing.{IsMember}
-use Rattle.ev_member.specs.declared.member.Member.{Member}
-use Rattle.ev_peer.specs.Standing.{AreReferences, connection_of}
-use Rattle.ev_write.specs.Putting.{table_for}
-use Rattle.law_peers.proofs.Writes.{connection_is, table_is}
+use Rattle.ev_vat.specs.Standing.{IsMember}
+use Rattle.ev_vat.specs.declared.member.Member.{Member}
+use Rattle.ev_tables.specs.Standing.{AreReferences, connection_of}
+use Rattle.ev_wire.specs.Putting.{table_for}
+use Rattle.ev_wire.proofs.Writes.{connection_is, table_is}
 
 pub connection_between : (m : Theirs) (c : Member) → IsMember m c → (u : ℕ) → connection_for u m ≡ connection_of (table_for u c.connections.items)
 unfolding connection_for

@@ -1,19 +1,19 @@
 -- The frames that are told of a step are those of the run.
 use Rattle.std.proofs.Common.{◌≡◌, ℕ, Bool, List, map, sym, subst}
-use Rattle.def_local.specs.Names.{Names}
-use Rattle.def_local.specs.Numbers.{frames_of, name_at_vat}
-use Rattle.def_local.specs.Vats.{Member as Theirs}
+use Rattle.def_run.specs.Names.{Names}
+use Rattle.def_run.specs.Numbers.{frames_of, name_at_vat}
+use Rattle.def_run.specs.Vats.{Member as Theirs}
 use Rattle.def_machine.specs.State.{Put, Vat}
 use Rattle.def_machine.specs.Values.{Words, Name, Local}
 use Rattle.def_run.specs.Connections.{Connection}
 use Rattle.ev_arrive.specs.declared.host.Host.{Host}
-use Rattle.ev_member.specs.Sending.{AreOps, sending_of, spelled}
-use Rattle.ev_member.specs.declared.sending.Sending.{Sending}
-use Rattle.ev_naming.specs.Names.{Named}
-use Rattle.ev_naming.specs.Printing.{Agrees}
-use Rattle.ev_naming.specs.Standing.{words_of}
-use Rattle.ev_outcome.specs.Standing.{IsAfter, NamesStand, ObjectsStand}
-use Rattle.ev_outcome.proofs.Naming.{agrees, mails_named, outbox_is, words_drawn}
+use Rattle.ev_vat.specs.Sending.{AreOps, sending_of, spelled}
+use Rattle.ev_vat.specs.declared.sending.Sending.{Sending}
+use Rattle.ev_resident.specs.Names.{Named}
+use Rattle.ev_resident.specs.Printing.{Agrees}
+use Rattle.ev_resident.specs.NamesStanding.{words_of}
+use Rattle.ev_resident.specs.OutcomeStanding.{IsAfter, NamesStand, ObjectsStand}
+use Rattle.ev_resident.proofs.Naming.{agrees, mails_named, outbox_is, words_drawn}
 use Rattle.ev_pass.specs.Reading.{put_by}
 use Rattle.ev_resident.specs.Framing.{AreOutgoing, all_outgoing}
 use Rattle.ev_resident.specs.declared.outgoing.Outgoing.{Outgoing}

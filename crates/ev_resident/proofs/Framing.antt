@@ -3,21 +3,21 @@ use Rattle.std.proofs.Common.{◌≡◌, ℕ, Bool, List, [], ◌∷◌, ◌++�
 use Rattle.std.specs.Prelude.{option_map, slice_get}
 use Rattle.std.proofs.lemmas.List.{length-append}
 use Rattle.std.proofs.lemmas.Option.{slice_get-map}
-use Rattle.def_local.specs.Numbers.{Addressed as Framed, frames_of, written_on}
-use Rattle.def_local.specs.Vats.{sight_for, unconnected}
+use Rattle.def_run.specs.Numbers.{Addressed as Framed, frames_of, written_on}
+use Rattle.def_run.specs.Vats.{sight_for, unconnected}
 use Rattle.def_machine.specs.Maps as maps
 use Rattle.def_machine.specs.State.{Vat}
 use Rattle.def_machine.specs.Values.{Name, Local, Mess}
 use Rattle.def_op.specs.Frames.{IsOp}
 use Rattle.def_run.specs.Connections.{Connection, frame_now}
 use Rattle.ev_intro.specs.Word.{Drawn}
-use Rattle.ev_member.specs.Sending.{AreOps, Sent as Packed, sending_of, spelled}
-use Rattle.ev_member.specs.declared.sending.Sending.{Sending}
-use Rattle.ev_naming.specs.Noting.{Noting}
-use Rattle.ev_naming.specs.Printing.{Agrees, telling_in}
-use Rattle.ev_naming.specs.Standing.{mail_of, words_of}
-use Rattle.ev_outcome.specs.Notes.{frame_by}
-use Rattle.ev_outcome.proofs.Noting.{frame_is}
+use Rattle.ev_vat.specs.Sending.{AreOps, Sent as Packed, sending_of, spelled}
+use Rattle.ev_vat.specs.declared.sending.Sending.{Sending}
+use Rattle.ev_resident.specs.Noting.{Noting}
+use Rattle.ev_resident.specs.Printing.{Agrees, telling_in}
+use Rattle.ev_resident.specs.NamesStanding.{mail_of, words_of}
+use Rattle.ev_resident.specs.Notes.{frame_by}
+use Rattle.ev_resident.proofs.NotesFramed.{frame_is}
 use Rattle.ev_pass.specs.Notes.{Sent, sent}
 use Rattle.ev_pass.specs.Reading.{note_by, put_by}
 use Rattle.ev_pass.specs.declared.post.Put.{Put as Posted}

@@ -6,8 +6,8 @@ use Rattle.ev_base.specs.declared.names.Name.TheVariants as shown
 use Rattle.def_machine.specs.State.{Vat}
 use Rattle.def_machine.specs.Values.{Name, Root, Local}
 use Rattle.def_run.specs.Shown.{shown_name}
-use Rattle.ev_naming.specs.Names.{Named, names_first}
-use Rattle.ev_outcome.specs.Standing.{NamesStand}
+use Rattle.ev_resident.specs.Names.{Named, names_first}
+use Rattle.ev_resident.specs.OutcomeStanding.{NamesStand}
 use Rattle.ev_resident.specs.Starting.{with_root, with_roots}
 
 pub roots_on : (vs : List ℕ) (k v : ℕ) (n m total : Named) → k < length vs → v ≡ get_or vs k v → m ≡ with_root v n → with_roots (drop k vs) n ≡ total → with_roots (drop (k + 1) vs) m ≡ total

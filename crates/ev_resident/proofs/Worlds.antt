@@ -1,18 +1,18 @@
 -- A world that sees a vat which a step left.
 use Rattle.std.proofs.Common.{◌≡◌, ℕ, List, [], Result, Ok, Err, refl, sym, ap, ◌∙◌, append-nil}
 use Rattle.std.specs.Prelude.{OnOk}
-use Rattle.def_local.specs.Vats.{Member as Theirs}
+use Rattle.def_run.specs.Vats.{Member as Theirs}
 use Rattle.def_machine.specs.State.{Vat}
 use Rattle.def_machine.specs.Values.{Local}
 use Rattle.ev_intro.specs.Word.{Drawn}
-use Rattle.ev_member.specs.Steps.{Having}
-use Rattle.ev_member.specs.declared.member.Member.{Member}
-use Rattle.ev_member.specs.declared.sending.Sending.{Sending}
-use Rattle.ev_outcome.specs.Standing.{IsAfter}
+use Rattle.ev_vat.specs.MemberSteps.{Having}
+use Rattle.ev_vat.specs.declared.member.Member.{Member}
+use Rattle.ev_vat.specs.declared.sending.Sending.{Sending}
+use Rattle.ev_resident.specs.OutcomeStanding.{IsAfter}
 use Rattle.ev_resident.specs.Standing.{IsStepped}
 use Rattle.ev_room.specs.Reading.{World}
 use Rattle.ev_room.specs.Sound.{IsSound}
-use Rattle.ev_member.specs.Rooted.{fresh}
+use Rattle.ev_vat.specs.Rooted.{fresh}
 
 -- words are drawn under the key of those that were lent
 pub under : {A E : Type 0} {before lent : Drawn} (k : List ℕ) (r : Result A E) → before ≡ lent → OnOk r (k ≡ before.key) → OnOk r (k ≡ lent.key)

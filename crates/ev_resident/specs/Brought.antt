@@ -6,12 +6,12 @@ use Rattle.ev_base.specs.declared.names.Name.TheVariants as name
 use Rattle.ev_base.specs.declared.values.Value.{Value}
 use Rattle.ev_base.specs.declared.values.Value.TheVariants as held
 use Rattle.ev_intro.specs.Word.{Drawn}
-use Rattle.ev_naming.specs.Names.{Entry, each_tells, gift_at, with_told}
-use Rattle.ev_read.specs.Learnt.{LearntGift, LearntGifts}
-use Rattle.ev_read.specs.declared.news.News.{News}
+use Rattle.ev_resident.specs.Names.{Entry, each_tells, gift_at, with_told}
+use Rattle.ev_wire.specs.Learnt.{LearntGift, LearntGifts}
+use Rattle.ev_wire.specs.declared.news.News.{News}
 use Rattle.ev_resident.specs.declared.resident.Resident.{Resident}
 use Rattle.ev_step_lines.specs.Lines.{Naming, name_at, object_at}
-use Rattle.ev_write.specs.Putting.{table_for}
+use Rattle.ev_wire.specs.Putting.{table_for}
 
 -- the name of what a vat holds so, by the names of its numbers; what is no reference stands for the vat's root
 abbrev pub name_of : Naming → Value → Name

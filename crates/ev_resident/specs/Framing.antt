@@ -1,9 +1,9 @@
 -- The frames that a step puts.
 use Rattle.std.specs.Prelude.{◌≡◌, ℕ, List, [], ◌∷◌}
-use Rattle.def_local.specs.Numbers.{Addressed as Framed}
-use Rattle.ev_member.specs.declared.sending.Sending.{Sending}
-use Rattle.ev_naming.specs.Noting.{Noting}
-use Rattle.ev_outcome.specs.Notes.{frame_by}
+use Rattle.def_run.specs.Numbers.{Addressed as Framed}
+use Rattle.ev_vat.specs.declared.sending.Sending.{Sending}
+use Rattle.ev_resident.specs.Noting.{Noting}
+use Rattle.ev_resident.specs.Notes.{frame_by}
 use Rattle.ev_pass.specs.Notes.{Sent}
 use Rattle.ev_resident.specs.declared.outgoing.Outgoing.{Outgoing}
 use Rattle.ev_ways.specs.Standing.{IsFrame}

@@ -1,19 +1,19 @@
 -- A vat of a run in the code, and the vat of the run in numbers that it stands for.
 use Rattle.std.specs.Prelude.{◌≡◌, ℕ, List}
-use Rattle.def_local.specs.Numbers.{Vats}
-use Rattle.def_local.specs.Vats.{Member as Theirs}
+use Rattle.def_run.specs.Numbers.{Vats}
+use Rattle.def_run.specs.Vats.{Member as Theirs}
 use Rattle.def_machine.specs.State.{Vat}
 use Rattle.def_machine.specs.Values.{Local}
 use Rattle.def_run.specs.World.{Script}
 use Rattle.ev_arrive.specs.Reading.{with_gifts}
-use Rattle.ev_member.specs.Standing.{IsMember, Sees}
-use Rattle.ev_member.specs.Steps.{Having, Leaves}
-use Rattle.ev_member.specs.declared.member.Member.{Member}
-use Rattle.ev_member.specs.declared.sending.Sending.{Sending}
-use Rattle.ev_outcome.specs.Standing.{NamesStand, ObjectsStand}
+use Rattle.ev_vat.specs.Standing.{IsMember, Sees}
+use Rattle.ev_vat.specs.MemberSteps.{Having, Leaves}
+use Rattle.ev_vat.specs.declared.member.Member.{Member}
+use Rattle.ev_vat.specs.declared.sending.Sending.{Sending}
+use Rattle.ev_resident.specs.OutcomeStanding.{NamesStand, ObjectsStand}
 use Rattle.ev_resident.specs.declared.resident.Resident.{Resident}
 use Rattle.ev_room.specs.Reading.{World, vat_of}
-use Rattle.ev_member.specs.Vat.{IsReady}
+use Rattle.ev_vat.specs.Vat.{IsReady}
 
 -- Between two steps of the run: it is vat u, which is m, and its names are those that were told.
 pub record IsResident (S : Script) (w : Vats) (u : ℕ) (m : Theirs) (r : Resident) : Type 0 where

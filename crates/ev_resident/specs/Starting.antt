@@ -1,6 +1,6 @@
 -- The names of a vat at its start.
 use Rattle.std.specs.Prelude.{ℕ, zero, List, [], ◌∷◌}
-use Rattle.ev_naming.specs.Names.{Named}
+use Rattle.ev_resident.specs.Names.{Named}
 use Rattle.ev_step_lines.specs.Lines.{with_import}
 
 -- the root of that vat comes to stand at the next position

@@ -1,14 +1,14 @@
 -- What is told of a step.
 use Rattle.std.specs.Prelude.{◌≡◌, ℕ, List, ◌++◌}
 use Rattle.def_event.specs.declared.event.Event.{Event as ShownEvent}
-use Rattle.def_local.specs.Names.{Names, Told, names_after}
-use Rattle.def_local.specs.Numbers.{Vats, frames_of, lines_of, name_at_vat}
+use Rattle.def_run.specs.Names.{Names, Told, names_after}
+use Rattle.def_run.specs.Numbers.{Vats, frames_of, lines_of, name_at_vat}
 use Rattle.def_machine.specs.State.{Vat}
 use Rattle.def_machine.specs.Values.{Name, Local}
 use Rattle.def_run.specs.Connections.{Connection}
 use Rattle.def_run.specs.Text.{shown_events}
-use Rattle.ev_naming.specs.Names.{Named}
-use Rattle.ev_outcome.specs.Standing.{NamesStand}
+use Rattle.ev_resident.specs.Names.{Named}
+use Rattle.ev_resident.specs.OutcomeStanding.{NamesStand}
 use Rattle.ev_resident.specs.Framing.{AreOutgoing}
 use Rattle.ev_resident.specs.declared.outgoing.Outgoing.{Outgoing}
 

@@ -1,25 +1,25 @@
 //! What a frame told of numbers.
 
 ghost use Rattle.std.specs.Prelude.{◌≡◌, ◌+◌, ℕ, List, Some, IfOk, OnOk, length, slice_get};
-ghost use Rattle.def_local.specs.Numbers.{brought, carried_in};
-ghost use Rattle.def_local.specs.Vats.{Member as Theirs, connection_for};
+ghost use Rattle.def_run.specs.Numbers.{brought, carried_in};
+ghost use Rattle.def_run.specs.Vats.{Member as Theirs, connection_for};
 ghost use Rattle.def_machine.specs.State as machine;
 ghost use Rattle.def_machine.specs.Values.{Local, Name as Called};
-ghost use Rattle.ev_member.specs.Hearing.{Brings, HeardNote};
-ghost use Rattle.ev_member.specs.Standing.{IsMember};
-ghost use Rattle.ev_naming.specs.Names.{carried_mails, some_tells};
-ghost use Rattle.ev_naming.specs.Standing.{Says, mails_of, words_of};
-ghost use Rattle.ev_outcome.specs.Standing.{NamesStand, ObjectsStand};
+ghost use Rattle.ev_vat.specs.Hearing.{Brings, HeardNote};
+ghost use Rattle.ev_vat.specs.Standing.{IsMember};
+ghost use Rattle.ev_resident.specs.Names.{carried_mails, some_tells};
+ghost use Rattle.ev_resident.specs.NamesStanding.{Says, mails_of, words_of};
+ghost use Rattle.ev_resident.specs.OutcomeStanding.{NamesStand, ObjectsStand};
 ghost use Rattle.ev_resident.specs.Brought.{all_learnt_tell, answer_tells, exported_name, frame_tells, import_tells, imports_tell, learnt_tells, message_tells, name_if, name_of};
 ghost use Rattle.ev_ways.specs.Standing.{asks_in};
 
+use crate::Told;
+use crate::names::gift_name;
 use crate::resident::Resident;
 use ev_base::{Memory, Msg, Name, PromId, Value, VatId};
 use ev_intro::Words;
-use ev_naming::Told;
-use ev_naming::names::gift_name;
-use ev_read::{LearntTable, News};
 use ev_step_lines::Table;
+use ev_wire::{LearntTable, News};
 use std::alloc::Global;
 
 /// The name of what a vat holds so, by the names of its numbers. What is no reference stands for the vat's root.
@@ -99,7 +99,7 @@ fn tell_imports(
 }
 
 /// The gift at a place was learnt.
-#[tactic(auto, unfolding(ev_naming::specs::Names::some_tells))]
+#[tactic(auto, unfolding(crate::specs::Names::some_tells))]
 fn tell_gift(
     words: &Words,
     gifts: &LearntTable,

@@ -4,11 +4,10 @@ ghost use Rattle.std.specs.Prelude.{◌≡◌, IfOk, map};
 ghost use Rattle.ev_pass.specs.Notes.{sent};
 ghost use Rattle.ev_resident.specs.Framing.{all_outgoing, outgoing_by};
 
+use crate::{Noting, frame_of};
 use ev_base::{Memory, VatId};
-use ev_member::Sending;
-use ev_naming::Noting;
-use ev_outcome::frame_of;
 use ev_pass::post::Put;
+use ev_vat::Sending;
 use ev_ways::Frame;
 use std::alloc::Global;
 

@@ -1,41 +1,40 @@
 //! A vat of a run.
 
 ghost use Rattle.std.specs.Prelude.{◌≡◌, ◌∷◌, [], ℕ, List, IfOk, IfSome, None, OnOk, map};
-ghost use Rattle.def_local.specs.Names.{Names};
-ghost use Rattle.def_local.specs.Names.{Told as TheirTold};
-ghost use Rattle.def_local.specs.Numbers.{Vats, link_of};
-ghost use Rattle.def_local.specs.Vats.{Member as Theirs};
+ghost use Rattle.def_run.specs.Names.{Names};
+ghost use Rattle.def_run.specs.Names.{Told as TheirTold};
+ghost use Rattle.def_run.specs.Numbers.{Vats, link_of};
+ghost use Rattle.def_run.specs.Vats.{Member as Theirs};
 ghost use Rattle.def_machine.specs.Arrive as arriving;
 ghost use Rattle.def_machine.specs.Eval.{opening, taking};
 ghost use Rattle.def_machine.specs.State as machine;
 ghost use Rattle.def_machine.specs.Values.{Local, Name, Prom, Root};
 ghost use Rattle.ev_room.specs.Reading.{roots_from};
-ghost use Rattle.ev_member.specs.Hearing.{BringsSo, Hears, frame_heard};
-ghost use Rattle.ev_member.specs.Standing.{IsFound, IsMember};
-ghost use Rattle.ev_member.specs.Starting.{rooted_member};
-ghost use Rattle.ev_member.specs.Steps.{Having, Steps, Turns, own};
-ghost use Rattle.ev_member.specs.declared.member.Member.{Member as Finding};
-ghost use Rattle.ev_naming.specs.Names.{carried_mails, names_first};
-ghost use Rattle.ev_naming.specs.Printing.{TellsCuts};
-ghost use Rattle.ev_naming.specs.Standing.{Says, mails_of};
-ghost use Rattle.ev_outcome.specs.Standing.{NamesStand, ObjectsStand};
+ghost use Rattle.ev_vat.specs.Hearing.{BringsSo, Hears, frame_heard};
+ghost use Rattle.ev_vat.specs.Standing.{IsFound, IsMember};
+ghost use Rattle.ev_vat.specs.Starting.{rooted_member};
+ghost use Rattle.ev_vat.specs.MemberSteps.{Having, Steps, Turns, own};
+ghost use Rattle.ev_vat.specs.declared.member.Member.{Member as Finding};
+ghost use Rattle.ev_resident.specs.Names.{carried_mails, names_first};
+ghost use Rattle.ev_resident.specs.Printing.{TellsCuts};
+ghost use Rattle.ev_resident.specs.NamesStanding.{Says, mails_of};
+ghost use Rattle.ev_resident.specs.OutcomeStanding.{NamesStand, ObjectsStand};
 ghost use Rattle.ev_pass.specs.Acts.{words_by};
 ghost use Rattle.ev_pass.specs.Reading.{names_under};
 ghost use Rattle.ev_resident.specs.Standing.{IsStepped};
 ghost use Rattle.ev_resident.specs.Starting.{with_roots};
 ghost use Rattle.ev_resident.specs.Telling.{IsTold};
-ghost use Rattle.ev_member.specs.Vat.{IsReady};
+ghost use Rattle.ev_vat.specs.Vat.{IsReady};
 
 use crate::outgoing::Outgoing;
 use crate::starting::first_names;
 use crate::telling::tell_step;
-use ev_base::{Limits, Memory, Msg, VatId};
+use crate::{Told, VatNames};
+use ev_base::{Limits, Memory, Msg, VatId, Word};
 use ev_event::History;
 use ev_intro::Words;
-use ev_member::{Arrival, Member, Sending, VatStop};
-use ev_naming::{Told, VatNames};
 use ev_room::Program;
-use ev_word::Word;
+use ev_vat::{Arrival, Member, Sending, VatStop};
 use std::alloc::Global;
 
 /// A vat of a run, with its connections and the names of its numbers.

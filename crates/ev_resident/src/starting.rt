@@ -1,11 +1,11 @@
 //! The names of a vat at its start.
 
 ghost use Rattle.std.specs.Prelude.{◌≡◌, IfOk};
-ghost use Rattle.ev_naming.specs.Names.{names_first};
+ghost use Rattle.ev_resident.specs.Names.{names_first};
 ghost use Rattle.ev_resident.specs.Starting.{with_roots};
 
+use crate::VatNames;
 use ev_base::{Memory, VatId};
-use ev_naming::VatNames;
 use std::alloc::Global;
 
 /// The names of a vat at its start, in a run of so many vats: the first thing that each vat that it knows exported to it is a root.

@@ -1,28 +1,27 @@
 //! What a step did is told.
 
 ghost use Rattle.std.specs.Prelude.{◌≡◌, ℕ, List, IfOk, OnOk, map};
-ghost use Rattle.def_local.specs.Names.{Names};
-ghost use Rattle.def_local.specs.Names.{Told as TheirTold};
-ghost use Rattle.def_local.specs.Numbers.{Vats, frames_of, link_of};
+ghost use Rattle.def_run.specs.Names.{Names};
+ghost use Rattle.def_run.specs.Names.{Told as TheirTold};
+ghost use Rattle.def_run.specs.Numbers.{Vats, frames_of, link_of};
 ghost use Rattle.def_machine.specs.State as machine;
 ghost use Rattle.def_machine.specs.Values.{Local, Name};
 ghost use Rattle.def_run.specs.Connections.{Connection};
-ghost use Rattle.ev_member.specs.Sending.{AreOps, sending_of, spelled};
-ghost use Rattle.ev_naming.specs.Names.{carried_mails};
-ghost use Rattle.ev_naming.specs.Printing.{TellsCuts};
-ghost use Rattle.ev_naming.specs.Standing.{Says, mails_of};
-ghost use Rattle.ev_outcome.specs.Standing.{IsAfter, NamesStand, ObjectsStand};
+ghost use Rattle.ev_vat.specs.Sending.{AreOps, sending_of, spelled};
+ghost use Rattle.ev_resident.specs.Names.{carried_mails};
+ghost use Rattle.ev_resident.specs.Printing.{TellsCuts};
+ghost use Rattle.ev_resident.specs.NamesStanding.{Says, mails_of};
+ghost use Rattle.ev_resident.specs.OutcomeStanding.{IsAfter, NamesStand, ObjectsStand};
 ghost use Rattle.ev_resident.specs.Telling.{IsTold};
 ghost use Rattle.ev_room.specs.Reading.{World};
 
 use crate::outgoing::{Outgoing, all_outgoing};
+use crate::{Noting, Told, VatNames, name_step, tell_lines};
 use ev_arrive::Host;
 use ev_base::{Memory, Msg};
 use ev_event::History;
-use ev_member::Sending;
-use ev_naming::{Noting, Told, VatNames};
-use ev_outcome::{name_step, tell_lines};
 use ev_step_lines::Teller;
+use ev_vat::Sending;
 use std::alloc::Global;
 
 /// What a step did that left the vat so is told: the names of its numbers, its lines where those links are cut, and the frames of what it

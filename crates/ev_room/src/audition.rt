@@ -16,12 +16,10 @@ use ev_audit::{
     AuditView, AuditorSet, FreeName, NativeAuditor, Rule, audited_by, deep_frozen_test, free_name,
     functional_test, guard_at, selfless_test,
 };
-use ev_base::{ActId, Memory, NodeId, ObjId, PrimId, Seq, Str, TextId, Value};
+use ev_base::{ActId, Memory, NodeId, ObjId, PrimId, Seq, Str, TextId, Value, Word};
 use ev_heap::{Happened, Heap, Shape};
-use ev_kernel_printer::free_names;
+use ev_kernel_printer::{Program, free_names};
 use ev_prims::Problem;
-use ev_program::Program;
-use ev_word::Word;
 use std::alloc::Global;
 
 /// The problem where what judges is no auditor.

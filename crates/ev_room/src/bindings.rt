@@ -5,9 +5,8 @@ ghost use Rattle.ev_room.specs.Acts.{found_from};
 ghost use Rattle.ev_room.specs.Held.{binding_back, bound_back, outermost};
 
 use crate::scope::{Binding, Bound};
-use ev_base::{Memory, Seq};
+use ev_base::{Memory, Seq, Word};
 use ev_heap::{Capture, Caught, Shared};
-use ev_word::Word;
 use std::alloc::Global;
 use std::marker::Model;
 use std::mem;

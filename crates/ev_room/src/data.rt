@@ -10,11 +10,10 @@ ghost use Rattle.ev_room.specs.Acts.{Gives, call_there, keep_list, list_told, ma
 
 use crate::exit::Exit;
 use crate::room::{Room, spend, tell_list};
-use ev_base::{ActId, ListId, Memory, Seq, TextId, Value};
+use ev_base::{ActId, ListId, Memory, Seq, Text, TextId, Value};
 use ev_heap::{Heap, ListFault};
 use ev_integer::NumFault;
 use ev_prims::Problem;
-use ev_word::Text;
 use std::alloc::Global;
 
 /// The greatest number of bytes of a text that a text answers.

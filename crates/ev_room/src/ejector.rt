@@ -7,10 +7,9 @@ use crate::call::closed;
 use crate::data::problem_id;
 use crate::exit::Exit;
 use crate::room::{Room, tell, tell_call};
-use ev_base::{ActId, Memory, ObjId, Value};
+use ev_base::{ActId, Memory, ObjId, Value, Word};
 use ev_heap::{Happened, Shape};
 use ev_prims::Problem;
-use ev_word::Word;
 
 /// Keeps an ejector, which is alive.
 #[tactic(auto, unfolding(crate::specs::Acts::opened_acts))]

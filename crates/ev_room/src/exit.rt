@@ -1,8 +1,5 @@
 //! How evaluation ends without a value.
 
-ghost use Rattle.std.specs.Prelude.{◌≡◌, Err};
-ghost use Rattle.ev_room.specs.Acts.{unless_stopped};
-
 use ev_base::{Memory, ObjId, TextId, Value};
 
 /// Why evaluation gave no value.
@@ -43,27 +40,4 @@ pub enum Came {
     Threw(TextId),
     /// It was left by an ejector, with a value.
     Left(ObjId, Value),
-}
-
-/// How something came to an end that gave no value, unless it stopped.
-#[tactic(auto, unfolding(crate::specs::Acts::unless_stopped))]
-fn unless_it_stopped(exit: Exit) -> Result<Came, Exit>
-    ensures { result ≡ unless_stopped (Err exit) }
-{
-    match exit {
-        Exit::Thrown(id) => Ok(Came::Threw(id)),
-        Exit::Ejected(ejector, value) => Ok(Came::Left(ejector, value)),
-        _ => Err(exit),
-    }
-}
-
-/// How something came to an end, unless it stopped.
-#[tactic(auto, unfolding(crate::specs::Acts::unless_stopped))]
-pub fn unless_stopped(outcome: Result<Value, Exit>) -> Result<Came, Exit>
-    ensures { result ≡ unless_stopped outcome }
-{
-    match outcome {
-        Ok(value) => Ok(Came::Gave(value)),
-        Err(exit) => unless_it_stopped(exit),
-    }
 }

@@ -10,8 +10,7 @@ use crate::data::{make_list, text_kept, text_value};
 use crate::exit::Exit;
 use crate::room::Room;
 use ev_base::{ActId, Memory, NodeId, Seq, Value};
-use ev_kernel_printer::{Item, as_items};
-use ev_program::Program;
+use ev_kernel_printer::{Item, Program, as_items};
 use std::alloc::Global;
 use std::marker::Model;
 

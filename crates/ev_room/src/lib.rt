@@ -22,4 +22,4 @@ pub use exit::{Came, Exit};
 pub use room::Room;
 
 // What crates above name of a program, so that they need not stand on its crate themselves.
-pub use ev_program::Program;
+pub use ev_kernel_printer::Program;

@@ -16,11 +16,9 @@ use crate::room::{Room, tell};
 use crate::scope::{Binding, Bound, NO_GUARD, Scope};
 use crate::tree::node_at;
 use def_kernel::Node;
-use ev_base::{ActId, Memory, NodeId, ObjId, PromId, Seq, Str, Value};
+use ev_base::{ActId, Memory, NodeId, ObjId, PromId, Seq, Str, Value, Word};
 use ev_heap::{AuditView, Capture, Caught, Happened, Shape, Shared};
-use ev_kernel_printer::free_names;
-use ev_program::Program;
-use ev_word::Word;
+use ev_kernel_printer::{Program, free_names};
 use std::alloc::Global;
 use std::marker::Model;
 

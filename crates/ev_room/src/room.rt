@@ -5,9 +5,8 @@ ghost use Rattle.ev_heap.specs.declared.happened.Happened.TheVariants as event;
 ghost use Rattle.ev_room.specs.Acts.{Gives, new_activation, spend, tell};
 
 use crate::exit::Exit;
-use ev_base::{ActId, ListId, Memory, Value};
+use ev_base::{ActId, ListId, Memory, Value, Word};
 use ev_heap::Happened;
-use ev_word::Word;
 
 /// Where evaluation works: the inside of a vat, of which it changes the heap, the fuel and what happened.
 pub use ev_pass::Interior as Room;

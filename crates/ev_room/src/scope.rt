@@ -4,9 +4,8 @@ ghost use Rattle.std.specs.Prelude.{◌≡◌};
 ghost use Rattle.ev_room.specs.Acts.{cut};
 
 use crate::bindings::Nouns;
-use ev_base::{ActId, PrimId, SlotId, Value};
+use ev_base::{ActId, PrimId, SlotId, Value, Word};
 use ev_heap::GuardKind;
-use ev_word::Word;
 use std::alloc::Global;
 
 /// The guard of a name that has none, which takes any value.

@@ -5,8 +5,7 @@ ghost use Rattle.def_machine.specs.Scopes.{members_of};
 ghost use Rattle.ev_room.specs.Acts.{first_method, suits};
 
 use def_kernel::Node;
-use ev_base::NodeId;
-use ev_word::Word;
+use ev_base::{NodeId, Word};
 
 /// The node of a number.
 pub fn node_at(tree: &[Node], id: NodeId) -> Option<&Node>

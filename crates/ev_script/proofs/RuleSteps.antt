@@ -6,7 +6,7 @@ use Rattle.std.proofs.lemmas.List.Elements.{All-nil, All-cons, All-append, All-h
 use Rattle.serde_json.specs.Data.{Data}
 use Rattle.serde_json.specs.Find.{as_str}
 use Rattle.ev_script.specs.Vats.{place_of}
-use Rattle.ev_command_lines.specs.Lines.{split}
+use Rattle.ev_text.specs.Lines.{split}
 use Rattle.ev_script.specs.Schedule.{spelled_in, spelled_by, told, turn_of, drain_of, pair_of, vat_word, rounds_of, verb_of, placed, placed_pair, pair_step, step_in, carry_to, carries_from, round, written, written_out, cuts, may_follow, are_in_order}
 use Rattle.ev_script.specs.Rules.{AreTwo, IsEntryOf}
 use Rattle.ev_script.specs.declared.entries.Verb.{Verb}

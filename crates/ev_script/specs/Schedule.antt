@@ -6,7 +6,7 @@ use Rattle.std.specs.Str.{bytes_eq, all_ascii_digits}
 use Rattle.std.specs.Str.Parse.{digits_value}
 use Rattle.serde_json.specs.Data.{Data}
 use Rattle.serde_json.specs.Find.{as_str}
-use Rattle.ev_command_lines.specs.Lines.{is_space, split}
+use Rattle.ev_text.specs.Lines.{is_space, split}
 use Rattle.ev_script.specs.Json.{◌>>=◌, list_at}
 use Rattle.ev_script.specs.Vats.{place_of}
 use Rattle.ev_script.specs.declared.script.Entry.{Entry}

@@ -5,14 +5,14 @@ ghost use Rattle.std.specs.Char.{is_ascii_digit};
 ghost use Rattle.std.specs.List.{list_all, list_any};
 ghost use Rattle.std.specs.Str.{all_ascii_digits};
 ghost use Rattle.serde_json.specs.View.{view};
-ghost use Rattle.ev_command_lines.specs.Lines.{is_space};
+ghost use Rattle.ev_text.specs.Lines.{is_space};
 ghost use Rattle.ev_script.specs.Json.{each};
 ghost use Rattle.ev_script.specs.Schedule.{begins_with_zero, drain_of, entries_of, is_numeral, is_spelled, pair_step, step_in, is_word, bounded_rounds, pair_of, placed, placed_pair, rounds_of, spelled_by, spelled_in, told, turn_of, vat_word, verb_of};
 
 use crate::json::list_at;
 use crate::vats::place_of;
 use ev_base::{Memory, Seq, Str, VatId};
-use ev_command_lines::split;
+use ev_text::split;
 use serde_json::Value;
 use std::alloc::Global;
 
@@ -20,7 +20,7 @@ use std::alloc::Global;
 const MOST_ROUNDS: u32 = 100_000;
 
 /// What an entry does with two vats.
-#[derive(Clone, Copy, PartialEq, Eq)]
+#[derive(Clone, Copy)]
 pub(crate) enum Verb {
     Carry,
     Cut,
@@ -28,7 +28,7 @@ pub(crate) enum Verb {
 }
 
 /// An entry as it is spelled: a word that names no vat has none.
-#[derive(Clone, Copy, PartialEq, Eq)]
+#[derive(Clone, Copy)]
 pub(crate) enum Spelled {
     Turn(Option<VatId>),
     Pair(Verb, Option<VatId>, Option<VatId>),
@@ -36,7 +36,7 @@ pub(crate) enum Spelled {
 }
 
 /// An entry whose vats are found, or so many rounds.
-#[derive(Clone, Copy, PartialEq, Eq)]
+#[derive(Clone, Copy)]
 pub(crate) enum Step {
     Turn(VatId),
     Carry(VatId, VatId),

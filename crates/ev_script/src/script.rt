@@ -27,7 +27,7 @@ impl Drop for VatScript {
 }
 
 /// One step of a schedule.
-#[derive(Clone, Copy, PartialEq, Eq)]
+#[derive(Clone, Copy)]
 pub enum Entry {
     /// The vat takes its next turn.
     Turn(VatId),
@@ -63,7 +63,7 @@ impl Drop for Script {
 }
 
 /// Why bytes gave no script.
-#[derive(Clone, Copy, Debug, PartialEq, Eq)]
+#[derive(Clone, Copy, Debug)]
 pub enum ScriptFault {
     /// The first rule that fails, from 1 to 12.
     Rule(u8),

@@ -6,11 +6,10 @@ ghost use Rattle.ev_settle.specs.Reacting.{react_known, react_new, react_on, rea
 
 use crate::changes::enqueue;
 use crate::sending::new_message;
-use ev_base::{ActId, Memory, PromId, Seq, Value, VatId};
+use ev_base::{ActId, Memory, PromId, Seq, Value, VatId, Word};
 use ev_heap::Happened;
 use ev_pass::{Interior, Stop};
 use ev_refs::{Fresh, Message, Place};
-use ev_word::Word;
 
 /// A reaction waits at a name, if that is known and did not settle.
 #[tactic(auto, unfolding(crate::specs::Reacting::react_known, crate::specs::Reacting::reacting_in))]

@@ -8,11 +8,10 @@ ghost use Rattle.ev_settle.specs.Sending.{answer_host, break_answer, new_lone_me
 
 use crate::changes::{enqueue, hold};
 use crate::settling::settle;
-use ev_base::{ActId, Memory, MsgId, PromId, Seq, TextId, Value, VatId};
+use ev_base::{ActId, Memory, MsgId, PromId, Seq, TextId, Value, VatId, Word};
 use ev_heap::Happened;
 use ev_pass::{Interior, Reference, Stop};
 use ev_refs::{Fresh, Message, Place};
-use ev_word::Word;
 
 /// A message of the vat's own comes to be, with its answer at that host.
 #[tactic(auto, unfolding(crate::specs::Sending::new_message))]

@@ -3,8 +3,8 @@ use Rattle.std.proofs.Common.{◌≡◌, ◌∙◌, ◌<◌, ◌≤◌, ◌+◌,
 use Rattle.std.proofs.lemmas.List.{drop_more, drop_all}
 use Rattle.def_event.specs.declared.event.Event.{Event}
 use Rattle.ev_base.specs.declared.values.Value.{Value}
-use Rattle.ev_told.specs.declared.lines.Line.{Line}
-use Rattle.ev_told.specs.Told.{read, told, width}
+use Rattle.ev_heap.specs.declared.lines.Line.{Line}
+use Rattle.ev_heap.specs.Told.{read, told, width}
 use Rattle.ev_step_lines.specs.Lines.{Telling, lines, lines_of}
 
 read_on : (t : Telling) (l : Line) (ls : List Line) (vs : List Value)

@@ -2,7 +2,7 @@
 
 ghost use Rattle.std.specs.Prelude.{◌≡◌, ◌++◌, ◌∷◌, [], IfOk, OnOk, drop, take};
 ghost use Rattle.def_event.specs.declared.event.Event.TheVariants.{Call};
-ghost use Rattle.ev_told.specs.Told.{first, others, read, told};
+ghost use Rattle.ev_heap.specs.Told.{first, others, read, told};
 ghost use Rattle.ev_step_lines.specs.Lines.{all_held, lines, lines_of, shown_held};
 
 use crate::evaluated::{call_line, push_ejector, push_line};
@@ -11,8 +11,8 @@ use crate::teller::Teller;
 use def_event::Event;
 use ev_base::{ActId, Memory, Value};
 use ev_event::History;
-use ev_told::Lines;
-use ev_told::lines::Line;
+use ev_heap::Lines;
+use ev_heap::lines::Line;
 
 /// The first so many values, or all where there are fewer, and the others.
 fn split(values: &[Value], width: u64) -> (&[Value], &[Value])

@@ -37,10 +37,10 @@ use Rattle.ev_room.specs.Takings.{is_null}
 use Rattle.ev_room.specs.declared.coercion.Coerced.{Coerced}
 use Rattle.ev_room.specs.declared.coercion.Coerced.TheVariants as coerced
 use Rattle.ev_room.specs.Sound.{is_there, no_guard, no_match_id, not_a_list_id, not_a_guard_id, not_near_id, bad_message_id, not_an_auditor_id, dead_audition_id}
-use Rattle.ev_same.specs.Same.{same_ever}
+use Rattle.ev_steps.specs.Same.{same_ever}
 use Rattle.ev_refs.specs.Follow.{followed}
-use Rattle.ev_eventual.specs.declared.message.Request.{Request}
-use Rattle.ev_eventual.specs.Eventual.{message_in, send_with, make_promise, broken, test_value, when_by, resolving, resolver_answer, call_resolver, opened_eventual}
+use Rattle.ev_steps.specs.declared.message.Request.{Request}
+use Rattle.ev_steps.specs.Eventual.{message_in, send_with, make_promise, broken, test_value, when_by, resolving, resolver_answer, call_resolver, opened_eventual}
 use Rattle.ev_room.specs.declared.object.Object.{Object}
 use Rattle.ev_room.specs.declared.object.Code.{Code}
 use Rattle.ev_room.specs.declared.object.Code.TheVariants.{Runs, Leaves, Resolves, Audits}

@@ -6,10 +6,9 @@ ghost use Rattle.ev_steps.specs.Binders.{at_level, below, below_of, finds, leave
 ghost use Rattle.ev_steps.specs.declared.binders.Task.{Task as TaskOf};
 
 use def_kernel::Node;
-use ev_base::{Memory, NodeId, Seq};
+use ev_base::{Memory, NodeId, Seq, Word};
 use ev_room::Program;
 use ev_room::tree::node_at;
-use ev_word::Word;
 use std::alloc::Global;
 use std::marker::Model;
 

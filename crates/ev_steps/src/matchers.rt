@@ -6,12 +6,11 @@ ghost use Rattle.ev_steps.specs.Steps.{message_pair};
 ghost use Rattle.ev_room.specs.Acts.{Gives};
 
 use def_kernel::Node;
-use ev_base::{ActId, Memory, NodeId, Seq, Value};
+use ev_base::{ActId, Memory, NodeId, Seq, Value, Word};
 use ev_room::data::{make_list, text_value};
 use ev_room::exit::Exit;
 use ev_room::room::Room;
 use ev_room::tree::node_at;
-use ev_word::Word;
 use std::alloc::Global;
 use std::marker::Model;
 

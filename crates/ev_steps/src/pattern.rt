@@ -10,7 +10,7 @@ ghost use Rattle.ev_room.specs.declared.scope.Bound.TheVariants.{Fixed};
 
 use crate::target::Target;
 use def_kernel::Node;
-use ev_base::{Memory, NodeId, Value};
+use ev_base::{Memory, NodeId, Value, Word};
 use ev_heap::{GuardKind, Happened};
 use ev_room::Program;
 use ev_room::exit::Exit;
@@ -18,7 +18,6 @@ use ev_room::room::{Room, spend, tell};
 use ev_room::scope::{Binding, Bound, NO_GUARD, Scope};
 use ev_room::slots::new_slot;
 use ev_room::tree::node_at;
-use ev_word::Word;
 
 /// Whether a pattern was bound at once, or is to be bound later.
 #[derive(Clone, Copy)]

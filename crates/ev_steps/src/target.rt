@@ -1,6 +1,6 @@
 //! What patterns of one name bind.
 
-use ev_word::Word;
+use ev_base::Word;
 
 /// What a pattern binds to a value that its guard has coerced.
 pub enum Target {

@@ -3,7 +3,7 @@ use Rattle.std.specs.Prelude.{ℕ, if◌then◌else◌, List, codes, drop, Some,
 use Rattle.std.specs.declared.option.Option.{Option}
 use Rattle.std.specs.List.{before_first}
 use Rattle.std.specs.Str.{bytes_eq}
-use Rattle.ev_command_lines.specs.Lines.{is_line_feed, text_of, lines, split, number, bytes, spelled_number}
+use Rattle.ev_text.specs.Lines.{is_line_feed, text_of, lines, split, number, bytes, spelled_number}
 use Rattle.ev_script.specs.Json.{each, ◌>>=◌}
 use Rattle.ev_sturdy.specs.declared.sturdy.Side.{Side}
 use Rattle.ev_sturdy.specs.declared.sturdy.Side.TheVariants.{Host, Guest}

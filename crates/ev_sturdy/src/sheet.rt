@@ -3,13 +3,13 @@
 ghost use Rattle.std.specs.Prelude.{◌≡◌, IfOk, drop, map, option_map};
 ghost use Rattle.ev_script.specs.Json.{each};
 ghost use Rattle.ev_script.specs.Script.{Reads};
-ghost use Rattle.ev_command_lines.specs.Lines.{number, spelled_number};
+ghost use Rattle.ev_text.specs.Lines.{number, spelled_number};
 ghost use Rattle.ev_sturdy.specs.Sheet.{alone, commands, first_line, key_of, line_of, most_object, read, sheet_of, side_of, told, use_of};
 
 use crate::Side;
 use ev_base::{Memory, Seq};
-use ev_command_lines::{bytes_32, lines, number, spelled_number, split, text_of};
 use ev_script::ScriptFault;
+use ev_text::{bytes_32, lines, number, spelled_number, split, text_of};
 use std::alloc::Global;
 
 /// The greatest number of an object.

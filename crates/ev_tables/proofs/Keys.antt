@@ -5,7 +5,7 @@ use Rattle.std.specs.Prelude.{option_map}
 use Rattle.std.proofs.lemmas.Bool.{lt-ltb, le-ltb, cases_lt}
 use Rattle.std.specs.Map.{lookup}
 use Rattle.ev_base.specs.declared.values.Value.{Value}
-use Rattle.ev_tables.specs.declared.number.Number.{Number}
+use Rattle.ev_tables.specs.declared.numeral.Number.{Number}
 use Rattle.ev_tables.specs.declared.thing.Thing.{Thing}
 use Rattle.ev_tables.specs.Thing.{same_value}
 use Rattle.ev_tables.specs.Table.{name_of, place_of}

@@ -3,8 +3,8 @@ use Rattle.std.specs.Prelude.{◌≡◌, ◌≢◌, ℕ, suc, Bool, false, is_so
 use Rattle.ev_base.specs.declared.values.Value.{Value}
 use Rattle.ev_base.specs.declared.values.Value.TheVariants.{Prom}
 use Rattle.def_op.specs.Frames as frames
-use Rattle.ev_tables.specs.declared.number.Number.{Number}
-use Rattle.ev_tables.specs.declared.number.Number.TheVariants.{MyExport, MyPromise, YourExport, YourAnswer, MyAnswer}
+use Rattle.ev_tables.specs.declared.numeral.Number.{Number}
+use Rattle.ev_tables.specs.declared.numeral.Number.TheVariants.{MyExport, MyPromise, YourExport, YourAnswer, MyAnswer}
 use Rattle.ev_tables.specs.declared.fault.TableFault.{TableFault}
 use Rattle.ev_tables.specs.declared.fault.TableFault.TheVariants as fault
 use Rattle.ev_tables.specs.Thing.{same_value}

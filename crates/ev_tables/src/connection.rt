@@ -6,7 +6,7 @@ ghost use Rattle.ev_tables.specs.Table.{fresh, exported, export_number, export_p
 
 use crate::fault::TableFault;
 use crate::names::Names;
-use crate::number::Number;
+use crate::numeral::Number;
 use crate::places::Places;
 use def_op::Desc;
 use ev_base::{Memory, PromId, Seq, Value, VatId};

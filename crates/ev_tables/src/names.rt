@@ -3,7 +3,7 @@
 ghost use Rattle.std.specs.Prelude.{◌≡◌, ◌-◌, [], length, take, is_some, not, if◌then◌else◌, IfOk, OnErr};
 ghost use Rattle.ev_tables.specs.Table.{name_of, named};
 
-use crate::number::Number;
+use crate::numeral::Number;
 use crate::thing::Thing;
 use ev_base::{Memory, Value};
 use indexmap::IndexMap;

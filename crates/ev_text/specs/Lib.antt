@@ -1,2 +1,3 @@
 pub mod Unquoting
 pub mod Faults
+pub mod Lines

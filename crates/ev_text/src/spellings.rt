@@ -11,7 +11,7 @@ use std::error::Error;
 use std::fmt;
 
 /// Why a spelling is that of no text.
-#[derive(Clone, Copy, Debug, PartialEq, Eq)]
+#[derive(Clone, Copy, Debug)]
 pub enum EscapeFault {
     /// The offset of the first byte at which it is none: of the backslash of an escape that is none, of the end where a
     /// closing quote is missing, of what stands behind the closing quote, and 0 where there is no opening quote.

@@ -112,13 +112,3 @@ pub fn push_shortened(alloc: Global, out: &mut String, text: &str) -> Result<(),
         write!(out, "+{more}")
     }
 }
-
-/// A text as a line shows it: between quotes, a text of more than 32 characters by its first 32, followed by `+` and the
-/// count of the others.
-pub fn shorten_for_trace(alloc: Global, text: &str) -> Result<String, AllocError>
-    ensures { IfOk result (λ spelling. string_bytes spelling ≡ shortened text.now) }
-{
-    let mut out = String::new(alloc);
-    push_shortened(alloc, &mut out, text)?;
-    Ok(out)
-}

@@ -6,20 +6,20 @@ use Rattle.def_machine.specs.Values.{Words, Value, Name}
 use Rattle.def_machine.specs.Free.{same_words, entry}
 use Rattle.def_machine.specs.Native.{prims_from, safe_value}
 use Rattle.def_machine.specs.State.{Astray}
-use Rattle.ev_scope.specs.declared.accepted.Scoped.{Scoped}
+use Rattle.ev_reader.specs.declared.accepted.Scoped.{Scoped}
 use Rattle.ev_script.specs.Rules.{IsAdmitted}
 use Rattle.ev_script.specs.declared.script.Script.{Script}
 use Rattle.ev_script.specs.declared.script.VatScript.{VatScript}
 use Rattle.ev_script.proofs.Admitted.{read_admitted}
 use Rattle.ev_world.specs.Running.{tree_in}
-use Rattle.law_name.specs.Names.{IsAmong}
+use Rattle.law_fate.specs.Name.Names.{IsAmong}
 use Rattle.law_never_astray.specs.Formed.{AllOf}
 use Rattle.law_read.specs.ReadScripts.Checked.{IsGiven}
 use Rattle.law_read.specs.ReadScripts.Runs.{AreReadTo}
 use Rattle.law_read.proofs.ReadScripts.NeverAstray.{no_read_script_goes_astray}
 use Rattle.ev_top.specs.Headline.{NoRunGoesAstray}
-use Rattle.ev_run.specs.Machine.{greatest_depth}
-use Rattle.ev_run.specs.Programs.{AreRead, IsRead, name_found, name_of, names_for, safe_names}
+use Rattle.ev_top.specs.Machine.{greatest_depth}
+use Rattle.ev_top.specs.Programs.{AreRead, IsRead, name_found, name_of, names_for, safe_names}
 use Rattle.ev_top.proofs.Lawful.{bytes_of}
 
 -- ---- the names that a program is given

@@ -6,7 +6,7 @@ use Rattle.def_kernel.specs.declared.node.Node.{Node}
 use Rattle.def_machine.specs.State.{Stop, Fuel, Deep, Repeated, Astray}
 use Rattle.def_run.specs.World as machine
 use Rattle.def_run.specs.World.{World, Goes, Stopped}
-use Rattle.ev_scope.specs.declared.accepted.Scoped.{Scoped}
+use Rattle.ev_reader.specs.declared.accepted.Scoped.{Scoped}
 use Rattle.ev_script.specs.declared.script.Script.{Script}
 use Rattle.ev_script.specs.declared.script.VatScript.{VatScript}
 use Rattle.ev_reader.specs.Program.{Answers}
@@ -17,30 +17,30 @@ use Rattle.ev_reader.specs.declared.fault.Stage.TheVariants as parts
 use Rattle.ev_generate.specs.Generated.{generated}
 use Rattle.ev_sturdy.specs.Telling as sturdy
 use Rattle.ev_mint.specs.Telling as mint
-use Rattle.def_trace.specs.declared.trace.Trace.{Trace}
+use Rattle.def_event.specs.declared.trace.Trace.{Trace}
 use Rattle.ev_trace.specs.Reading.{read as trace_from}
 use Rattle.ev_top.specs.Commands.{reads}
-use Rattle.ev_reply.specs.Debt.{Debt, most_bytes}
+use Rattle.ev_io.specs.Debt.{Debt, most_bytes}
 use Rattle.ev_check_text.specs.Due.{IsDueOfTrace}
 use Rattle.ev_top.specs.Lines.{IsDueOfMint, IsDueOfSturdy, status_of}
 use Rattle.ev_script.specs.Script.{read as script_from}
 use Rattle.ev_top.specs.Summary.{summary_of}
-use Rattle.ev_run.specs.Programs.{AreRead, IsFirstRefused, names_for, IsRead, safe_names, refusal, stage_of, trees_of, IsDueOfFault}
+use Rattle.ev_top.specs.Programs.{AreRead, IsFirstRefused, names_for, IsRead, safe_names, refusal, stage_of, trees_of, IsDueOfFault}
 use Rattle.ev_top.specs.Expansion.{text_from, nameless, IsDueOfText, IsDueOfForm}
 use Rattle.ev_world.specs.Running.{script_of}
-use Rattle.ev_run.specs.Machine.{greatest_depth, text_of, vat_of_step}
-use Rattle.ev_run.specs.Due.{IsDueOfAnswer, IsDueOfScript, IsDueOfTrees, IsDueOfVats, due_of_run, astray, Telling}
+use Rattle.ev_top.specs.Machine.{greatest_depth, text_of, vat_of_step}
+use Rattle.ev_top.specs.RunDue.{IsDueOfAnswer, IsDueOfScript, IsDueOfTrees, IsDueOfVats, due_of_run, astray, Telling}
 use Rattle.ev_top.specs.Due.{IsDue, IsDueOfInput, IsDueOfBytes, Pays, PaysWith}
 use Rattle.ev_top.specs.Causes.{IsInterrupted, Follows, ComesWhere, IsLong, Breaks, HasScript, HasPrograms, HasText, HasFault, HasNoTree, HasRefused, IsAstray, IsProgramRefused, RepeatsWord, Stops, StopsIn, run_of}
 use Rattle.ev_top.specs.declared.command.Command.{Command}
 use Rattle.ev_top.specs.declared.command.Command.TheVariants.{Run, Expand, Generate, Sum, Sturdy, Mint, Check}
-use Rattle.ev_reply.specs.declared.status.Status.{Status}
-use Rattle.ev_reply.specs.declared.status.Status.TheVariants.{Done, Usage, ReadFault, WriteFault, TooLong, ScriptRefused, ProgramRefused, FuelSpent, TooDeep, WordRepeated, Memory}
-use Rattle.ev_reply.specs.declared.status.Stage.{Stage}
-use Rattle.ev_reply.specs.declared.status.Stage.TheVariants as stages
-use Rattle.ev_reply.proofs.PayLemmas.{is_few}
+use Rattle.ev_io.specs.declared.status.Status.{Status}
+use Rattle.ev_io.specs.declared.status.Status.TheVariants.{Done, Usage, ReadFault, WriteFault, TooLong, ScriptRefused, ProgramRefused, FuelSpent, TooDeep, WordRepeated, Memory}
+use Rattle.ev_io.specs.declared.status.Stage.{Stage}
+use Rattle.ev_io.specs.declared.status.Stage.TheVariants as stages
+use Rattle.ev_io.proofs.PayLemmas.{is_few}
 use Rattle.ev_top.proofs.DueLemmas.{too_many}
-use Rattle.ev_run.proofs.ReadLemmas.{one_behind, read_more, trees_count}
+use Rattle.ev_top.proofs.ReadLemmas.{one_behind, read_more, trees_count}
 use Rattle.ev_top.proofs.OneReading.{IsTree, fault_once, tree_once}
 use Rattle.ev_top.proofs.Astray.{no_run_goes_astray}
 

@@ -4,21 +4,21 @@ use Rattle.std.specs.Io.KnownBytes.{IsAtEnd}
 use Rattle.ev_io.specs.Ends.{Takes}
 use Rattle.ev_io.specs.declared.read.ReadEnd.TheVariants.{TooLong as TooMany}
 use Rattle.ev_reader.specs.declared.fault.ProgramFault.{ProgramFault}
-use Rattle.ev_scope.specs.declared.accepted.Scoped.{Scoped}
+use Rattle.ev_reader.specs.declared.accepted.Scoped.{Scoped}
 use Rattle.ev_generate.specs.Generated.{generated}
 use Rattle.ev_sturdy.specs.Telling as sturdy
 use Rattle.ev_mint.specs.Telling as mint
 use Rattle.ev_trace.specs.Reading.{read as trace_from}
 use Rattle.ev_script.specs.Script.{read as script_from}
-use Rattle.ev_reply.specs.Words.{line}
-use Rattle.ev_reply.specs.Debt.{IsFor, most_bytes, too_long}
-use Rattle.ev_reply.specs.Paying.{IsOfWhole, Finishes}
-use Rattle.ev_run.specs.Machine.{text_of}
-use Rattle.ev_reply.specs.declared.status.Status.{Status}
-use Rattle.ev_reply.specs.declared.status.Status.TheVariants.{Usage, ReadFault, Memory}
-use Rattle.ev_reply.proofs.PayLemmas as paying
-use Rattle.ev_reply.proofs.PayLemmas.{IsPlain, finished_left, is_few, is_long, memory_left, read_fault_left}
-use Rattle.ev_run.proofs.WholeInput.{of_fault, of_script}
+use Rattle.ev_io.specs.Words.{line}
+use Rattle.ev_io.specs.Debt.{IsFor, most_bytes, too_long}
+use Rattle.ev_io.specs.Paying.{IsOfWhole, Finishes}
+use Rattle.ev_top.specs.Machine.{text_of}
+use Rattle.ev_io.specs.declared.status.Status.{Status}
+use Rattle.ev_io.specs.declared.status.Status.TheVariants.{Usage, ReadFault, Memory}
+use Rattle.ev_io.proofs.PayLemmas as paying
+use Rattle.ev_io.proofs.PayLemmas.{IsPlain, finished_left, is_few, is_long, memory_left, read_fault_left}
+use Rattle.ev_top.proofs.WholeInput.{of_fault, of_script}
 use Rattle.ev_top.specs.Commands.{reads}
 use Rattle.ev_top.specs.Due.{IsDue, IsDueOfBytes, IsDueOfInput, Pays}
 use Rattle.ev_top.specs.Expansion.{text_from, nameless, IsDueOfText, IsDueOfForm}

@@ -3,12 +3,12 @@ use Rattle.std.proofs.Common.{◌≡◌, ◌≤◌, ℕ, List, Option, Some, Non
 use Rattle.def_machine.specs.Values.{Name}
 use Rattle.def_run.specs.World as machine
 use Rattle.def_run.specs.World.{World, Goes, Stopped}
-use Rattle.law_fate.specs.Fate.{fates, sent}
-use Rattle.law_fate.specs.Carry.{carries}
-use Rattle.law_fate.specs.FateRuns.{Reached}
-use Rattle.law_fate.proofs.RunFates.{one_fate_at_most}
-use Rattle.law_fate.proofs.RunLight.{two_carries_at_most}
-use Rattle.law_fate.proofs.WholeFateLaws.{exactly_one_fate}
+use Rattle.law_fate.specs.Fates.Fate.{fates, sent}
+use Rattle.law_fate.specs.Fates.Carry.{carries}
+use Rattle.law_fate.specs.Fates.FateRuns.{Reached}
+use Rattle.law_fate.proofs.Fates.RunFates.{one_fate_at_most}
+use Rattle.law_fate.proofs.Fates.RunLight.{two_carries_at_most}
+use Rattle.law_fate.proofs.Fates.WholeFateLaws.{exactly_one_fate}
 use Rattle.ev_top.specs.Headline.{HasOneFate, MessagesHaveOneFate}
 use Rattle.ev_top.specs.declared.command.Command.{Command}
 use Rattle.ev_top.proofs.Lawful.{lawful}

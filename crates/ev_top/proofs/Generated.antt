@@ -5,11 +5,11 @@ use Rattle.std.specs.Str.{bytes_eq}
 use Rattle.std.specs.Str.Parse.{digits_value}
 use Rattle.std.proofs.lemmas.Bool.Decides.{nat_tests}
 use Rattle.std.proofs.lemmas.List.{length-map}
-use Rattle.ev_command_lines.specs.Lines.{bounded, is_numeral, number}
+use Rattle.ev_text.specs.Lines.{bounded, is_numeral, number}
 use Rattle.ev_generate.specs.Generated.{generated}
 use Rattle.ev_script.specs.declared.script.Script.{Script}
-use Rattle.law_generated.specs.Accepted.{generated_script, generated_schedule}
-use Rattle.law_generated.proofs.Acceptance.{are_long, are_read}
+use Rattle.law_read.specs.Generated.Accepted.{generated_script, generated_schedule}
+use Rattle.law_read.proofs.Generated.Acceptance.{are_long, are_read}
 use Rattle.law_schedule.specs.Scripts.{machine_entry}
 use Rattle.ev_top.specs.Causes.{Breaks, ComesWhere, HasScript, IsLong}
 use Rattle.ev_top.specs.Commands.{command_alone, command_of, command_of_number, command_of_run, command_of_sum, command_with, most_generated}
@@ -18,8 +18,8 @@ use Rattle.ev_top.specs.Headline.{IsOfSum, StepsAreKnown, SumsUp}
 use Rattle.ev_script.specs.Script.{read as script_from}
 use Rattle.ev_top.specs.declared.command.Command.{Command}
 use Rattle.ev_top.specs.declared.command.Command.TheVariants.{Run, Expand, Generate, Sum, Sturdy, Mint, Check}
-use Rattle.ev_reply.specs.declared.status.Status.{Status}
-use Rattle.ev_reply.specs.declared.status.Status.TheVariants.{Done, Usage, ReadFault, WriteFault, TooLong, ScriptRefused, ProgramRefused, FuelSpent, TooDeep, WordRepeated, Memory}
+use Rattle.ev_io.specs.declared.status.Status.{Status}
+use Rattle.ev_io.specs.declared.status.Status.TheVariants.{Done, Usage, ReadFault, WriteFault, TooLong, ScriptRefused, ProgramRefused, FuelSpent, TooDeep, WordRepeated, Memory}
 
 -- ---- how long its run is
 

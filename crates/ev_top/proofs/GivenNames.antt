@@ -9,7 +9,7 @@ use Rattle.ev_base.specs.SafeScope.{primitives}
 use Rattle.def_machine.specs.Values.{Words, Value, Null, Flag, Prim, Name}
 use Rattle.def_machine.specs.Free.{same_words, entry}
 use Rattle.def_machine.specs.Native.{prims_from, safe_value}
-use Rattle.ev_run.specs.Programs.{safe_names}
+use Rattle.ev_top.specs.Programs.{safe_names}
 use Rattle.ev_top.specs.Given.{AreSafe}
 
 -- ---- the two tests of words are one

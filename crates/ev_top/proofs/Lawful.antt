@@ -8,8 +8,8 @@ use Rattle.law_read.specs.ReadScripts.Accepted.{MeetsTheLaws}
 use Rattle.ev_top.specs.Causes.{HasScript}
 use Rattle.ev_top.specs.Headline.{IsToRun}
 use Rattle.law_schedule.specs.Scripts.{tree_at}
-use Rattle.ev_run.specs.Machine.{greatest_depth}
-use Rattle.ev_run.specs.Programs.{trees_of}
+use Rattle.ev_top.specs.Machine.{greatest_depth}
+use Rattle.ev_top.specs.Programs.{trees_of}
 use Rattle.ev_script.specs.Script.{read as script_from}
 use Rattle.ev_top.specs.declared.command.Command.{Command}
 use Rattle.ev_top.specs.declared.command.Command.TheVariants.{Run, Expand, Generate, Sum, Sturdy, Mint, Check}

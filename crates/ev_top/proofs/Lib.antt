@@ -1,3 +1,7 @@
+pub mod ReadLemmas
+pub mod Steady
+pub mod Ended
+pub mod WholeInput
 pub mod GivenNames
 pub mod DueLemmas
 pub mod OneReading

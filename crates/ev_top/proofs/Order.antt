@@ -5,14 +5,14 @@ use Rattle.def_run.specs.World.{Run, Goes, Stopped}
 use Rattle.def_run.specs.Text.{history_of}
 use Rattle.ev_script.proofs.Admitted.{read_admitted}
 use Rattle.ev_world.specs.Running.{tree_in}
-use Rattle.law_order.specs.Example as example
-use Rattle.law_order.specs.Order.{Ordered}
-use Rattle.law_ordered.proofs.Whole.Ordered.{runs_are_ordered}
+use Rattle.law_order.specs.Ordering.Example as example
+use Rattle.law_order.specs.Ordering.Order.{Ordered}
+use Rattle.law_order.proofs.Whole.Ordered.{runs_are_ordered}
 use Rattle.law_read.proofs.ReadOrder.Kept.{order_kept}
 use Rattle.law_read.proofs.ReadScripts.Meets.{accepted}
 use Rattle.law_schedule.specs.Scripts.{machine_script}
 use Rattle.ev_top.specs.Headline.{HoldsOrder, IsToRun, RunsHoldOrder}
-use Rattle.ev_run.specs.Machine.{greatest_depth}
+use Rattle.ev_top.specs.Machine.{greatest_depth}
 use Rattle.ev_top.specs.declared.command.Command.{Command}
 use Rattle.ev_top.proofs.Astray.{are_read_to}
 use Rattle.ev_top.proofs.Lawful.{bytes_of}

@@ -2,14 +2,14 @@
 use Rattle.std.proofs.Common.{◌⊎◌, inl, inr, ◌∷◌, ℕ, List, Option, Some, None, IfSome}
 use Rattle.def_run.specs.World as machine
 use Rattle.def_run.specs.World.{World}
-use Rattle.law_connected.specs.Begotten.{LinesConnected, TakenBegotten}
-use Rattle.law_connected.proofs.RunKnows.{opened_connected, run_connected, ended_connected, opened_begotten, run_begotten, ended_begotten}
-use Rattle.law_connected.proofs.FineRuns.{opened_connect, run_connect}
+use Rattle.law_uses.specs.Connectivity.Begotten.{LinesConnected, TakenBegotten}
+use Rattle.law_uses.proofs.Connectivity.RunKnows.{opened_connected, run_connected, ended_connected, opened_begotten, run_begotten, ended_begotten}
+use Rattle.law_uses.proofs.Connectivity.FineRuns.{opened_connect, run_connect}
 use Rattle.law_frozen.specs.Runs.{ReachIsFrozenIn}
 use Rattle.law_frozen.proofs.RunSound.{reach_at_the_end, reach_in_runs}
 use Rattle.def_run.specs.World.{Run}
-use Rattle.law_costs.specs.Halting.Halted.{OpeningStops, EntryStops}
-use Rattle.law_costs.proofs.Halting.Halted.{stopped_leave}
+use Rattle.law_machine.specs.Halting.Halted.{OpeningStops, EntryStops}
+use Rattle.law_machine.proofs.Halting.Halted.{stopped_leave}
 use Rattle.ev_top.specs.Headline.{ComesTo, StampedReachFrozenAlone, StopsAsItCame, UsesAreConnected}
 use Rattle.ev_top.specs.declared.command.Command.{Command}
 

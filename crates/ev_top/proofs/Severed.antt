@@ -2,15 +2,15 @@
 use Rattle.std.proofs.Common.{◌≡◌, ◌+◌, ◌++◌, ℕ, List, [], length, Option, Some, None, IfSome, sym, ◌∙◌, subst, append_assoc}
 use Rattle.def_run.specs.World as machine
 use Rattle.def_run.specs.World.{World, names}
-use Rattle.law_name.proofs.Laws.{severed_broken}
-use Rattle.law_reference.specs.Cuts.{NoticesFollowCuts}
-use Rattle.law_reference.proofs.AskHolds.{notices_front}
-use Rattle.law_reference.proofs.RestLaws.{breaks_stay}
-use Rattle.law_run.specs.Runs.{EachVat}
-use Rattle.law_run.proofs.BreakRuns.{severings_run}
-use Rattle.law_gift.proofs.Gift.Stays.{gifts_run}
-use Rattle.law_gift.proofs.Gift.Runs.{rests_in_runs}
-use Rattle.law_gift.proofs.Gift.Broken.{breaks_for_good}
+use Rattle.law_fate.proofs.Name.Laws.{severed_broken}
+use Rattle.law_reference.specs.Reference.Cuts.{NoticesFollowCuts}
+use Rattle.law_reference.proofs.Reference.AskHolds.{notices_front}
+use Rattle.law_reference.proofs.Reference.RestLaws.{breaks_stay}
+use Rattle.law_machine.specs.Run.Runs.{EachVat}
+use Rattle.law_machine.proofs.Run.BreakRuns.{severings_run}
+use Rattle.law_reference.proofs.Gift.Stays.{gifts_run}
+use Rattle.law_reference.proofs.Gift.Runs.{rests_in_runs}
+use Rattle.law_reference.proofs.Gift.Broken.{breaks_for_good}
 use Rattle.law_read.specs.ReadScripts.Accepted.{MeetsTheLaws}
 use Rattle.ev_top.specs.Headline.{GoesOn, NoticesBreakUnopened, SeveredStaysBroken, StaysSevered}
 use Rattle.ev_top.specs.declared.command.Command.{Command}

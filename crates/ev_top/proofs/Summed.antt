@@ -6,28 +6,28 @@ use Rattle.def_machine.specs.State.{Stop, Fuel, Deep, Repeated, Astray}
 use Rattle.def_run.specs.Text.{draws_of, history_of, stop_line, stop_text}
 use Rattle.def_run.specs.World as machine
 use Rattle.def_run.specs.World.{World, Goes, Stopped}
-use Rattle.def_local.specs.Numbers as numbers
-use Rattle.def_local.specs.Numbers.{Course, Runs, Halts}
-use Rattle.law_local.specs.Local.Mirrors.{RunMirrors}
-use Rattle.law_peers.specs.Steady.{RunsSteadily}
+use Rattle.def_run.specs.Numbers as numbers
+use Rattle.def_run.specs.Numbers.{Course, Runs, Halts}
+use Rattle.law_frame.specs.Local.Mirrors.{RunMirrors}
+use Rattle.ev_wire.specs.Steady.{RunsSteadily}
 use Rattle.law_schedule.specs.Scripts.{machine_entry, tree_at}
 use Rattle.law_read.proofs.ReadScripts.Meets.{meets}
-use Rattle.ev_scope.specs.declared.accepted.Scoped.{Scoped}
+use Rattle.ev_reader.specs.declared.accepted.Scoped.{Scoped}
 use Rattle.ev_script.specs.Rules.{IsAdmitted}
 use Rattle.ev_script.specs.declared.script.Script.{Script}
 use Rattle.ev_world.proofs.Wholes.{many_are}
 use Rattle.ev_world.specs.Events.{events_of}
 use Rattle.ev_world.specs.Running.{end_by, end_of, script_of}
 use Rattle.ev_world.specs.declared.run.RunEnd.{RunEnd}
-use Rattle.ev_run.specs.Due.{IsDueOfTrees}
-use Rattle.ev_run.specs.Ends.{status_by}
+use Rattle.ev_top.specs.RunDue.{IsDueOfTrees}
+use Rattle.ev_top.specs.RunEnds.{status_by}
 use Rattle.ev_top.specs.Ends.{summed_by}
-use Rattle.ev_run.specs.Machine.{greatest_depth}
-use Rattle.ev_run.specs.Programs.{trees_of}
+use Rattle.ev_top.specs.Machine.{greatest_depth}
+use Rattle.ev_top.specs.Programs.{trees_of}
 use Rattle.ev_top.specs.Summary.{steps_of, summary_by, summary_of}
-use Rattle.ev_reply.specs.declared.status.Status.{Status}
-use Rattle.ev_run.proofs.Ended.{due_text, told_end}
-use Rattle.ev_run.proofs.Steady.{runs_are_mirrored, runs_are_steady}
+use Rattle.ev_io.specs.declared.status.Status.{Status}
+use Rattle.ev_top.proofs.Ended.{due_text, told_end}
+use Rattle.ev_top.proofs.Steady.{runs_are_mirrored, runs_are_steady}
 
 -- where a run stopped
 summed_stop : (events : List ShownEvent) (steps : ℕ) (c : Stop) (k : ℕ) (w : World) → summed_by events steps (end_by c k) ≡ stop_text (Stopped c k w)

@@ -2,13 +2,13 @@
 use Rattle.std.proofs.Common.{◌≡◌, ℕ, List, [], false, Option, Some, None, IfSome, arith}
 use Rattle.std.proofs.KnownBytes.{Consumes-nil}
 use Rattle.ev_top.specs.Commands.{reads}
-use Rattle.ev_reply.specs.Paying.{IsOfRead, IsOfWhole}
-use Rattle.ev_reply.specs.Paying.{Reads}
+use Rattle.ev_io.specs.Paying.{IsOfRead, IsOfWhole}
+use Rattle.ev_io.specs.Paying.{Reads}
 use Rattle.ev_top.specs.Due.{IsDue}
 use Rattle.ev_top.specs.declared.command.Command.{Command}
 use Rattle.ev_top.specs.declared.command.Command.TheVariants.{Run, Expand, Generate, Sum, Sturdy, Mint, Check}
-use Rattle.ev_reply.specs.declared.status.Status.{Status}
-use Rattle.ev_reply.specs.declared.status.Status.TheVariants.{Done, Usage, ReadFault, WriteFault, TooLong, ScriptRefused, ProgramRefused, FuelSpent, TooDeep, WordRepeated, Memory}
+use Rattle.ev_io.specs.declared.status.Status.{Status}
+use Rattle.ev_io.specs.declared.status.Status.TheVariants.{Done, Usage, ReadFault, WriteFault, TooLong, ScriptRefused, ProgramRefused, FuelSpent, TooDeep, WordRepeated, Memory}
 
 -- what holds of every input holds of what a source has left
 pub for_all : (left : Option (List ℕ)) (P : List ℕ → Type 0) → ((input : List ℕ) → P input) → IfSome left P

@@ -6,7 +6,7 @@ use Rattle.ev_world.specs.Running.{tree_in}
 use Rattle.law_read.proofs.ReadTexts.ScriptsRead.{texts_of_scripts}
 use Rattle.law_read.proofs.ReadUses.Held.{uses_hold}
 use Rattle.ev_top.specs.Headline.{HoldsUses, IsToRun, RunsHoldUses}
-use Rattle.ev_run.specs.Machine.{greatest_depth}
+use Rattle.ev_top.specs.Machine.{greatest_depth}
 use Rattle.ev_top.specs.declared.command.Command.{Command}
 use Rattle.ev_top.proofs.Astray.{are_read_to}
 use Rattle.ev_top.proofs.Lawful.{bytes_of}

@@ -6,7 +6,7 @@ use Rattle.ev_reader.specs.Program.{Answers}
 use Rattle.ev_reader.specs.declared.fault.ProgramFault.TheVariants.{At}
 use Rattle.ev_reader.specs.declared.fault.Stage.{Stage as Part}
 use Rattle.def_run.specs.World.{run, Run as Machine, World, Stopped}
-use Rattle.ev_scope.specs.declared.accepted.Scoped.{Scoped}
+use Rattle.ev_reader.specs.declared.accepted.Scoped.{Scoped}
 use Rattle.ev_script.specs.declared.script.Script.{Script}
 use Rattle.ev_script.specs.declared.script.VatScript.{VatScript}
 use Rattle.ev_generate.specs.Generated.{generated}
@@ -14,17 +14,17 @@ use Rattle.ev_sturdy.specs.Telling as sturdy
 use Rattle.ev_mint.specs.Telling as mint
 use Rattle.ev_trace.specs.Reading.{read as trace_from}
 use Rattle.ev_top.specs.Commands.{reads}
-use Rattle.ev_reply.specs.Debt.{most_bytes}
+use Rattle.ev_io.specs.Debt.{most_bytes}
 use Rattle.ev_top.specs.Expansion.{text_from}
 use Rattle.ev_world.specs.Running.{script_of}
-use Rattle.ev_run.specs.Machine.{greatest_depth}
-use Rattle.ev_run.specs.Programs.{AreRead, IsFirstRefused, IsRead, safe_names}
+use Rattle.ev_top.specs.Machine.{greatest_depth}
+use Rattle.ev_top.specs.Programs.{AreRead, IsFirstRefused, IsRead, safe_names}
 use Rattle.ev_script.specs.Script.{read as script_from}
 use Rattle.ev_top.specs.declared.command.Command.{Command}
 use Rattle.ev_top.specs.declared.command.Command.TheVariants.{Run, Expand, Generate, Sum, Sturdy, Mint, Check}
-use Rattle.ev_reply.specs.declared.status.Stage.TheVariants as stages
-use Rattle.ev_reply.specs.declared.status.Status.{Status}
-use Rattle.ev_reply.specs.declared.status.Status.TheVariants.{ReadFault, WriteFault, ProgramRefused, Memory}
+use Rattle.ev_io.specs.declared.status.Stage.TheVariants as stages
+use Rattle.ev_io.specs.declared.status.Status.{Status}
+use Rattle.ev_io.specs.declared.status.Status.TheVariants.{ReadFault, WriteFault, ProgramRefused, Memory}
 
 -- a fault or want of memory
 abbrev pub IsInterrupted : Status → Type 0

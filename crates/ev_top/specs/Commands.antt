@@ -2,7 +2,7 @@
 use Rattle.std.specs.Prelude.{ℕ, Bool, true, false, if◌then◌else◌, List, [], ◌∷◌, codes, Some, None, option_map}
 use Rattle.std.specs.declared.option.Option.{Option}
 use Rattle.std.specs.Str.{bytes_eq}
-use Rattle.ev_command_lines.specs.Lines.{number}
+use Rattle.ev_text.specs.Lines.{number}
 use Rattle.ev_top.specs.declared.command.Command.{Command}
 use Rattle.ev_top.specs.declared.command.Command.TheVariants.{Run, Expand, Generate, Sum, Sturdy, Mint, Check}
 

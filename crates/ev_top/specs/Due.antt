@@ -2,7 +2,7 @@
 use Rattle.std.specs.Prelude.{◌≡◌, ℕ, Bool, true, nat_lt, ◌&&◌, List, length, Some, None, IsSome, Result}
 use Rattle.std.specs.declared.option.Option.{Option}
 use Rattle.ev_generate.specs.Generated.{generated}
-use Rattle.ev_reply.specs.Debt.{IsFor, most_bytes, usage}
+use Rattle.ev_io.specs.Debt.{IsFor, most_bytes, usage}
 use Rattle.ev_top.specs.Expansion.{IsDueOfText, text_from}
 use Rattle.ev_sturdy.specs.Telling as sturdy
 use Rattle.ev_mint.specs.Telling as mint
@@ -10,17 +10,17 @@ use Rattle.ev_top.specs.Commands.{reads}
 use Rattle.ev_check_text.specs.Due.{IsDueOfTrace}
 use Rattle.ev_trace.specs.Reading.{read as trace_from}
 use Rattle.ev_top.specs.Lines.{IsDueOfGenerated, IsDueOfMint, IsDueOfSturdy}
-use Rattle.ev_run.specs.Machine.{text_of}
+use Rattle.ev_top.specs.Machine.{text_of}
 use Rattle.ev_script.specs.Script.{read as script_from}
 use Rattle.ev_top.specs.Summary.{summary_of}
 use Rattle.ev_top.specs.declared.command.Command.{Command}
 use Rattle.ev_top.specs.declared.command.Command.TheVariants.{Run, Expand, Generate, Sum, Sturdy, Mint, Check}
-use Rattle.ev_reply.specs.declared.status.Status.{Status}
-use Rattle.ev_run.specs.Due.{IsDueOfScript, debt_of}
-use Rattle.ev_run.specs.declared.reply.Owed.{Owed}
-use Rattle.ev_reply.specs.declared.reply.Early.{Early}
-use Rattle.ev_reply.specs.Paying as paying
-use Rattle.ev_reply.specs.Paying.{IsDueOfCounted}
+use Rattle.ev_io.specs.declared.status.Status.{Status}
+use Rattle.ev_top.specs.RunDue.{IsDueOfScript, debt_of}
+use Rattle.ev_top.specs.declared.reply.Owed.{Owed}
+use Rattle.ev_io.specs.declared.reply.Early.{Early}
+use Rattle.ev_io.specs.Paying as paying
+use Rattle.ev_io.specs.Paying.{IsDueOfCounted}
 
 -- ---- a call
 

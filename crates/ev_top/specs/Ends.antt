@@ -6,7 +6,7 @@ use Rattle.def_run.specs.Text.{stop_line}
 use Rattle.ev_summary.specs.Summary.{summary}
 use Rattle.ev_world.specs.declared.run.RunEnd.{RunEnd}
 use Rattle.ev_world.specs.declared.run.RunEnd.TheVariants as end
-use Rattle.ev_reply.specs.Words.{line}
+use Rattle.ev_io.specs.Words.{line}
 
 -- what is told in the summary of a run of so many steps that ended so, with these events
 abbrev pub summed_by : List ShownEvent → ℕ → RunEnd → List ℕ

@@ -2,13 +2,13 @@
 use Rattle.std.specs.Prelude.{◌≡◌, ℕ, nat_lt, if◌then◌else◌, List, length, codes, Result, Ok, Err}
 use Rattle.std.specs.Str.{is_utf8}
 use Rattle.def_kernel.specs.Forms.{form}
-use Rattle.ev_scope.specs.declared.accepted.Scoped.{Scoped}
+use Rattle.ev_reader.specs.declared.accepted.Scoped.{Scoped}
 use Rattle.ev_reader.specs.declared.fault.ProgramFault.{ProgramFault}
-use Rattle.ev_reply.specs.Debt.{IsFor, bytes_refused}
-use Rattle.ev_run.specs.Programs.{ReadAs, IsDueOfFault, safe_names}
-use Rattle.ev_reply.specs.Words.{line}
-use Rattle.ev_reply.specs.declared.status.Status.{Status}
-use Rattle.ev_reply.specs.declared.status.Status.TheVariants.{Done}
+use Rattle.ev_io.specs.Debt.{IsFor, bytes_refused}
+use Rattle.ev_top.specs.Programs.{ReadAs, IsDueOfFault, safe_names}
+use Rattle.ev_io.specs.Words.{line}
+use Rattle.ev_io.specs.declared.status.Status.{Status}
+use Rattle.ev_io.specs.declared.status.Status.TheVariants.{Done}
 
 -- the most bytes of a program
 abbrev pub most_program_bytes : ℕ

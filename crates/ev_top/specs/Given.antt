@@ -4,7 +4,7 @@ use Rattle.std.specs.List.{list_any}
 use Rattle.std.specs.Str.{bytes_eq}
 use Rattle.def_machine.specs.Values.{Name}
 use Rattle.def_machine.specs.Native.{safe_value}
-use Rattle.ev_run.specs.Programs.{safe_names}
+use Rattle.ev_top.specs.Programs.{safe_names}
 
 -- a name is given exactly where the machine has a value for it
 abbrev pub AreSafe : Type 0

@@ -8,34 +8,34 @@ use Rattle.def_machine.specs.Refs.{follow}
 use Rattle.def_run.specs.World as machine
 use Rattle.def_run.specs.World.{Program, Entry, NoticeLink, World, Goes, Stopped, begins, names, open_from, run, steps_from}
 use Rattle.def_run.specs.Text.{text, history_of}
-use Rattle.def_trace.specs.Order.{JudgesOrder}
-use Rattle.def_trace.specs.Uses.{JudgesUses}
+use Rattle.def_event.specs.Order.{JudgesOrder}
+use Rattle.def_event.specs.Uses.{JudgesUses}
 use Rattle.ev_trace.specs.Reading as trace
-use Rattle.law_machine.specs.Breaks.{settled_value, SeveredStays}
-use Rattle.law_run.specs.Runs.{EachVat}
-use Rattle.law_costs.specs.Halting.Halted.{LeavesOf}
-use Rattle.law_gift.specs.Gift.Gifts.{SameGifts}
-use Rattle.law_gift.specs.Gift.Unopened.{UnopenedRest, UnopenedBreak}
-use Rattle.law_fate.specs.Fate.{fates, sent}
-use Rattle.law_fate.specs.Carry.{carries}
+use Rattle.law_machine.specs.Machine.Breaks.{settled_value, SeveredStays}
+use Rattle.law_machine.specs.Run.Runs.{EachVat}
+use Rattle.law_machine.specs.Halting.Halted.{LeavesOf}
+use Rattle.law_reference.specs.Gift.Gifts.{SameGifts}
+use Rattle.law_reference.specs.Gift.Unopened.{UnopenedRest, UnopenedBreak}
+use Rattle.law_fate.specs.Fates.Fate.{fates, sent}
+use Rattle.law_fate.specs.Fates.Carry.{carries}
 use Rattle.law_frozen.specs.Runs.{ReachIsFrozenIn}
-use Rattle.law_connected.specs.Begotten.{LinesConnected, TakenBegotten}
-use Rattle.law_connected.specs.UseLaws.{RunConnected}
-use Rattle.law_order.specs.Order.{Ordered}
+use Rattle.law_uses.specs.Connectivity.Begotten.{LinesConnected, TakenBegotten}
+use Rattle.law_uses.specs.Connectivity.UseLaws.{RunConnected}
+use Rattle.law_order.specs.Ordering.Order.{Ordered}
 use Rattle.law_text.specs.Text.Runs.{events_of}
 use Rattle.law_read.specs.ReadTexts.Runs.{TellsLowOf, trace_of}
-use Rattle.ev_scope.specs.declared.accepted.Scoped.{Scoped}
+use Rattle.ev_reader.specs.declared.accepted.Scoped.{Scoped}
 use Rattle.ev_script.specs.declared.script.Script.{Script}
-use Rattle.law_generated.specs.Accepted.{generated_script}
+use Rattle.law_read.specs.Generated.Accepted.{generated_script}
 use Rattle.ev_top.specs.Causes.{HasPrograms, HasScript, run_of}
 use Rattle.law_schedule.specs.Scripts.{machine_script, tree_at}
 use Rattle.ev_world.specs.Running.{script_of}
-use Rattle.ev_run.specs.Machine.{greatest_depth}
+use Rattle.ev_top.specs.Machine.{greatest_depth}
 use Rattle.ev_top.specs.Summary.{steps_of}
 use Rattle.ev_top.specs.declared.command.Command.{Command}
 use Rattle.ev_top.specs.declared.command.Command.TheVariants.{Sum}
-use Rattle.ev_reply.specs.declared.status.Status.{Status}
-use Rattle.ev_reply.specs.declared.status.Status.TheVariants.{Usage, ReadFault, TooLong, ScriptRefused}
+use Rattle.ev_io.specs.declared.status.Status.{Status}
+use Rattle.ev_io.specs.declared.status.Status.TheVariants.{Usage, ReadFault, TooLong, ScriptRefused}
 
 -- the command runs a script whose programs are read, and this is the machine's
 abbrev pub IsToRun : Option Command → List ℕ → machine.Script → Type 0

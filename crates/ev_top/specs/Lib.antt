@@ -1,3 +1,8 @@
+pub mod Machine
+pub mod Programs
+pub mod RunDue
+pub mod Unread
+pub mod RunEnds
 pub mod Commands
 pub mod Given
 pub mod Expansion

@@ -3,9 +3,9 @@ use Rattle.std.specs.Prelude.{◌≡◌, ℕ, List, Some, None, Result, Ok, Err}
 use Rattle.std.specs.declared.option.Option.{Option}
 use Rattle.ev_generate.specs.Generated.{generated}
 use Rattle.ev_sturdy.specs.Telling.{Ending}
-use Rattle.ev_reply.specs.Debt.{IsFor, bytes_refused}
-use Rattle.ev_reply.specs.declared.status.Status.{Status}
-use Rattle.ev_reply.specs.declared.status.Status.TheVariants.{Done, WordRepeated}
+use Rattle.ev_io.specs.Debt.{IsFor, bytes_refused}
+use Rattle.ev_io.specs.declared.status.Status.{Status}
+use Rattle.ev_io.specs.declared.status.Status.TheVariants.{Done, WordRepeated}
 
 -- the text of the script that is generated for a number
 abbrev pub IsDueOfGenerated : ℕ → Status → List ℕ → Type 0

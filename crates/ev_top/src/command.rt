@@ -4,7 +4,7 @@ ghost use Rattle.std.specs.Prelude.{◌≡◌};
 ghost use Rattle.ev_top.specs.Commands.{command_alone, command_of, command_of_number, command_of_run, command_of_sum, command_with, reads};
 
 use ev_base::{Seq, Str};
-use ev_command_lines::number;
+use ev_text::number;
 
 /// The greatest number of a script that is generated.
 const MOST_GENERATED: u64 = 3000;

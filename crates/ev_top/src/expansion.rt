@@ -4,13 +4,12 @@ ghost use Rattle.std.specs.Prelude.{◌≡◌, IfOk, Ok, Err, string_bytes};
 ghost use Rattle.std.specs.Result.{result_map_both};
 ghost use Rattle.ev_top.specs.Expansion.{IsDueOfForm, IsDueOfText, text_from};
 
+use crate::given::safe_names;
+use crate::reply::reply_fault;
 use ev_base::Memory;
+use ev_io::{Reply, Status, reply_line, reply_rule};
 use ev_kernel_printer::print;
-use ev_reader::read_program;
-use ev_reply::{Reply, Status, reply_line, reply_rule};
-use ev_run::given::safe_names;
-use ev_run::reply::reply_fault;
-use ev_scope::Scoped;
+use ev_reader::{Scoped, read_program};
 use std::alloc::Global;
 use std::str;
 
@@ -21,7 +20,7 @@ const MOST_PROGRAM_BYTES: usize = 65536;
 const NAMELESS: &str = "-";
 
 /// The text that bytes are, or the number of the rule that they break.
-#[tactic(auto, using(ev_command_lines::proofs::Texts::not_utf8, ev_command_lines::proofs::Texts::is_text))]
+#[tactic(auto, using(ev_text::proofs::LineTexts::not_utf8, ev_text::proofs::LineTexts::is_text))]
 fn text_from(bytes: &[u8]) -> Result<&str, u8>
     ensures { result_map_both (λ text. text.now) (λ rule. rule) result ≡ text_from bytes.now }
 {

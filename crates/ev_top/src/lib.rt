@@ -3,10 +3,18 @@
 
 mod command;
 mod expansion;
+pub mod given;
 pub mod laws;
 mod lines;
+pub mod paying;
 mod program;
+pub mod reply;
+pub mod run;
+pub mod sources;
 mod summary;
 
-pub use ev_reply::{Refusal, Stage, Status};
+pub use ev_io::{Refusal, Stage, Status};
+pub use paying::pay;
 pub use program::top;
+pub use reply::{Owed, Prepared};
+pub use run::owed_bytes;

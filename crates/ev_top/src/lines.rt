@@ -8,7 +8,7 @@ ghost use Rattle.ev_top.specs.Lines.{IsDueOfGenerated, IsDueOfMint, IsDueOfSturd
 
 use ev_base::Memory;
 use ev_generate::generate;
-use ev_reply::{Reply, Status, reply_rule};
+use ev_io::{Reply, Status, reply_rule};
 use ev_script::ScriptFault;
 use ev_sturdy::Told;
 use std::alloc::Global;

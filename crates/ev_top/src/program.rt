@@ -4,25 +4,26 @@ ghost use Rattle.std.specs.Prelude.{◌≡◌, ◌<◌, ◌≤◌, ◌⊎◌, tr
 ghost use Rattle.std.specs.Io.KnownBytes.{IsAtEnd};
 ghost use Rattle.ev_io.specs.Causes.{Rose};
 ghost use Rattle.ev_top.specs.Commands.{command_of, reads};
-ghost use Rattle.ev_reply.specs.Debt.{most_bytes};
+ghost use Rattle.ev_io.specs.Debt.{most_bytes};
 ghost use Rattle.def_machine.specs.State.{Fuel, Deep};
 ghost use Rattle.ev_reader.specs.declared.fault.Stage.{Stage as Part};
 ghost use Rattle.ev_top.specs.Causes.{Breaks, ComesWhere, Follows, HasFault, HasNoTree, IsAstray, IsLong, IsProgramRefused, RepeatsWord, Stops};
-ghost use Rattle.ev_run.specs.Due.{MayRun, debt_of};
-ghost use Rattle.ev_reply.specs.Paying.{IsOfRead, IsOfWhole, Reads};
+ghost use Rattle.ev_top.specs.RunDue.{MayRun, debt_of};
+ghost use Rattle.ev_io.specs.Paying.{IsOfRead, IsOfWhole, Reads};
 ghost use Rattle.ev_top.specs.Due.{IsDue, IsReading, Pays, ReadsFor};
 ghost use Rattle.ev_top.specs.Headline.{MessagesHaveOneFate, RunsHoldOrder, RunsHoldUses, SeveredStaysBroken, StampedReachFrozenAlone, StopsAsItCame, SumsUp, UsesAreConnected};
-ghost use Rattle.ev_run.specs.Programs.{refusal};
+ghost use Rattle.ev_top.specs.Programs.{refusal};
 
 use crate::command::{Command, command_of, reads};
 use crate::expansion::expand_bytes;
 use crate::lines::{mint_bytes, reply_generated, sturdy_bytes};
 use crate::summary::sum_generated;
+use crate::{Owed, owed_bytes, pay};
 use ev_base::{Memory, Seq, Str};
 use ev_check_text::check_bytes;
-use ev_io::{ReadEnd, Sink, Source, read_all};
-use ev_reply::{Early, MOST_BYTES, Reply, Status, finish, reply_line};
-use ev_run::{Owed, owed_bytes, pay};
+use ev_io::{
+    Early, MOST_BYTES, ReadEnd, Reply, Sink, Source, Status, finish, read_all, reply_line,
+};
 use std::alloc::Global;
 
 /// What a command asks for, of bytes that are few enough.
@@ -107,7 +108,7 @@ fn reply_for<S: Source>(alloc: Global, command: Command, src: &mut S) -> Result<
 }
 
 /// Answers a call, without the causes of each answer.
-#[tactic(auto, using(ev_reply::proofs::PayLemmas::plain, ev_reply::proofs::PayLemmas::no_usage, crate::proofs::DueLemmas::pays_left, crate::proofs::DueLemmas::pays_memory, crate::proofs::DueLemmas::pays_read_fault))]
+#[tactic(auto, using(ev_io::proofs::PayLemmas::plain, ev_io::proofs::PayLemmas::no_usage, crate::proofs::DueLemmas::pays_left, crate::proofs::DueLemmas::pays_memory, crate::proofs::DueLemmas::pays_read_fault))]
 fn answer<S: Source, K: Sink>(alloc: Global, words: &Seq<Str>, src: &mut S, out: &mut K) -> Status
     ensures due { IfSome (S.left src.old) (λ input. Pays (K.written out.old) (K.written out.new) result (command_of words.now) input) }
     ensures end { IsReading (command_of words.now) → IsOfWhole result → IsAtEnd (S.left src.new) }

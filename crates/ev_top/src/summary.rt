@@ -3,18 +3,18 @@
 ghost use Rattle.std.specs.Prelude.{◌≡◌, ◌+◌, [], IfOk, length, string_bytes};
 ghost use Rattle.ev_generate.specs.Generated.{generated};
 ghost use Rattle.ev_script.specs.Rules.{IsAdmitted};
-ghost use Rattle.ev_run.specs.Due.{IsDueOfScript, IsDueOfTrees, IsDueOfVats};
+ghost use Rattle.ev_top.specs.RunDue.{IsDueOfScript, IsDueOfTrees, IsDueOfVats};
 ghost use Rattle.ev_top.specs.Ends.{summed_by};
-ghost use Rattle.ev_run.specs.Programs.{AreRead, trees_of};
+ghost use Rattle.ev_top.specs.Programs.{AreRead, trees_of};
 ghost use Rattle.ev_script.specs.Script.{read as script_from};
 ghost use Rattle.ev_top.specs.Summary.{summary_of};
 
+use crate::run::{LIMITS, status_by};
+use crate::sources::{Unread, read_sources};
 use ev_base::Memory;
 use ev_generate::generate;
-use ev_reply::{Reply, reply_rule};
-use ev_run::run::{LIMITS, status_by};
-use ev_run::sources::{Unread, read_sources};
-use ev_scope::Scoped;
+use ev_io::{Reply, reply_rule};
+use ev_reader::Scoped;
 use ev_script::{Script, ScriptFault, read_script};
 use ev_summary::summarize;
 use ev_world::{Ran, RunEnd, run_events};

@@ -8,8 +8,8 @@ use Rattle.std.specs.Path.{rsplit_once}
 use Rattle.std.specs.Str.{bytes_eq, chars, is_utf8}
 use Rattle.def_event.specs.declared.event.Event.{Event}
 use Rattle.def_event.specs.Lines.{opened_lines}
-use Rattle.def_trace.specs.declared.trace.Trace.{Trace}
-use Rattle.ev_command_lines.specs.Lines.{lines, text_of}
+use Rattle.def_event.specs.declared.trace.Trace.{Trace}
+use Rattle.ev_text.specs.Lines.{lines, text_of}
 use Rattle.ev_script.specs.Script.{rule, ◌>>=◌}
 use Rattle.ev_text.specs.Unquoting.{text_behind}
 use Rattle.ev_trace_words.specs.Words.{words_from, words_of}

@@ -9,11 +9,11 @@ ghost use Rattle.ev_trace_lines.specs.Events.{event_of};
 ghost use Rattle.ev_trace.specs.Reading.{events_of, is_end, is_reason, is_stop, kept, read, read_by, read_lines, read_text, somes, trace_of};
 
 use crate::naming::names_in;
+use def_event::Trace;
 use def_event::event::Event;
-use def_trace::Trace;
 use ev_base::{Memory, Seq, Str};
-use ev_command_lines::{lines, text_of};
 use ev_script::ScriptFault;
+use ev_text::{lines, text_of};
 use ev_trace_lines::lines::event_of;
 use ev_trace_words::parts::count;
 use ev_trace_words::words::words_of;

@@ -15,7 +15,7 @@ use Rattle.def_event.specs.declared.event.MadeObject.{MadeObject}
 use Rattle.def_event.specs.declared.event.Event.{Event}
 use Rattle.def_event.specs.declared.event.Event.TheVariants.{Open, Turn, Idle, Carry, Cut, Notice, Frame, Take, Call, Back, Thrown, Gone, Got, Slot, Read, Wrote, List as ListMade, Arrived, Ejector, Audition, Promise, Made, Send, SendOnly, When, Done, Threw, Settle, Wait, View, LostCut, LostBroken, LeftQueue, LeftHeld, LeftWait, LeftLink, End}
 use Rattle.hex.specs.Hex.{decode_of}
-use Rattle.ev_command_lines.specs.Lines.{is_lower_digit}
+use Rattle.ev_text.specs.Lines.{is_lower_digit}
 use Rattle.ev_script.specs.Script.{rule, ◌>>=◌}
 use Rattle.ev_script.specs.Vats.{place_of}
 use Rattle.ev_trace_lines.specs.declared.acts.Request.{Request}

@@ -2,7 +2,7 @@
 
 ghost use Rattle.std.specs.Prelude.{◌≡◌, ◌≤◌, length};
 ghost use Rattle.std.specs.List.{list_all};
-ghost use Rattle.ev_command_lines.specs.Lines.{is_lower_digit};
+ghost use Rattle.ev_text.specs.Lines.{is_lower_digit};
 ghost use Rattle.ev_script.specs.Script.{Reads};
 ghost use Rattle.ev_trace_lines.specs.Events.{any_note, arrived, bytes_of, carried, cut, ended, entry, event_of, frame, idle, inject, injection, is_strange, left, left_held, left_link, left_queue, left_wait, lost, noticed, on_link, one_vat, opened, other_line, settled, strange_note, turn, two_vats, viewed, waiting};
 

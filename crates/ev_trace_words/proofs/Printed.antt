@@ -17,7 +17,7 @@ use Rattle.ev_base.specs.declared.names.Msg.{Msg}
 use Rattle.def_text.specs.Keywords.{is_keyword}
 use Rattle.def_event.specs.Lines.{vat}
 use Rattle.def_event.specs.Lines as lines
-use Rattle.ev_command_lines.specs.Lines.{begins_with_zero}
+use Rattle.ev_text.specs.Lines.{begins_with_zero}
 use Rattle.ev_script.specs.Vats.{begins_lower, differ, is_lower_or_digit, is_vat_name, place_of}
 use Rattle.ev_trace_words.specs.Parts.{count, split_at}
 use Rattle.ev_trace_words.specs.Parts as parts

@@ -16,7 +16,7 @@ use Rattle.ev_base.specs.declared.names.Name.TheVariants.{Object, Own, Answer, G
 use Rattle.ev_base.specs.declared.names.Msg.{Msg}
 use Rattle.def_event.specs.Lines.{vat}
 use Rattle.def_event.specs.Lines as lines
-use Rattle.ev_command_lines.specs.Lines.{begins_with_zero, is_numeral}
+use Rattle.ev_text.specs.Lines.{begins_with_zero, is_numeral}
 use Rattle.ev_script.specs.Vats.{place_of}
 use Rattle.ev_trace_words.specs.Parts.{activation, behind_mark, count, made, otherwise, split_at}
 use Rattle.ev_trace_words.specs.Parts as parts

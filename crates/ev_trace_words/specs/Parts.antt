@@ -10,7 +10,7 @@ use Rattle.ev_base.specs.declared.names.Name.{Name}
 use Rattle.ev_base.specs.declared.names.Name.TheVariants.{Object, Own, Answer, Gift, Root}
 use Rattle.ev_base.specs.declared.names.Msg.{Msg}
 use Rattle.def_event.specs.declared.shown.Shown.{Shown, Null, Bool as Boolean, Int, Prim, Name as Named}
-use Rattle.ev_command_lines.specs.Lines.{number, integer}
+use Rattle.ev_text.specs.Lines.{number, integer}
 use Rattle.ev_script.specs.Json.{◌>>=◌}
 use Rattle.ev_script.specs.Vats.{place_of}
 

@@ -6,7 +6,7 @@ ghost use Rattle.ev_trace_words.specs.Parts.{activation, answer, before_mark, be
 
 use def_event::shown::Shown;
 use ev_base::{Msg, Name, PrimId, Str, Value, VatId, safe_value};
-use ev_command_lines::{integer, number};
+use ev_text::{integer, number};
 
 /// The vat that a word names: its place among the names of the vats.
 pub fn vat(names: &[Str], word: &str) -> Option<VatId>

@@ -5,7 +5,7 @@ use Rattle.std.proofs.lemmas.List.{map-append}
 use mathlib.Core.Former.{Count}
 use denote.Ref.{Bor}
 use Rattle.def_event.specs.declared.shown.Shown.{Shown, Members, Members', Row_of-Shown, end_of-Shown, more_of-Shown, items-the_row-Shown, items_hidden-the_row-Shown-0}
-use Rattle.def_trace.specs.Uses.{IsAmong, Thing, all_parts, member_parts, parts}
+use Rattle.def_event.specs.Uses.{IsAmong, Thing, all_parts, member_parts, parts}
 use Rattle.ev_links.specs.declared.label.Label.{Label}
 use Rattle.ev_links.specs.Label.{label}
 use Rattle.ev_links.specs.Links.{with_label}

@@ -3,7 +3,7 @@ use Rattle.std.proofs.Common.{◌≡◌, Bool, true, false, List, [], ◌∷◌,
 use Rattle.std.specs.Prelude.{◌⊎◌, ◌↔◌, if◌then◌else◌}
 use Rattle.ev_base.specs.declared.names.Name.{Name}
 use Rattle.ev_base.specs.declared.names.Name.TheVariants.{Object, Own, Answer, Gift, Root}
-use Rattle.def_trace.specs.Uses.{AList, AName, IsAmong, Thing, is_gift}
+use Rattle.def_event.specs.Uses.{AList, AName, IsAmong, Thing, is_gift}
 use Rattle.ev_links.specs.declared.label.Label.{Label}
 use Rattle.ev_links.specs.contracts.label.LabelPartialEq.TheImpl.{eq-value}
 use Rattle.ev_links.specs.Label.{label}

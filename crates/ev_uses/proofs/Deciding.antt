@@ -5,8 +5,8 @@ use Rattle.ev_base.specs.declared.names.Msg.{Msg}
 use Rattle.def_event.specs.declared.event.Addressed.{Addressed}
 use Rattle.def_event.specs.declared.event.Event.{Event}
 use Rattle.def_event.specs.declared.event.Event.TheVariants.{Take}
-use Rattle.def_trace.specs.Uses as uses
-use Rattle.def_trace.specs.Uses.{AName, CarriesThese, IsAmong, IsListed, Line, Reaches, TakesSent, Thing, all_parts, arguments_in, line_before}
+use Rattle.def_event.specs.Uses as uses
+use Rattle.def_event.specs.Uses.{AName, CarriesThese, IsAmong, IsListed, Line, Reaches, TakesSent, Thing, all_parts, arguments_in, line_before}
 use Rattle.ev_links.specs.declared.label.Label.{Label}
 use Rattle.ev_links.specs.declared.links.Link.{Link}
 use Rattle.ev_links.specs.declared.links.Scope.TheVariants.{All, Lists}

@@ -6,7 +6,7 @@ use Rattle.ev_base.specs.declared.names.Msg.{Msg}
 use Rattle.def_event.specs.declared.note.ShownNote.TheVariants.{Deliver, DeliverOnly}
 use Rattle.def_event.specs.declared.event.Event.{Event}
 use Rattle.def_event.specs.declared.event.Event.TheVariants.{Carry, Send, SendOnly, When}
-use Rattle.def_trace.specs.Uses.{Line, Thing, arguments_in, carried_with, delivered_with, first_of, had, last_of, line_before, of_delivered, of_message, or_else, same_message, sent_with}
+use Rattle.def_event.specs.Uses.{Line, Thing, arguments_in, carried_with, delivered_with, first_of, had, last_of, line_before, of_delivered, of_message, or_else, same_message, sent_with}
 use Rattle.ev_base.specs.contracts.names.MsgPartialEq.TheImpl.{eq-value}
 use Rattle.ev_uses.specs.declared.sources.Sources.{Sources}
 use Rattle.ev_uses.specs.Places.{Notes, NotesFor, PutsFor, Table, place_in}

@@ -8,7 +8,7 @@ use Rattle.def_event.specs.declared.shown.Shown.{Shown, Name as Named}
 use Rattle.def_event.specs.declared.event.Called.{Called}
 use Rattle.def_event.specs.declared.event.Event.{Event}
 use Rattle.def_event.specs.declared.event.Event.TheVariants.{Back}
-use Rattle.def_trace.specs.Uses.{AsksAudition, BackKnown, GivesBack, IsFollowed, KnowsName, Line, OpenCall, UsesKnown, name_of, open_calls}
+use Rattle.def_event.specs.Uses.{AsksAudition, BackKnown, GivesBack, IsFollowed, KnowsName, Line, OpenCall, UsesKnown, name_of, open_calls}
 use Rattle.ev_uses.specs.declared.stack.OpenedCall.{OpenedCall}
 use Rattle.ev_known.specs.Knowing.{Known, KnownStand, LeadsToAudition}
 use Rattle.ev_uses.specs.Using.{IsOfKnown}

@@ -6,7 +6,7 @@ use Rattle.ev_base.specs.declared.memory.Memory.{Memory}
 use Rattle.ev_base.specs.declared.names.Name.{Name}
 use Rattle.def_event.specs.declared.shown.Shown.{Shown}
 use Rattle.def_event.specs.declared.event.Event.{Event}
-use Rattle.def_trace.specs.Uses.{AName, IsAmong, KnowsName, Line, UsesKnown, made_by, names, names_of, names_used, user}
+use Rattle.def_event.specs.Uses.{AName, IsAmong, KnowsName, Line, UsesKnown, made_by, names, names_of, names_used, user}
 use Rattle.ev_known.specs.declared.facts.Activation.{Activation}
 use Rattle.ev_links.specs.declared.label.Label.{Label}
 use Rattle.ev_known.specs.Knowing.{Known, KnownStand}

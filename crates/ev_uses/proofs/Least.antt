@@ -3,7 +3,7 @@ use Rattle.std.proofs.Common.{◌≡◌, ℕ, ◌<◌, ◌≤◌, arith, Bool, t
 use Rattle.std.specs.Prelude.{◌↔◌, nat_lt, if◌then◌else◌}
 use Rattle.std.proofs.lemmas.Bool.{ltb-true, ltb-false}
 use Rattle.def_event.specs.declared.event.Event.{Event}
-use Rattle.def_trace.specs.Uses.{CarriesSent, HoldsAt, IsFirstFailing, JudgesUses, Line, LineHolds, TakesSent, line_after, lines_before}
+use Rattle.def_event.specs.Uses.{CarriesSent, HoldsAt, IsFirstFailing, JudgesUses, Line, LineHolds, TakesSent, line_after, lines_before}
 use Rattle.ev_uses.specs.Using.{IsOfKnown}
 use Rattle.ev_uses.specs.Earlier.{earlier}
 

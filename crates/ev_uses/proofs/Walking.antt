@@ -1,7 +1,7 @@
 -- What the two walks through a history keep.
 use Rattle.std.proofs.Common.{◌≡◌, ℕ, List, [], ◌∷◌, slice_get, Option, Some, sym, subst}
 use Rattle.def_event.specs.declared.event.Event.{Event}
-use Rattle.def_trace.specs.Uses.{CarriesSent, Line, TakesSent}
+use Rattle.def_event.specs.Uses.{CarriesSent, Line, TakesSent}
 use Rattle.ev_links.specs.declared.label.Label.{Label}
 use Rattle.ev_links.specs.declared.links.Link.{Link}
 use Rattle.ev_base.specs.declared.names.Msg.{Msg}

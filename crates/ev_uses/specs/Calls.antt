@@ -7,8 +7,8 @@ use Rattle.def_event.specs.declared.shown.Shown.{Shown}
 use Rattle.def_event.specs.declared.event.Called.{Called}
 use Rattle.def_event.specs.declared.event.Event.{Event}
 use Rattle.def_event.specs.declared.event.Event.TheVariants.{Call, Back, Thrown, Gone}
-use Rattle.def_trace.specs.Uses as uses
-use Rattle.def_trace.specs.Uses.{AsksAudition, GivesBack, Line, OpenCall, name_of, open_calls}
+use Rattle.def_event.specs.Uses as uses
+use Rattle.def_event.specs.Uses.{AsksAudition, GivesBack, Line, OpenCall, name_of, open_calls}
 use Rattle.ev_known.specs.declared.facts.Activation.{Activation}
 use Rattle.ev_known.specs.contracts.facts.ActivationPartialEq.TheImpl.{eq-value}
 use Rattle.ev_known.specs.Telling.{activation}

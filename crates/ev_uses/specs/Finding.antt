@@ -2,7 +2,7 @@
 use Rattle.std.specs.Prelude.{◌≡◌, ℕ, List, [], map, Option, Some, None, slice_get}
 use Rattle.ev_base.specs.declared.names.Msg.{Msg}
 use Rattle.def_event.specs.declared.event.Event.{Event}
-use Rattle.def_trace.specs.Uses.{Line, Thing, carried_with, first_of, had, last_of, sent_with}
+use Rattle.def_event.specs.Uses.{Line, Thing, carried_with, first_of, had, last_of, sent_with}
 use Rattle.ev_uses.specs.declared.sources.Sources.{Sources}
 use Rattle.ev_uses.specs.Places.{Table, place_in}
 use Rattle.ev_uses.specs.Lines.{carries, holds, sends, things_with}

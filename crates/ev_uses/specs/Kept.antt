@@ -1,6 +1,6 @@
 -- All that is kept of lines.
 use Rattle.std.specs.Prelude.{List}
-use Rattle.def_trace.specs.Uses.{Line}
+use Rattle.def_event.specs.Uses.{Line}
 use Rattle.ev_known.specs.Knowing.{Known, KnownStand}
 use Rattle.ev_uses.specs.Calls.{CallsStand, Stacks}
 

@@ -2,7 +2,7 @@
 use Rattle.std.specs.Prelude.{◌⊎◌, ◌↔◌, List, [], ◌∷◌, map}
 use denote.Ref.{Bor}
 use Rattle.def_event.specs.declared.shown.Shown.{Shown}
-use Rattle.def_trace.specs.Uses.{IsAmong, all_parts}
+use Rattle.def_event.specs.Uses.{IsAmong, all_parts}
 use Rattle.ev_links.specs.declared.label.Label.{Label}
 use Rattle.ev_links.specs.Label.{label}
 

@@ -5,7 +5,7 @@ use Rattle.def_event.specs.declared.note.ShownNote.{ShownNote}
 use Rattle.def_event.specs.declared.note.ShownNote.TheVariants.{Deliver, DeliverOnly}
 use Rattle.def_event.specs.declared.event.Event.{Event}
 use Rattle.def_event.specs.declared.event.Event.TheVariants.{Carry, Send, SendOnly, When}
-use Rattle.def_trace.specs.Uses.{AName, IsAmong, Thing, all_parts, delivered, parts}
+use Rattle.def_event.specs.Uses.{AName, IsAmong, Thing, all_parts, delivered, parts}
 use Rattle.ev_links.specs.declared.label.Label.{Label}
 use Rattle.ev_links.specs.Label.{label}
 

@@ -6,7 +6,7 @@ use Rattle.ev_links.specs.declared.label.Label.{Label}
 use Rattle.ev_links.specs.declared.links.Link.{Link}
 use Rattle.ev_links.specs.declared.links.Scope.TheVariants.{All}
 use Rattle.ev_links.specs.Links.{AreReached, IsReached, has_label}
-use Rattle.def_trace.specs.Uses.{IsAmong}
+use Rattle.def_event.specs.Uses.{IsAmong}
 use Rattle.ev_uses.specs.declared.sought.Sought.{Sought}
 use Rattle.ev_uses.specs.declared.sought.Sought.TheVariants.{Names, NoGifts}
 

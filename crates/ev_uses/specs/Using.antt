@@ -1,7 +1,7 @@
 -- What it is to decide whether names are known to an activation, or made.
 use Rattle.std.specs.Prelude.{◌≡◌, ◌⊎◌, ◌↔◌, ℕ, Bool, true, List, Option, Some, None}
 use Rattle.ev_base.specs.declared.names.Name.{Name}
-use Rattle.def_trace.specs.Uses.{AName, BackKnown, IsAmong, KnowsName, Line, UsesKnown}
+use Rattle.def_event.specs.Uses.{AName, BackKnown, IsAmong, KnowsName, Line, UsesKnown}
 use Rattle.ev_known.specs.declared.facts.Activation.{Activation}
 use Rattle.ev_links.specs.declared.label.Label.{Label}
 use Rattle.ev_known.specs.Knowing.{Known, KnownStand}

@@ -1,7 +1,7 @@
 //! The open calls of all activations.
 
 ghost use Rattle.std.specs.Prelude.{◌≡◌, ◌∷◌, [], ◌↔◌, drop, slice_get, List, IfOk, IsTrue, OnOk};
-ghost use Rattle.def_trace.specs.Uses.{AsksAudition, Line};
+ghost use Rattle.def_event.specs.Uses.{AsksAudition, Line};
 ghost use Rattle.ev_known.specs.Knowing.{KnownStand};
 ghost use Rattle.ev_uses.specs.Calls.{CallsAfter, CallsStand, Closes, HasStack, Opens, asked_name, stack};
 
@@ -35,7 +35,7 @@ impl Model for Calls {
 }
 
 /// The name that a call asks for a guard, if it asks one.
-#[tactic(auto, unfolding(def_trace::specs::Uses::name_of))]
+#[tactic(auto, unfolding(def_event::specs::Uses::name_of))]
 fn asked_name(called: &Called) -> Option<Name>
     ensures { result ≡ asked_name called.now }
 {

@@ -4,7 +4,7 @@ ghost use Rattle.std.specs.Prelude.{◌≡◌, ◌↔◌, [], List, IfOk, IsTrue
 ghost use Rattle.def_event.specs.declared.event.Addressed.{Addressed as Taking};
 ghost use Rattle.def_event.specs.declared.event.Event.{Event as Told};
 ghost use Rattle.def_event.specs.declared.event.Event.TheVariants.{Take as TakeLine};
-ghost use Rattle.def_trace.specs.Uses.{IsFirstFailing, Line, TakesSent, all_parts, arguments_in};
+ghost use Rattle.def_event.specs.Uses.{IsFirstFailing, Line, TakesSent, all_parts, arguments_in};
 ghost use Rattle.ev_uses.specs.Finding.{SourcesStand};
 ghost use Rattle.ev_uses.specs.Lines.{AddsThings};
 ghost use Rattle.ev_uses.specs.Onward.{OnwardStand};
@@ -69,7 +69,7 @@ fn is_taken_sent(
 }
 
 /// Whether a message that a line takes is taken with what it was sent with.
-#[tactic(auto, unfolding(def_trace::specs::Uses::TakesSent))]
+#[tactic(auto, unfolding(def_event::specs::Uses::TakesSent))]
 fn takes_sent(
     alloc: Global,
     events: &[Event],

@@ -1,13 +1,13 @@
 //! The first line of a trace whose use is not founded on the lines before it.
 
 ghost use Rattle.std.specs.Prelude.{◌≡◌, IfOk};
-ghost use Rattle.def_trace.specs.Uses.{JudgesUses};
+ghost use Rattle.def_event.specs.Uses.{JudgesUses};
 ghost use Rattle.ev_uses.specs.Earlier.{earlier};
 
 use crate::changed::first_changed;
 use crate::unknown::first_unknown;
 use crate::unsent::first_unsent;
-use def_trace::Trace;
+use def_event::Trace;
 use ev_base::Memory;
 use std::alloc::Global;
 

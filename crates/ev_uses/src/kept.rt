@@ -1,7 +1,7 @@
 //! All that is kept of the lines so far: what is known, and which calls are open.
 
 ghost use Rattle.std.specs.Prelude.{◌≡◌, ◌↔◌, ◌∷◌, List, IfOk, IsTrue, OnOk};
-ghost use Rattle.def_trace.specs.Uses.{Line};
+ghost use Rattle.def_event.specs.Uses.{Line};
 ghost use Rattle.ev_uses.specs.Kept.{KeptStand};
 ghost use Rattle.ev_uses.specs.Using.{IsOfKnown};
 

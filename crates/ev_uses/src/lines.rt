@@ -1,7 +1,7 @@
 //! The messages that lines speak of, and the names and lists that lines have with them.
 
 ghost use Rattle.std.specs.Prelude.{◌≡◌, ◌∷◌, ◌++◌, [], OnOk};
-ghost use Rattle.def_trace.specs.Uses.{AName, all_parts, delivered, parts};
+ghost use Rattle.def_event.specs.Uses.{AName, all_parts, delivered, parts};
 ghost use Rattle.ev_uses.specs.Lines.{AddsThings, carries, given_by, holds, message_of, sends, things_with};
 
 use crate::parts::{add_value, add_values};
@@ -11,7 +11,7 @@ use ev_links::{Labels, name_label};
 use std::alloc::Global;
 
 /// The message that a note delivers, if it delivers one.
-#[tactic(auto, unfolding(def_trace::specs::Uses::delivered, crate::specs::Lines::given_by))]
+#[tactic(auto, unfolding(def_event::specs::Uses::delivered, crate::specs::Lines::given_by))]
 pub fn delivered_message(note: &ShownNote) -> Option<Msg>
     ensures all { result ≡ message_of (delivered note.now) }
     ensures args { result ≡ message_of (given_by note.now) }
@@ -93,7 +93,7 @@ fn add_addressed(
 }
 
 /// Adds what a delivered message has: its target, and what its arguments have.
-#[tactic(auto, using(crate::proofs::Adding::none_added), unfolding(def_trace::specs::Uses::delivered))]
+#[tactic(auto, using(crate::proofs::Adding::none_added), unfolding(def_event::specs::Uses::delivered))]
 pub fn add_delivered(alloc: Global, labels: &mut Labels, note: &ShownNote) -> Result<(), Memory>
     ensures { OnOk result (AddsThings (things_with (delivered note.now)) labels.old labels.new) }
 {

@@ -1,7 +1,7 @@
 //! What lines say of what leads to what, as links of what leads.
 
 ghost use Rattle.std.specs.Prelude.{◌≡◌, ◌∷◌, [], List, OnOk, map};
-ghost use Rattle.def_trace.specs.Uses.{Line, leads, things, things_of};
+ghost use Rattle.def_event.specs.Uses.{Line, leads, things, things_of};
 ghost use Rattle.ev_links.specs.Label.{label};
 ghost use Rattle.ev_links.specs.declared.links.Way.TheVariants.{Listed as Listing};
 ghost use Rattle.ev_uses.specs.Onward.{AddsOnward, LeadsTo, OnwardStand};
@@ -19,7 +19,7 @@ fn lead_to(links: &mut Links, alloc: Global, from: Label, way: Way, to: Label) -
 }
 
 /// A thing leads to what a value is.
-#[tactic(auto, using(crate::proofs::Leading::none_led), unfolding(def_trace::specs::Uses::things_of))]
+#[tactic(auto, using(crate::proofs::Leading::none_led), unfolding(def_event::specs::Uses::things_of))]
 fn lead_to_value(
     links: &mut Links,
     alloc: Global,
@@ -52,7 +52,7 @@ fn lead_to_members(
 }
 
 /// What an event says of what leads to what.
-#[tactic(auto, using(crate::proofs::Leading::leads_onward, crate::proofs::Leading::no_leads), unfolding(def_trace::specs::Uses::leads))]
+#[tactic(auto, using(crate::proofs::Leading::leads_onward, crate::proofs::Leading::no_leads), unfolding(def_event::specs::Uses::leads))]
 fn tell_event(links: &mut Links, alloc: Global, at: u64, event: &Event) -> Result<(), Memory>
     ensures { OnOk result (AddsOnward (leads at event.now) links.old links.new) }
 {

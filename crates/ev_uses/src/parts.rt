@@ -2,7 +2,7 @@
 
 ghost use Rattle.std.specs.Prelude.{◌≡◌, ◌+◌, ◌<◌, IfOk, MatchOption, OnOk};
 ghost use Rattle.def_event.specs.declared.shown.Shown.{Members};
-ghost use Rattle.def_trace.specs.Uses.{all_parts, parts};
+ghost use Rattle.def_event.specs.Uses.{all_parts, parts};
 ghost use Rattle.ev_event.specs.Pending.{open_weight, weights};
 ghost use Rattle.ev_uses.specs.Left.{Leaves};
 ghost use Rattle.ev_uses.specs.Lines.{AddsThings};

@@ -1,7 +1,7 @@
 //! Whether what a call gives back is known.
 
 ghost use Rattle.std.specs.Prelude.{◌≡◌, ◌↔◌, List, IfOk, IsTrue, unwrap_or};
-ghost use Rattle.def_trace.specs.Uses.{BackKnown, GivesBack, Line, open_calls};
+ghost use Rattle.def_event.specs.Uses.{BackKnown, GivesBack, Line, open_calls};
 ghost use Rattle.ev_known.specs.Knowing.{KnownStand};
 ghost use Rattle.ev_uses.specs.Calls.{CallsStand, GivesBackValue};
 

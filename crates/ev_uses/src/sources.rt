@@ -1,7 +1,7 @@
 //! What a whole history carries last, and sends first, with each message.
 
 ghost use Rattle.std.specs.Prelude.{◌≡◌, [], OnOk};
-ghost use Rattle.def_trace.specs.Uses.{arguments_in};
+ghost use Rattle.def_event.specs.Uses.{arguments_in};
 ghost use Rattle.ev_uses.specs.Finding.{SourcesStand, things_at};
 ghost use Rattle.ev_uses.specs.Lines.{AddsThings, carries, sends};
 

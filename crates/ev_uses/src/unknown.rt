@@ -1,7 +1,7 @@
 //! The first line that uses, or gives back, what is not known.
 
 ghost use Rattle.std.specs.Prelude.{[], IfOk};
-ghost use Rattle.def_trace.specs.Uses.{IsFirstFailing};
+ghost use Rattle.def_event.specs.Uses.{IsFirstFailing};
 ghost use Rattle.ev_known.specs.Knowing.{KnownStand};
 ghost use Rattle.ev_links.specs.Chains.{PlanStands};
 ghost use Rattle.ev_uses.specs.Kept.{KeptStand};

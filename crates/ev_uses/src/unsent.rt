@@ -1,7 +1,7 @@
 //! The first line that carries what was not there before.
 
 ghost use Rattle.std.specs.Prelude.{◌≡◌, ◌↔◌, [], List, IfOk, IsTrue, OnOk, unwrap_or};
-ghost use Rattle.def_trace.specs.Uses.{CarriesSent, CarriesThese, IsFirstFailing, Line, delivered};
+ghost use Rattle.def_event.specs.Uses.{CarriesSent, CarriesThese, IsFirstFailing, Line, delivered};
 ghost use Rattle.ev_uses.specs.Finding.{FindsBefore, found_at};
 ghost use Rattle.ev_uses.specs.Lines.{AddsThings, holds};
 ghost use Rattle.ev_uses.specs.Onward.{OnwardStand};
@@ -91,7 +91,7 @@ fn is_note_sent(
 }
 
 /// Whether a line carries only gifts and what is reached from what the line before of its message has.
-#[tactic(auto, unfolding(def_trace::specs::Uses::CarriesSent))]
+#[tactic(auto, unfolding(def_event::specs::Uses::CarriesSent))]
 fn carries_sent(
     alloc: Global,
     events: &[Event],

@@ -1,7 +1,7 @@
 //! Whether the names that a line uses are known to its activation, or made by the line.
 
 ghost use Rattle.std.specs.Prelude.{◌≡◌, ◌↔◌, ◌++◌, ◌∷◌, [], List, Some, IfOk, IsTrue};
-ghost use Rattle.def_trace.specs.Uses.{Line, UsesKnown, is_guarding, made_by, name_of, names, names_of, names_used, receivers, user};
+ghost use Rattle.def_event.specs.Uses.{Line, UsesKnown, is_guarding, made_by, name_of, names, names_of, names_used, receivers, user};
 ghost use Rattle.ev_known.specs.Knowing.{KnownStand};
 ghost use Rattle.ev_uses.specs.Using.{DecidesAll, label_of};
 
@@ -39,7 +39,7 @@ fn is_name_known(
 }
 
 /// Whether what a value names is known or made.
-#[tactic(auto, using(crate::proofs::Known::decides_none), unfolding(def_trace::specs::Uses::names_of))]
+#[tactic(auto, using(crate::proofs::Known::decides_none), unfolding(def_event::specs::Uses::names_of))]
 fn is_known(
     knowledge: &mut Knowledge,
     alloc: Global,
@@ -110,7 +110,7 @@ fn receivers(called: &Called) -> &[Shown]
 }
 
 /// The name that a value is.
-#[tactic(auto, unfolding(def_trace::specs::Uses::name_of))]
+#[tactic(auto, unfolding(def_event::specs::Uses::name_of))]
 fn value_label(value: &Shown) -> Option<Label>
     ensures { result ≡ label_of (name_of value.now) }
 {
@@ -121,7 +121,7 @@ fn value_label(value: &Shown) -> Option<Label>
 }
 
 /// What a line makes.
-#[tactic(auto, unfolding(def_trace::specs::Uses::made_by))]
+#[tactic(auto, unfolding(def_event::specs::Uses::made_by))]
 fn made_label(event: &Event) -> Option<Label>
     ensures { result ≡ label_of (made_by event.now) }
 {
@@ -134,7 +134,7 @@ fn made_label(event: &Event) -> Option<Label>
 }
 
 /// The activation that uses something in a line, and 0 where the line uses nothing.
-#[tactic(auto, unfolding(def_trace::specs::Uses::user))]
+#[tactic(auto, unfolding(def_event::specs::Uses::user))]
 fn user(event: &Event) -> u64
     ensures { result ≡ user event.now }
 {
@@ -152,7 +152,7 @@ fn user(event: &Event) -> u64
 }
 
 /// The values that a line uses, in two lots.
-#[tactic(auto, unfolding(def_trace::specs::Uses::names_used))]
+#[tactic(auto, unfolding(def_event::specs::Uses::names_used))]
 fn values_used(event: &Event) -> (&[Shown], &[Shown])
     ensures { names result.0.now ++ names result.1.now ≡ names_used event.now }
 {

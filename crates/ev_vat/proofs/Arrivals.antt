@@ -10,19 +10,19 @@ use Rattle.ev_arrive.specs.Noticing.{notice}
 use Rattle.ev_arrive.specs.declared.host.Host.{Host}
 use Rattle.ev_pass.specs.declared.interior.Stop.{Stop}
 use Rattle.ev_pass.specs.declared.interior.Stop.TheVariants as stop
-use Rattle.ev_receive.specs.Hearing.{Name, Sees, heard_by}
-use Rattle.ev_receive.specs.Noting.{arrive}
-use Rattle.ev_receive.specs.Receiving.{receive}
-use Rattle.ev_receive.specs.declared.brought.Heard.{Heard}
-use Rattle.ev_receive.specs.declared.receiving.Sight.{Sight}
+use Rattle.ev_arrive.specs.Hearing.{Name, Sees, heard_by}
+use Rattle.ev_arrive.specs.Noting.{arrive}
+use Rattle.ev_arrive.specs.Receiving.{receive}
+use Rattle.ev_arrive.specs.declared.brought.Heard.{Heard}
+use Rattle.ev_arrive.specs.declared.receiving.Sight.{Sight}
 use Rattle.ev_room.specs.Reading.{World, names, texts_of}
 use Rattle.ev_room.specs.Sound.{Grown, IsSound, Stays}
 use Rattle.ev_vat.specs.Vat.{ArrivalIs, UnlessMemory, closed_by, stop_of}
-use Rattle.law_arrivals.proofs.Arrives.{notices}
-use Rattle.law_arrivals.proofs.Leaving.{more_grown}
-use Rattle.law_arrivals.proofs.Machine as means
-use Rattle.law_arrivals.proofs.Receives.{arrive_ends, receives}
-use Rattle.law_arrivals.specs.Arrivals.{EndsSound, Leaves, Means, NoteFits, vat_in}
+use Rattle.law_evaluation.proofs.Arrivals.Arrives.{notices}
+use Rattle.law_evaluation.proofs.Arrivals.Leaving.{more_grown}
+use Rattle.law_evaluation.proofs.Arrivals.Machine as means
+use Rattle.law_evaluation.proofs.Arrivals.Receives.{arrive_ends, receives}
+use Rattle.law_evaluation.specs.Arrivals.Arrivals.{EndsSound, Leaves, Means, NoteFits, vat_in}
 
 module _ (h k : Host) (out : Out (Unit {0})) (sound : EndsSound h.inside out) where
   -- what holds of all that the vat is left as holds of this, unless memory ran out

@@ -20,8 +20,8 @@ use Rattle.ev_room.specs.Holding.{Every, KnownOf}
 use Rattle.ev_room.specs.Reading.{World, texts_of, vat_of}
 use Rattle.ev_room.specs.Sound.{IsSound, cycle_id, is_there, partition_id, problems}
 use Rattle.ev_vat.specs.Rooted.{IsRooted, each_once, fresh, root_of, root_references, roots_known}
-use Rattle.law_acts.proofs.Referring.{base_of, sound_after}
-use Rattle.law_acts.specs.Kinds.{InsideOf}
+use Rattle.law_evaluation.proofs.Acts.Referring.{base_of, sound_after}
+use Rattle.law_evaluation.specs.Acts.Kinds.{InsideOf}
 
 -- ---- it is sound
 

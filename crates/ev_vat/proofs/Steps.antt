@@ -9,9 +9,9 @@ use Rattle.def_machine.specs.Eval.{closes, evaluator, opening, taking}
 use Rattle.def_machine.specs.State as machine
 use Rattle.def_machine.specs.State.{Done, Gives, Throws, Ejects, Stops, Took, opened_state}
 use Rattle.def_machine.specs.Values.{Words, Value, Local, Prom}
-use Rattle.ev_eval.specs.Turn.{Ends, GivesThere, LeftBy, evaluated, turn_of}
-use Rattle.ev_eval.specs.declared.turn.Ended.{Ended}
-use Rattle.ev_eval.specs.declared.turn.Ended.TheVariants as ended
+use Rattle.ev_vat.specs.Turn.{Ends, GivesThere, LeftBy, evaluated, turn_of}
+use Rattle.ev_vat.specs.declared.turn.Ended.{Ended}
+use Rattle.ev_vat.specs.declared.turn.Ended.TheVariants as ended
 use Rattle.ev_heap.specs.Contents.{Contents}
 use Rattle.ev_pass.specs.Acts as inside
 use Rattle.ev_pass.specs.Reading.{StandsFor}
@@ -29,15 +29,15 @@ use Rattle.ev_settle.proofs.Closes.{finishes_is, throws_is}
 use Rattle.ev_vat.specs.Vat.{Closed, ClosesSo, MessageThere, StepIs, StopsWith, TurnIs, TurnOf, UnlessMemory, closed_by, stop_of, taken, with_queue}
 use Rattle.ev_vat.specs.declared.vat.VatStop.{VatStop}
 use Rattle.ev_vat.specs.declared.vat.VatStop.TheVariants.{Fuel, Deep, WordRepeated, Astray, Memory}
-use Rattle.law_acts.proofs.Inside.{stands}
-use Rattle.law_renaming.specs.Alone.{start}
-use Rattle.law_acts.proofs.Sounds.{all_and, all_on, grown_by, grown_on, there_on}
-use Rattle.law_acts.proofs.Stands.{Met, itself, activation_met, before_back, tell_met, vat}
-use Rattle.law_acts.proofs.Weights.{IsBefore}
-use Rattle.law_acts.proofs.Referring.{base_of, ground_of, inside_of, reads_before, sound_after}
-use Rattle.law_acts.proofs.Lines.{line_tells}
-use Rattle.law_acts.proofs.Sends as holds
-use Rattle.law_acts.specs.Kinds.{Anything, EndsOf, InsideOf}
+use Rattle.law_evaluation.proofs.Acts.Inside.{stands}
+use Rattle.law_machine.specs.Renamed.Alone.{start}
+use Rattle.law_evaluation.proofs.Acts.Sounds.{all_and, all_on, grown_by, grown_on, there_on}
+use Rattle.law_evaluation.proofs.Acts.Stands.{Met, itself, activation_met, before_back, tell_met, vat}
+use Rattle.law_evaluation.proofs.Acts.Weights.{IsBefore}
+use Rattle.law_evaluation.proofs.Acts.Referring.{base_of, ground_of, inside_of, reads_before, sound_after}
+use Rattle.law_evaluation.proofs.Acts.Lines.{line_tells}
+use Rattle.law_evaluation.proofs.Acts.Sends as holds
+use Rattle.law_evaluation.specs.Acts.Kinds.{Anything, EndsOf, InsideOf}
 
 pub closes_by : (q : Result (Unit {0}) Stop) (t : Interior) (out : inside.Out (Unit {0})) → inside.Gives q t out → Closed (closed_by q) t out
 unfolding closed_by stop_of

@@ -1,3 +1,13 @@
+pub mod Turn
 pub mod Closing
 pub mod Rooted
 pub mod Vat
+pub mod Sending
+pub mod Fitting
+pub mod Standing
+pub mod Starting
+pub mod MemberSteps
+pub mod Hearing
+pub use Rattle.ev_vat.specs.Vat
+pub use Rattle.ev_vat.specs.Rooted
+pub use Rattle.ev_vat.specs.Closing

@@ -6,8 +6,8 @@ use Rattle.def_machine.specs.State as machine
 use Rattle.def_machine.specs.State.{Done, Gives, Stops}
 use Rattle.def_machine.specs.Values.{Local}
 use Rattle.ev_arrive.specs.declared.host.Host.{Host}
-use Rattle.ev_eval.specs.declared.turn.Ended.{Ended}
-use Rattle.ev_eval.specs.declared.turn.Ended.TheVariants as ended
+use Rattle.ev_vat.specs.declared.turn.Ended.{Ended}
+use Rattle.ev_vat.specs.declared.turn.Ended.TheVariants as ended
 use Rattle.ev_heap.specs.Contents.{Contents}
 use Rattle.ev_heap.specs.declared.happened.Happened.{Happened}
 use Rattle.ev_heap.specs.declared.happened.Happened.TheVariants.{Take}
@@ -23,7 +23,7 @@ use Rattle.ev_settle.specs.Closing.{finish, throw}
 use Rattle.ev_vat.specs.declared.vat.Vat.{Vat}
 use Rattle.ev_vat.specs.declared.vat.VatStop.{VatStop}
 use Rattle.ev_vat.specs.declared.vat.VatStop.TheVariants.{Fuel, Deep, WordRepeated, Astray, Memory}
-use Rattle.law_arrivals.specs.Arrivals.{vat_in}
+use Rattle.law_evaluation.specs.Arrivals.Arrivals.{vat_in}
 
 -- ---- how steps end
 

@@ -6,9 +6,9 @@ ghost use Rattle.ev_vat.specs.Rooted.{readied};
 use crate::vat::Vat;
 use ev_arrive::host::Host;
 use ev_base::Memory;
+use ev_heap::Micro;
 use ev_intro::Words;
 use ev_pass::Post;
-use ev_told::Micro;
 use std::mem;
 
 impl Vat {

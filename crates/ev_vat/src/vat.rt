@@ -11,33 +11,32 @@ ghost use Rattle.ev_room.specs.Sound.{Grown, IsSound, Stays, are_there, is_there
 ghost use Rattle.ev_refs.specs.References.{unsettled_of};
 ghost use Rattle.ev_vat.specs.Rooted.{IsRooted, each_once, fresh, root_of};
 ghost use Rattle.ev_room.specs.Acts as acts;
-ghost use Rattle.ev_receive.specs.Hearing.{Name, Sees, heard_by};
+ghost use Rattle.ev_arrive.specs.Hearing.{Name, Sees, heard_by};
 ghost use Rattle.ev_refs.specs.Reading.{message_by};
 ghost use Rattle.ev_vat.specs.Vat.{ArrivalIs, ClosesSo, IsReady, MessageThere, StaysStopped, StepIs, TurnIs, UnlessMemory, closed_by, stop_in, stop_of, taken};
-ghost use Rattle.law_arrivals.specs.Arrivals.{NoteFits, vat_in};
+ghost use Rattle.law_evaluation.specs.Arrivals.Arrivals.{NoteFits, vat_in};
 
+use crate::{Ended, new_interior, run_message, run_program};
+use ev_arrive::arriving::arrive;
+use ev_arrive::brought::Heard;
 use ev_arrive::host::Host;
 use ev_arrive::notice::notice;
-use ev_base::{ActId, Limits, Memory, PromId, Seq, Value, VatId};
-use ev_eval::{Ended, new_interior, run_message, run_program};
+use ev_arrive::receiving::{Sight, receive};
+use ev_base::{ActId, Limits, Memory, PromId, Seq, Value, VatId, Word};
 use ev_heap::Happened;
 use ev_intro::GiftTable;
 use ev_pass::{Interior, Stop};
-use ev_receive::arriving::arrive;
-use ev_receive::brought::Heard;
-use ev_receive::receiving::{Sight, receive};
 use ev_refs::{Message, Refs};
 use ev_room::Program;
 use ev_room::room::{new_activation, tell};
 use ev_settle::{finish, throw};
-use ev_word::Word;
 use std::alloc::Global;
 
 /// The name of the vat's root, the first that it knows.
 const ROOT: PromId = PromId(0);
 
 /// Why a step of a vat came to no end. What the step did up to there stands, and is of no use any more.
-#[derive(Clone, Copy, PartialEq, Eq)]
+#[derive(Clone, Copy)]
 pub enum VatStop {
     /// The fuel did not suffice.
     Fuel,

@@ -1,8 +1,8 @@
 -- The ways stay standing where a frame is pushed or taken.
 use Rattle.std.proofs.Common.{◌≡◌, ◌⊎◌, inl, inr, ℕ, zero, Bool, true, false, List, [], ◌∷◌, ◌++◌, Option, Some, None, refl, sym, ap, ◌∙◌, subst}
 use Rattle.std.specs.Prelude.{drop, slice_get, if◌then◌else◌}
-use Rattle.def_local.specs.Numbers.{Way, is_way, way_at, with_way, pushed}
-use Rattle.def_local.specs.Numbers.{Frame as Carrying}
+use Rattle.def_run.specs.Numbers.{Way, is_way, way_at, with_way, pushed}
+use Rattle.def_run.specs.Numbers.{Frame as Carrying}
 use Rattle.ev_ways.specs.declared.frame.Frame.{Frame}
 use Rattle.ev_ways.specs.Rows.{Lane, put, next, behind, first, rest, changed}
 use Rattle.ev_ways.specs.Standing.{Placed, IsFrame, AreFrames, IsWay, WaysStand, placed_from}

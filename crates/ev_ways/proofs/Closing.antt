@@ -9,8 +9,8 @@ use Rattle.def_event.specs.declared.note.ShownNote.{ShownNote}
 use Rattle.def_run.specs.Shown.{shown_event}
 use Rattle.def_run.specs.Text.{shown_events}
 use Rattle.def_run.specs.World.{LeftLink, Script}
-use Rattle.def_local.specs.Numbers.{Way, left_ways}
-use Rattle.def_local.specs.Numbers.{Frame as Carrying}
+use Rattle.def_run.specs.Numbers.{Way, left_ways}
+use Rattle.def_run.specs.Numbers.{Frame as Carrying}
 use Rattle.ev_ways.specs.declared.frame.Frame.{Frame}
 use Rattle.ev_ways.specs.Rows.{Lane, fresh}
 use Rattle.ev_ways.specs.Standing.{AreFrames, AreWays, IsWay, Placed, placed_from, placed_to}

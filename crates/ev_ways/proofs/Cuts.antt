@@ -9,9 +9,9 @@ use Rattle.def_machine.specs.State.{Note, Deliver, Open, Ask, SettledTo, Elsewhe
 use Rattle.def_run.specs.Shown.{shown_event}
 use Rattle.def_run.specs.Text.{shown_events}
 use Rattle.def_run.specs.World.{Event, LostCut}
-use Rattle.def_local.specs.Numbers as numbers
-use Rattle.def_local.specs.Numbers.{Way, way_at, with_way, carried_in, lost_frames, lost_on}
-use Rattle.def_local.specs.Numbers.{Frame as Carrying}
+use Rattle.def_run.specs.Numbers as numbers
+use Rattle.def_run.specs.Numbers.{Way, way_at, with_way, carried_in, lost_frames, lost_on}
+use Rattle.def_run.specs.Numbers.{Frame as Carrying}
 use Rattle.ev_ways.specs.declared.frame.Frame.{Frame}
 use Rattle.ev_ways.specs.Rows.{Lane, changed, changed_from, frames_at, frames_to, row_at, row_of, set_found, severed, with_at}
 use Rattle.ev_ways.specs.Standing.{Placed, AreFrames, IsWay, WaysStand, placed_from, told_message}

@@ -6,8 +6,8 @@ use Rattle.ev_base.specs.declared.names.Msg.{Msg as ShownMsg}
 use Rattle.def_event.specs.declared.note.ShownNote.{ShownNote}
 use Rattle.def_machine.specs.Values.{Name, Root, Object, Promise, Answer, Gift, Sent}
 use Rattle.def_run.specs.Shown.{shown_msg, shown_note}
-use Rattle.def_local.specs.Numbers.{Way, carried_in, is_way, way_at}
-use Rattle.def_local.specs.Numbers.{Frame as Carrying}
+use Rattle.def_run.specs.Numbers.{Way, carried_in, is_way, way_at}
+use Rattle.def_run.specs.Numbers.{Frame as Carrying}
 use Rattle.ev_ways.specs.declared.frame.Frame.{Frame}
 use Rattle.ev_ways.specs.Rows.{Lane}
 use Rattle.ev_ways.specs.Standing.{AreFrames, AreWays, IsWay, Placed, placed_from, placed_to, told_message}

@@ -2,8 +2,8 @@
 use Rattle.std.proofs.Common.{◌≡◌, ℕ, ◌+◌, suc, Bool, true, false, List, [], ◌∷◌, ◌++◌, Option, None, Some, drop, length, map, refl, sym, ap, subst, ◌∙◌, arith}
 use Rattle.std.specs.Prelude.{if◌then◌else◌, slice_get}
 use Rattle.std.proofs.lemmas.List.{length_push}
-use Rattle.ev_link.specs.Way.{Way}
-use Rattle.ev_link.specs.Way as link
+use Rattle.ev_ways.specs.Way.{Way}
+use Rattle.ev_ways.specs.Way as link
 use Rattle.ev_ways.specs.declared.frame.Frame.{Frame}
 use Rattle.ev_ways.specs.declared.frame.Label.{Label}
 use Rattle.ev_ways.specs.Labels.{ArePaired, all_labelled, label_of, labelled}

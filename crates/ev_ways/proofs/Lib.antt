@@ -1,3 +1,4 @@
+pub mod Streams
 pub mod Labels
 pub mod Places
 pub mod Stands

@@ -3,7 +3,7 @@ use Rattle.std.proofs.Common.{◌≡◌, ℕ, zero, suc, Bool, true, false, List
 use Rattle.std.specs.Prelude.{◌==◌, if◌then◌else◌, option_map, slice_get}
 use Rattle.std.proofs.lemmas.Bool.{eqb-true}
 use Rattle.def_run.specs.World.{Link, cut_in, is_cut, is_link, link_at}
-use Rattle.def_local.specs.Numbers.{Way, is_way, link_of, way_at}
+use Rattle.def_run.specs.Numbers.{Way, is_way, link_of, way_at}
 use Rattle.ev_ways.specs.Rows.{Lane, cut_to, cuts, fresh, is_cut_at, is_cut_in, row_at, row_of}
 use Rattle.ev_ways.specs.Standing.{Placed, WaysStand, placed_from}
 use Rattle.ev_ways.specs.Statements.{CutsStand}

@@ -3,7 +3,7 @@ use Rattle.std.proofs.Common.{◌≡◌, ◌⊎◌, inl, inr, ℕ, zero, suc, Bo
 use Rattle.std.specs.Prelude.{◌==◌, slice_get, if◌then◌else◌}
 use Rattle.std.proofs.lemmas.Bool.{eqb-true, eq-eqb}
 use Rattle.std.proofs.lemmas.List.{length-set}
-use Rattle.def_local.specs.Numbers.{Way, is_way, way_at, with_way}
+use Rattle.def_run.specs.Numbers.{Way, is_way, way_at, with_way}
 use Rattle.ev_ways.specs.Rows.{Lane, fresh, set_found, with_at, changed_from, changed}
 use Rattle.ev_ways.specs.Standing.{Placed, IsWay, AreWays, WaysStand, placed_from}
 use Rattle.ev_ways.proofs.Places.{on, is_placed, placed_at, with_placed, changes_placed}

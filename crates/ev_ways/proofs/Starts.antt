@@ -3,7 +3,7 @@ use Rattle.std.proofs.Common.{◌≡◌, ℕ, zero, suc, Bool, true, false, List
 use Rattle.std.specs.Prelude.{◌==◌, replicate, slice_get}
 use Rattle.std.proofs.lemmas.List.{length-replicate}
 use Rattle.def_run.specs.World.{Program}
-use Rattle.def_local.specs.Numbers.{Way, ways_from, ways_to}
+use Rattle.def_run.specs.Numbers.{Way, ways_from, ways_to}
 use Rattle.ev_ways.specs.Rows.{Lane, fresh, fresh_row, fresh_rows}
 use Rattle.ev_ways.specs.Standing.{Placed, AreWays, IsWay, placed_from, placed_to}
 use Rattle.ev_ways.specs.Statements.{StartStands}

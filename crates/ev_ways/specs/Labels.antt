@@ -1,6 +1,6 @@
 -- Frames, of which the bytes stand on a link and the labels beside it.
 use Rattle.std.specs.Prelude.{◌≡◌, ℕ, true, List, [], ◌∷◌, length}
-use Rattle.ev_link.specs.Way.{Way}
+use Rattle.ev_ways.specs.Way.{Way}
 use Rattle.ev_ways.specs.declared.frame.Frame.{Frame}
 use Rattle.ev_ways.specs.declared.frame.Label.{Label}
 

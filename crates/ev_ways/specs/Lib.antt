@@ -1,3 +1,6 @@
+pub mod Way
+pub mod Streams
+pub mod LinkStatements
 pub mod Labels
 pub mod Rows
 pub mod Standing

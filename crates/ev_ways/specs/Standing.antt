@@ -5,8 +5,8 @@ use Rattle.def_op.specs.Frames.{IsOp, spelling}
 use Rattle.def_machine.specs.Values.{Name, Sent}
 use Rattle.def_machine.specs.State.{Note, Deliver, Open, Ask, SettledTo, Elsewhere, Shorten}
 use Rattle.def_run.specs.Shown.{shown_msg, shown_note}
-use Rattle.def_local.specs.Numbers.{Way, carried_in}
-use Rattle.def_local.specs.Numbers.{Frame as Carrying}
+use Rattle.def_run.specs.Numbers.{Way, carried_in}
+use Rattle.def_run.specs.Numbers.{Frame as Carrying}
 use Rattle.ev_ways.specs.declared.frame.Frame.{Frame}
 use Rattle.ev_ways.specs.Rows.{Lane, fresh}
 

@@ -4,8 +4,8 @@ use Rattle.def_run.specs.Shown.{shown_note}
 use Rattle.def_run.specs.Text.{shown_events}
 use Rattle.def_run.specs.World.{Program, Script}
 use Rattle.def_run.specs.World as world
-use Rattle.def_local.specs.Numbers.{Way, way_at, ways_from, with_way, pushed, severed, link_of, lost_on, left_ways}
-use Rattle.def_local.specs.Numbers.{Frame as Carrying}
+use Rattle.def_run.specs.Numbers.{Way, way_at, ways_from, with_way, pushed, severed, link_of, lost_on, left_ways}
+use Rattle.def_run.specs.Numbers.{Frame as Carrying}
 use Rattle.ev_ways.specs.declared.frame.Frame.{Frame}
 use Rattle.ev_ways.specs.Rows.{Lane, behind, changed, cuts, first_at, frames_at, fresh_rows, is_cut_at, next_at, put, rest, row_at}
 use Rattle.ev_ways.specs.Rows as rows

@@ -4,9 +4,9 @@ ghost use Rattle.std.specs.Prelude.{◌≡◌, IfOk, OnErr, OnOk, map};
 ghost use Rattle.ev_ways.specs.Labels.{label_of};
 ghost use Rattle.ev_ways.specs.Rows.{behind, first, fresh, next, put, rest, severed};
 
+use crate::Link;
 use crate::frame::{Frame, Label};
 use ev_base::Memory;
-use ev_link::Link;
 use std::alloc::Global;
 use std::collections::VecDeque;
 use std::marker::Model;

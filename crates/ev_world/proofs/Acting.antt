@@ -4,8 +4,8 @@ use Rattle.std.specs.Prelude.{IsErr, IsErrAnd, filter, slice_get, slice_set}
 use Rattle.std.proofs.lemmas.List.{length-set}
 use Rattle.def_event.specs.Lines.{is_no_frame}
 use Rattle.def_event.specs.declared.event.Event.{Event as ShownEvent}
-use Rattle.def_local.specs.Numbers.{Brought, Course, Runs, Vats, Way, after_step, left_by, nothing_brought, numbers, ready}
-use Rattle.def_local.specs.Vats.{Member, connection_for, unconnected}
+use Rattle.def_run.specs.Numbers.{Brought, Course, Runs, Vats, Way, after_step, left_by, nothing_brought, numbers, ready}
+use Rattle.def_run.specs.Vats.{Member, connection_for, unconnected}
 use Rattle.def_machine.specs.State as machine
 use Rattle.def_machine.specs.State.{Done, Gives}
 use Rattle.def_machine.specs.Values.{Local, numbering}
@@ -18,10 +18,10 @@ use Rattle.ev_resident.specs.MemberStanding.{with_draws}
 use Rattle.ev_resident.specs.MemberSteps.{EndsSo, Having, IsDone, IsSteady, Leaves, own}
 use Rattle.ev_resident.specs.declared.Member.{Member as Ours}
 use Rattle.ev_resident.specs.declared.Sending.{Sending}
-use Rattle.ev_naming.specs.Names.{Entry, Named, carried_mails, told_at}
-use Rattle.ev_naming.specs.Standing.{Says, mails_of}
-use Rattle.def_local.specs.Names as local
-use Rattle.ev_outcome.specs.Standing.{NamesStand, ObjectsStand}
+use Rattle.ev_resident.specs.Names.{Entry, Named, carried_mails, told_at}
+use Rattle.ev_resident.specs.NamesStanding.{Says, mails_of}
+use Rattle.def_run.specs.Names as local
+use Rattle.ev_resident.specs.OutcomeStanding.{NamesStand, ObjectsStand}
 use Rattle.ev_pass.specs.Reading.{names_under}
 use Rattle.ev_resident.specs.Standing.{IsResident, IsStepped}
 use Rattle.ev_resident.specs.declared.resident.Resident.{Resident}
@@ -39,7 +39,7 @@ use Rattle.ev_world.proofs.Cuts.{told_behind}
 use Rattle.ev_world.proofs.Objects.{exports_are, is_within, same_or_not, set_other, set_there}
 use Rattle.ev_world.proofs.Pushes.{history_alike, ways_alike}
 use Rattle.ev_world.proofs.Telling.{only, stands}
-use Rattle.law_peers.specs.Steady.{ShownAlike, StepIsSteady}
+use Rattle.ev_wire.specs.Steady.{ShownAlike, StepIsSteady}
 
 -- ---- stops
 

@@ -7,8 +7,8 @@ use Rattle.def_event.specs.Lines.{is_no_frame}
 use Rattle.def_event.specs.declared.event.Event.{Event as ShownEvent}
 use Rattle.def_event.specs.declared.event.Event.TheVariants as line
 use Rattle.def_event.specs.declared.note.ShownNote.{ShownNote}
-use Rattle.def_local.specs.Numbers.{Frame, Way, brought, carried_in, with_way}
-use Rattle.def_local.specs.Vats.{Member, asked_by, connection_for, heard_in, heard_on, unconnected}
+use Rattle.def_run.specs.Numbers.{Frame, Way, brought, carried_in, with_way}
+use Rattle.def_run.specs.Vats.{Member, asked_by, connection_for, heard_in, heard_on, unconnected}
 use Rattle.def_machine.specs.State as machine
 use Rattle.def_machine.specs.Values.{Local, Name}
 use Rattle.def_op.specs.Frames.{IsOp, Operation, spelling}
@@ -21,12 +21,12 @@ use Rattle.ev_base.specs.declared.names.Msg.{Msg}
 use Rattle.ev_intro.specs.Word.{Drawn}
 use Rattle.ev_resident.specs.MemberHearing.{AllOwn, Brings, HeardNote, IsSteadyHearing, frame_heard, heard_of, op_found}
 use Rattle.ev_resident.specs.MemberStanding.{IsMember}
-use Rattle.ev_naming.specs.Names.{Entry, carried_mails}
-use Rattle.ev_naming.specs.Standing.{Says, mails_of, words_of}
-use Rattle.ev_outcome.specs.Standing.{NamesStand, ObjectsStand}
+use Rattle.ev_resident.specs.Names.{Entry, carried_mails}
+use Rattle.ev_resident.specs.NamesStanding.{Says, mails_of, words_of}
+use Rattle.ev_resident.specs.OutcomeStanding.{NamesStand, ObjectsStand}
 use Rattle.ev_op.proofs.DecodeLemmas.{decoded_again}
 use Rattle.ev_op.specs.Decoded.{decoded}
-use Rattle.ev_read.specs.declared.news.News.{News}
+use Rattle.ev_wire.specs.declared.news.News.{News}
 use Rattle.ev_resident.specs.declared.resident.Resident.{Resident}
 use Rattle.ev_ways.proofs.Changes.{carry_stands}
 use Rattle.ev_ways.proofs.Cuts.{shown_join}
@@ -38,8 +38,8 @@ use Rattle.ev_world.specs.Carrying.{TellsFrame, note_lines}
 use Rattle.ev_world.specs.Standing.{told_so}
 use Rattle.ev_world.proofs.Objects.{is_within}
 use Rattle.ev_world.proofs.Telling.{only}
-use Rattle.law_peers.specs.Steady.{HearingIsSteady}
-use Rattle.law_peers.specs.Steady as steady
+use Rattle.ev_wire.specs.Steady.{HearingIsSteady}
+use Rattle.ev_wire.specs.Steady as steady
 
 -- ---- what is heard of it
 

@@ -4,8 +4,8 @@ use Rattle.std.specs.Prelude.{IsErr, IsErrAnd, slice_get}
 use Rattle.std.proofs.lemmas.List.{length-map}
 use Rattle.def_event.specs.declared.event.Event.{Event as ShownEvent}
 use Rattle.def_event.specs.declared.event.Event.TheVariants as line
-use Rattle.def_local.specs.Numbers.{Brought, Course, Frame, Runs, Vats, Way, after_step, arrives, brings, carry_frames, carry_way, hears, idle, left_by, numbers, ready, step, step_number, way_at, with_way}
-use Rattle.def_local.specs.Vats.{Member, connection_for, heard_in}
+use Rattle.def_run.specs.Numbers.{Brought, Course, Frame, Runs, Vats, Way, after_step, arrives, brings, carry_frames, carry_way, hears, idle, left_by, numbers, ready, step, step_number, way_at, with_way}
+use Rattle.def_run.specs.Vats.{Member, connection_for, heard_in}
 use Rattle.def_machine.specs.Arrive.{arrive}
 use Rattle.def_machine.specs.State as machine
 use Rattle.def_machine.specs.State.{Done, Gives}
@@ -20,13 +20,13 @@ use Rattle.ev_resident.specs.MemberStanding.{IsFound, IsMember, with_draws}
 use Rattle.ev_resident.specs.MemberSteps.{Having, IsDone, Leaves}
 use Rattle.ev_resident.specs.declared.Member.{Member as Ours}
 use Rattle.ev_resident.specs.declared.Sending.{Sending}
-use Rattle.ev_naming.specs.Names.{Entry}
-use Rattle.ev_naming.specs.Standing.{Says, words_of}
-use Rattle.ev_outcome.specs.Standing.{NamesStand}
+use Rattle.ev_resident.specs.Names.{Entry}
+use Rattle.ev_resident.specs.NamesStanding.{Says, words_of}
+use Rattle.ev_resident.specs.OutcomeStanding.{NamesStand}
 use Rattle.ev_pass.specs.Acts.{words_by}
 use Rattle.ev_pass.specs.Reading.{names_under}
-use Rattle.ev_peer.specs.Standing.{local_of}
-use Rattle.ev_read.specs.declared.news.News.{News}
+use Rattle.ev_tables.specs.Standing.{local_of}
+use Rattle.ev_wire.specs.declared.news.News.{News}
 use Rattle.ev_resident.proofs.Worlds.{is_after}
 use Rattle.ev_resident.specs.Standing.{IsResident, IsStepped}
 use Rattle.ev_resident.specs.declared.resident.Resident.{Resident}
@@ -39,7 +39,7 @@ use Rattle.ev_ways.specs.Rows.{Lane, behind, changed, next_at}
 use Rattle.ev_ways.specs.Standing.{WaysStand}
 use Rattle.ev_ways.specs.Statements.{Carries, IsCarried, IsIdle}
 use Rattle.ev_ways.specs.declared.frame.Frame.{Frame as Sent}
-use Rattle.ev_write.specs.Putting.{table_for}
+use Rattle.ev_wire.specs.Putting.{table_for}
 use Rattle.ev_world.specs.Carrying.{HeardFrom, HearsFrame, TellsFrame, note_lines}
 use Rattle.ev_world.specs.Midway.{IsMidway, having_of}
 use Rattle.ev_world.specs.Standing.{Comes, HaltsAs, IsWorld, told_so}
@@ -52,8 +52,8 @@ use Rattle.ev_world.proofs.Cuts.{moved}
 use Rattle.ev_world.proofs.Objects.{is_within, set_other, set_there, table_is}
 use Rattle.ev_world.proofs.Pushes.{history_alike, ways_alike}
 use Rattle.ev_world.proofs.Telling.{stands}
-use Rattle.law_peers.specs.Standing.{connections_of}
-use Rattle.law_peers.specs.Steady.{ShownAlike}
+use Rattle.ev_wire.specs.Standing.{connections_of}
+use Rattle.ev_wire.specs.Steady.{ShownAlike}
 
 -- ---- an entry that finds no frame
 

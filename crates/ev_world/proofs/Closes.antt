@@ -3,8 +3,8 @@ use Rattle.std.proofs.Common.{◌≡◌, ℕ, zero, suc, ◌+◌, List, [], ◌�
 use Rattle.std.specs.Prelude.{slice_get}
 use Rattle.def_event.specs.declared.event.Event.{Event as ShownEvent}
 use Rattle.def_event.specs.declared.event.Event.TheVariants as line
-use Rattle.def_local.specs.Numbers.{Vats, close, left_members, left_ways}
-use Rattle.def_local.specs.Vats.{Member}
+use Rattle.def_run.specs.Numbers.{Vats, close, left_members, left_ways}
+use Rattle.def_run.specs.Vats.{Member}
 use Rattle.def_run.specs.Shown.{shown_event}
 use Rattle.def_run.specs.Text.{shown_events}
 use Rattle.def_run.specs.World.{Ends, Event, Script}

@@ -5,7 +5,7 @@ use Rattle.std.proofs.lemmas.List.Elements.{filter-append}
 use Rattle.def_event.specs.Lines.{is_no_frame}
 use Rattle.def_event.specs.declared.event.Event.{Event as ShownEvent}
 use Rattle.def_event.specs.declared.event.Event.TheVariants as line
-use Rattle.def_local.specs.Numbers.{Vats, Way, cut, idle, lost_on, severed, step, way_at, with_way}
+use Rattle.def_run.specs.Numbers.{Vats, Way, cut, idle, lost_on, severed, step, way_at, with_way}
 use Rattle.def_run.specs.Shown.{shown_event}
 use Rattle.def_run.specs.Text.{shown_events}
 use Rattle.def_run.specs.World.{CutAt, CutLink, Event, Idle, Script}

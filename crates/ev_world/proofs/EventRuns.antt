@@ -1,7 +1,7 @@
 -- The end of a run in the code that gives its events is that of the run in numbers, and so are the events.
 use Rattle.std.proofs.Common.{◌≡◌, ℕ, Bool, false, List, Ok, sym, ap, ◌∙◌}
 use Rattle.def_event.specs.declared.event.Event.{Event as ShownEvent}
-use Rattle.def_local.specs.Numbers.{Vats, Runs, Halts, close, run}
+use Rattle.def_run.specs.Numbers.{Vats, Runs, Halts, close, run}
 use Rattle.def_machine.specs.State as machine
 use Rattle.def_run.specs.Text.{shown_events}
 use Rattle.def_run.specs.World.{Script}

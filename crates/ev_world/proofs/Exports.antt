@@ -1,8 +1,8 @@
 -- What a vat exported keeps its position: the lists grow at their ends.
 use Rattle.std.proofs.Common.{◌≡◌, ℕ, zero, suc, Bool, true, false, List, [], ◌∷◌, ◌++◌, get_or, length, refl, sym, ap, ◌∙◌, append_assoc, append-nil}
 use Rattle.std.specs.Prelude.{drop, slice_set}
-use Rattle.def_local.specs.Numbers.{all_written, written_on}
-use Rattle.def_local.specs.Vats.{sight_for, unconnected}
+use Rattle.def_run.specs.Numbers.{all_written, written_on}
+use Rattle.def_run.specs.Vats.{sight_for, unconnected}
 use Rattle.def_machine.specs.State.{Passed, Passeds, Plain, AGift, Many, NoMore, More, Note, Deliver, Open, Ask, SettledTo, Elsewhere, Shorten, Put, Vat}
 use Rattle.def_machine.specs.Values.{Value, Null, Flag, Number, Letter, Text, Prim, Broken, Items, Ref, Local}
 use Rattle.def_run.specs.Connections.{Connection, Sight, exported_all, exported_as, exported_note, exported_passed, exported_value, put_on, stands_in}

@@ -5,7 +5,7 @@ use Rattle.std.proofs.lemmas.List.Concat.{flat_map-append}
 use Rattle.std.proofs.lemmas.List.Elements.{filter-append}
 use Rattle.def_event.specs.Lines.{is_no_frame, render}
 use Rattle.def_event.specs.declared.event.Event.{Event as ShownEvent}
-use Rattle.def_local.specs.Numbers.{Course, Runs, Halts, Vats, begins, close, open_from, open_member, run, step, steps_from, then_runs}
+use Rattle.def_run.specs.Numbers.{Course, Runs, Halts, Vats, begins, close, open_from, open_member, run, step, steps_from, then_runs}
 use Rattle.def_machine.specs.Values.{Words}
 use Rattle.def_run.specs.Text.{shown_events}
 use Rattle.def_run.specs.World.{Entry, Program, Script}
@@ -14,7 +14,7 @@ use Rattle.ev_world.specs.Standing.{told_so}
 use Rattle.ev_world.specs.Writing.{IsFront, IsStep, text_to, untold}
 use Rattle.ev_world.proofs.Loops.{opened_last, openings_joined, stepped_last, steps_joined}
 use Rattle.ev_world.proofs.Untold.{close_behind, open_behind, step_behind}
-use Rattle.law_peers.specs.Steady.{RunsSteadily}
+use Rattle.ev_wire.specs.Steady.{RunsSteadily}
 
 -- ---- fronts of histories
 

@@ -3,9 +3,9 @@ use Rattle.std.proofs.Common.{◌≡◌, ◌⊎◌, inl, inr, ℕ, Bool, zero, �
 use Rattle.std.specs.Prelude.{drop, slice_get, slice_set}
 use Rattle.std.proofs.lemmas.List.{length-set}
 use Rattle.def_event.specs.declared.event.Event.{Event as ShownEvent}
-use Rattle.def_local.specs.Names.{Names, names_after}
-use Rattle.def_local.specs.Numbers.{Brought, Vats, all_written, frames_of, left_by, lines_of, name_at_vat}
-use Rattle.def_local.specs.Vats.{Member, connection_for, unconnected}
+use Rattle.def_run.specs.Names.{Names, names_after}
+use Rattle.def_run.specs.Numbers.{Brought, Vats, all_written, frames_of, left_by, lines_of, name_at_vat}
+use Rattle.def_run.specs.Vats.{Member, connection_for, unconnected}
 use Rattle.def_machine.specs.State as machine
 use Rattle.def_machine.specs.Values.{Local, Name}
 use Rattle.def_run.specs.Text.{shown_events}
@@ -15,9 +15,9 @@ use Rattle.ev_intro.specs.Word.{Drawn}
 use Rattle.ev_resident.specs.MemberStanding.{IsMember}
 use Rattle.ev_resident.specs.declared.Member.{Member as Ours}
 use Rattle.ev_resident.specs.declared.Sending.{Sending}
-use Rattle.ev_naming.specs.Names.{Entry, Named}
-use Rattle.ev_naming.specs.Standing.{mails_of}
-use Rattle.ev_outcome.specs.Standing.{IsAfter, NamesStand, ObjectsStand}
+use Rattle.ev_resident.specs.Names.{Entry, Named}
+use Rattle.ev_resident.specs.NamesStanding.{mails_of}
+use Rattle.ev_resident.specs.OutcomeStanding.{IsAfter, NamesStand, ObjectsStand}
 use Rattle.ev_pass.specs.Acts.{words_by}
 use Rattle.ev_resident.proofs.Worlds.{is_after, world_then}
 use Rattle.ev_resident.specs.Standing.{IsResident, IsStepped}

@@ -4,14 +4,14 @@ use Rattle.std.specs.Prelude.{get_or, pred, slice_get}
 use Rattle.std.proofs.lemmas.List.{length-append, length-map}
 use Rattle.std.proofs.lemmas.Option.{slice_get_read}
 use Rattle.def_event.specs.declared.event.Event.{Event as ShownEvent}
-use Rattle.def_local.specs.Numbers.{Course, Runs, Halts, Vats, begins, open_from, open_member, step, step_number, steps_from, then_runs}
+use Rattle.def_run.specs.Numbers.{Course, Runs, Halts, Vats, begins, open_from, open_member, step, step_number, steps_from, then_runs}
 use Rattle.def_run.specs.World.{Entry, Program, Script}
 use Rattle.ev_script.specs.declared.script.Entry.{Entry as TheirEntry}
 use Rattle.ev_resident.specs.declared.VatStop.{VatStop}
 use Rattle.ev_resident.specs.declared.VatStop.TheVariants.{Fuel, Deep, WordRepeated, Astray, Memory}
 use Rattle.ev_world.specs.Standing.{Comes, HaltsAs}
 use Rattle.ev_world.specs.Steadily.{OpensSteadily, StepsSteadily}
-use Rattle.law_peers.specs.Steady.{RunsSteadily}
+use Rattle.ev_wire.specs.Steady.{RunsSteadily}
 use Rattle.law_schedule.specs.Scripts.{machine_entry}
 
 -- ---- courses

@@ -2,22 +2,22 @@
 use Rattle.std.proofs.Common.{◌≡◌, ◌⊎◌, inl, inr, ℕ, zero, suc, ◌<◌, List, [], ◌∷◌, ◌++◌, Option, Some, get_or, length, map, refl, sym, ap, subst, ◌∙◌, append_assoc, append-nil, arith}
 use Rattle.std.specs.Prelude.{drop, slice_get, slice_set}
 use Rattle.std.proofs.lemmas.List.{length-map, length-set, map-append}
-use Rattle.def_local.specs.Vats.{Member, connection_for, unconnected}
+use Rattle.def_run.specs.Vats.{Member, connection_for, unconnected}
 use Rattle.def_machine.specs.Values.{Local}
 use Rattle.def_run.specs.Connections.{Connection}
 use Rattle.ev_base.specs.declared.values.Value.{Value}
 use Rattle.ev_base.specs.declared.values.Value.TheVariants as held
 use Rattle.ev_resident.specs.declared.Member.{Member as Ours}
-use Rattle.ev_naming.specs.Names.{Named}
-use Rattle.ev_outcome.specs.Standing.{ObjectsStand, exported_to, object_number}
-use Rattle.ev_peer.specs.Standing.{connection_of, local_of}
+use Rattle.ev_resident.specs.Names.{Named}
+use Rattle.ev_resident.specs.OutcomeStanding.{ObjectsStand, exported_to, object_number}
+use Rattle.ev_tables.specs.Standing.{connection_of, local_of}
 use Rattle.ev_step_lines.specs.Lines.{with_import}
 use Rattle.ev_tables.specs.Table.{fresh}
-use Rattle.ev_write.specs.Putting.{table_for}
+use Rattle.ev_wire.specs.Putting.{table_for}
 use Rattle.ev_world.specs.Exporting.{object_of, objects_for, with_imports}
 use Rattle.ev_world.proofs.Exports.{Grows, drop_more}
-use Rattle.law_peers.proofs.Lists.{map_got}
-use Rattle.law_peers.specs.Standing.{connections_of}
+use Rattle.ev_wire.proofs.Lists.{map_got}
+use Rattle.ev_wire.specs.Standing.{connections_of}
 
 -- ---- places
 

@@ -3,8 +3,8 @@ use Rattle.std.proofs.Common.{◌≡◌, ℕ, zero, suc, List, [], ◌∷◌, So
 use Rattle.std.specs.Prelude.{option_map, slice_get}
 use Rattle.std.proofs.lemmas.Option.{slice_get-map}
 use Rattle.def_kernel.specs.declared.node.Node.{Node}
-use Rattle.def_local.specs.Numbers.{Vats, after_step, given, nothing_brought, notice_by, numbers, open_member, own_step, ready, step, step_number}
-use Rattle.def_local.specs.Vats.{Member}
+use Rattle.def_run.specs.Numbers.{Vats, after_step, given, nothing_brought, notice_by, numbers, open_member, own_step, ready, step, step_number}
+use Rattle.def_run.specs.Vats.{Member}
 use Rattle.def_machine.specs.Arrive as arriving
 use Rattle.def_machine.specs.Eval.{opening}
 use Rattle.def_machine.specs.Scopes.{any_guard}
@@ -21,7 +21,7 @@ use Rattle.ev_world.specs.Steadily.{OpensSteadily, StepsSteadily}
 use Rattle.ev_world.specs.declared.world.World.{World}
 use Rattle.ev_world.proofs.Acting.{numbers_are, ready_is}
 use Rattle.ev_world.proofs.Telling.{only}
-use Rattle.law_peers.specs.Steady.{StepIsSteady}
+use Rattle.ev_wire.specs.Steady.{StepIsSteady}
 
 -- ---- programs and nouns
 

@@ -4,7 +4,7 @@ use Rattle.std.specs.Prelude.{filter}
 use Rattle.std.proofs.lemmas.List.Elements.{filter-append}
 use Rattle.def_event.specs.Lines.{is_no_frame}
 use Rattle.def_event.specs.declared.event.Event.{Event as ShownEvent}
-use Rattle.def_local.specs.Numbers.{Way, link_of, lines_of}
+use Rattle.def_run.specs.Numbers.{Way, link_of, lines_of}
 use Rattle.def_machine.specs.Maps as maps
 use Rattle.def_machine.specs.State.{Happened, Message, Took, Called, Back, Thrown, Left, Got, SlotMade, SlotRead, SlotWrote, ListMade, ListCame, EjectorMade, AuditionMade, PromiseMade, ObjectMade, Sends, Reacts, Finished, Threw, Settles, Waits, Views, Lost, Posted}
 use Rattle.def_machine.specs.Values.{Local, Name, Value}

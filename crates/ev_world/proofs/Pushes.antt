@@ -1,6 +1,6 @@
 -- Frames that go out stand for those of the run in numbers, and what was told stays as it was told.
 use Rattle.std.proofs.Common.{◌≡◌, ℕ, List, [], ◌∷◌, ◌++◌, length, refl, sym, ap, subst, ◌∙◌}
-use Rattle.def_local.specs.Numbers.{Addressed, Vats, Way, pushed, push_all, with_way}
+use Rattle.def_run.specs.Numbers.{Addressed, Vats, Way, pushed, push_all, with_way}
 use Rattle.def_run.specs.Text.{shown_events}
 use Rattle.def_run.specs.World.{Script}
 use Rattle.ev_resident.specs.Framing.{AreOutgoing}
@@ -13,7 +13,7 @@ use Rattle.ev_ways.proofs.Draws.{draws_stand}
 use Rattle.ev_world.specs.Pushing.{all_pushed}
 use Rattle.ev_world.specs.Standing.{IsWorld, told_so}
 use Rattle.ev_world.specs.declared.world.World.{World}
-use Rattle.law_peers.specs.Steady.{ShownAlike}
+use Rattle.ev_wire.specs.Steady.{ShownAlike}
 
 -- ---- one frame after the other
 

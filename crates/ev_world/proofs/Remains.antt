@@ -4,8 +4,8 @@ use Rattle.std.specs.Prelude.{slice_get}
 use Rattle.def_event.specs.declared.event.Event.{Event as ShownEvent}
 use Rattle.def_event.specs.declared.event.Event.TheVariants as line
 use Rattle.def_event.specs.declared.shown.Shown as shown
-use Rattle.def_local.specs.Numbers.{Vats, left_held, left_member, left_members, left_wait, name_at_vat}
-use Rattle.def_local.specs.Vats.{Member}
+use Rattle.def_run.specs.Numbers.{Vats, left_held, left_member, left_members, left_wait, name_at_vat}
+use Rattle.def_run.specs.Vats.{Member}
 use Rattle.def_machine.specs.State as machine
 use Rattle.def_machine.specs.Values.{Words, Local, Name, Prom, Mess}
 use Rattle.def_run.specs.Shown.{shown_event, shown_msg, shown_name}
@@ -14,8 +14,8 @@ use Rattle.def_run.specs.World.{Event, LeftHeld, LeftQueue, LeftWait, Script}
 use Rattle.ev_base.specs.declared.names.Msg.{Msg as ShownMsg}
 use Rattle.ev_base.specs.declared.names.Name.{Name as ShownName}
 use Rattle.ev_resident.specs.MemberStanding.{Sees, with_draws}
-use Rattle.ev_naming.specs.Printing.{Agrees}
-use Rattle.ev_outcome.proofs.Naming.{agrees}
+use Rattle.ev_resident.specs.Printing.{Agrees}
+use Rattle.ev_resident.proofs.Naming.{agrees}
 use Rattle.ev_pass.specs.declared.interior.Interior.{Interior}
 use Rattle.ev_refs.specs.Reading.{knowns_by, message_by}
 use Rattle.ev_refs.specs.References.{References}

@@ -5,7 +5,7 @@ use Rattle.std.proofs.lemmas.Cmp.{nat_eq_equiv}
 use Rattle.std.proofs.lemmas.List.{length-replicate}
 use Rattle.std.proofs.lemmas.List.Elements.{All-head, All-tail}
 use Rattle.def_machine.specs.State.{is_in}
-use Rattle.ev_naming.specs.Names.{Named, names_first}
+use Rattle.ev_resident.specs.Names.{Named, names_first}
 use Rattle.ev_resident.specs.Starting.{with_root, with_roots}
 use Rattle.ev_world.specs.Exporting.{with_imports}
 use Rattle.ev_world.proofs.Objects.{Imported, imported, same_or_not}

@@ -1,15 +1,15 @@
 -- A vat of a run in numbers at the start.
 use Rattle.std.proofs.Common.{◌≡◌, ◌==◌, ◌+◌, ℕ, zero, suc, Bool, true, false, List, [], ◌∷◌, Option, Some, None, get_or, length, map, slice_get, refl, sym, ap, ◌∙◌, arith}
 use Rattle.std.proofs.lemmas.Bool.Decides.{Decides-eqb}
-use Rattle.def_local.specs.Numbers.{connections_from, first_connection, fresh_from, fresh_member, fresh_vat, root_number, roots_known}
-use Rattle.def_local.specs.Vats.{Member, connection_for, unconnected}
+use Rattle.def_run.specs.Numbers.{connections_from, first_connection, fresh_from, fresh_member, fresh_vat, root_number, roots_known}
+use Rattle.def_run.specs.Vats.{Member, connection_for, unconnected}
 use Rattle.def_machine.specs.State.{Known, Vat, begun, is_in}
 use Rattle.def_machine.specs.Values.{Local, Prom, Root}
 use Rattle.def_run.specs.Connections.{Connection}
 use Rattle.def_run.specs.World.{Program, Script, knowers}
 use Rattle.ev_resident.specs.MemberStarting as ours
 use Rattle.ev_resident.specs.MemberStarting.{first_connections, rooted_member}
-use Rattle.ev_outcome.specs.Standing.{exported_to, object_number}
+use Rattle.ev_resident.specs.OutcomeStanding.{exported_to, object_number}
 use Rattle.ev_resident.specs.Rooted as rooted
 use Rattle.ev_world.proofs.StartingKnowers.{each_knows_once, knows_so, some_is}
 use Rattle.ev_world.proofs.StartingRoots.{root_if}

@@ -7,9 +7,9 @@ use Rattle.std.proofs.lemmas.Map.Made.{IsDistinct-from_AllPairs}
 use Rattle.std.proofs.lemmas.Option.{slice_get_within}
 use Rattle.def_event.specs.declared.event.Event.{Event as ShownEvent}
 use Rattle.def_kernel.specs.declared.node.Node.{Node}
-use Rattle.def_local.specs.Names.{Names}
-use Rattle.def_local.specs.Numbers.{begins, fresh_from, fresh_member, fresh_vat, ways_from}
-use Rattle.def_local.specs.Vats.{Member}
+use Rattle.def_run.specs.Names.{Names}
+use Rattle.def_run.specs.Numbers.{begins, fresh_from, fresh_member, fresh_vat, ways_from}
+use Rattle.def_run.specs.Vats.{Member}
 use Rattle.def_machine.specs.State.{is_in}
 use Rattle.def_machine.specs.Values.{Root}
 use Rattle.def_run.specs.Text.{shown_events}
@@ -17,12 +17,12 @@ use Rattle.def_run.specs.World.{Program, Script, knowers, name_at}
 use Rattle.ev_intro.specs.Word.{Drawn}
 use Rattle.ev_resident.specs.MemberStanding.{IsMember}
 use Rattle.ev_resident.specs.MemberStarting.{rooted_member}
-use Rattle.ev_naming.specs.Names.{Named}
-use Rattle.ev_outcome.specs.Standing.{ObjectsStand}
+use Rattle.ev_resident.specs.Names.{Named}
+use Rattle.ev_resident.specs.OutcomeStanding.{ObjectsStand}
 use Rattle.ev_pass.specs.Acts.{words_by}
 use Rattle.ev_resident.specs.Standing.{IsResident}
 use Rattle.ev_resident.specs.declared.resident.Resident.{Resident}
-use Rattle.ev_scope.specs.declared.accepted.Scoped.{Scoped}
+use Rattle.ev_reader.specs.declared.accepted.Scoped.{Scoped}
 use Rattle.ev_script.specs.Rules.{IsAdmitted, KnowOthers, KnowsOthers}
 use Rattle.ev_script.specs.declared.script.Script.{Script as TheirScript}
 use Rattle.ev_script.specs.declared.script.VatScript.{VatScript}

@@ -3,8 +3,8 @@ use Rattle.std.proofs.Common.{◌≡◌, ◌<◌, ℕ, zero, suc, List, [], ◌�
 use Rattle.std.specs.Prelude.{slice_get, slice_set}
 use Rattle.def_event.specs.declared.event.Event.TheVariants as line
 use Rattle.def_kernel.specs.declared.node.Node.{Node}
-use Rattle.def_local.specs.Numbers.{Course, Runs, Vats, idle, left_by, nothing_brought, open_member, step, step_number, turn, turn_queue}
-use Rattle.def_local.specs.Vats.{Member}
+use Rattle.def_run.specs.Numbers.{Course, Runs, Vats, idle, left_by, nothing_brought, open_member, step, step_number, turn, turn_queue}
+use Rattle.def_run.specs.Vats.{Member}
 use Rattle.def_machine.specs.Eval.{opening, taking}
 use Rattle.def_machine.specs.Arrive as arriving
 use Rattle.def_machine.specs.State as machine

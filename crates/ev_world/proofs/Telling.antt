@@ -4,7 +4,7 @@ use Rattle.std.specs.Prelude.{drop, slice_get, slice_set}
 use Rattle.std.proofs.lemmas.List.{length-append, length-map, length-set}
 use Rattle.ev_base.specs.declared.values.Value.{Value}
 use Rattle.ev_resident.specs.declared.Member.{Member}
-use Rattle.ev_naming.specs.Names.{Named}
+use Rattle.ev_resident.specs.Names.{Named}
 use Rattle.ev_resident.specs.declared.resident.Resident.{Resident}
 use Rattle.ev_step_lines.specs.Lines.{with_import}
 use Rattle.ev_world.specs.Exporting.{AreCounted, AreTold, exports_for, object_of, told_by, with_imports}

@@ -5,8 +5,8 @@ use Rattle.std.proofs.lemmas.List.{length-set}
 use Rattle.def_event.specs.declared.event.Event.{Event as ShownEvent}
 use Rattle.def_event.specs.declared.event.Event.TheVariants as line
 use Rattle.def_kernel.specs.declared.node.Node.{Node}
-use Rattle.def_local.specs.Numbers.{Vats, after_step, nothing_brought, numbers, ready, step, step_number, turn, turn_queue}
-use Rattle.def_local.specs.Vats.{Member}
+use Rattle.def_run.specs.Numbers.{Vats, after_step, nothing_brought, numbers, ready, step, step_number, turn, turn_queue}
+use Rattle.def_run.specs.Vats.{Member}
 use Rattle.def_machine.specs.Eval.{taking}
 use Rattle.def_machine.specs.State as machine
 use Rattle.def_machine.specs.State.{Done, Gives, Message}
@@ -19,7 +19,7 @@ use Rattle.ev_resident.specs.MemberStanding.{IsFound, IsMember, Sees, with_draws
 use Rattle.ev_resident.specs.MemberSteps.{EndsSo, Turns, TurnsSo, own}
 use Rattle.ev_resident.specs.declared.Member.{Member as Ours}
 use Rattle.ev_resident.specs.declared.Sending.{Sending}
-use Rattle.ev_outcome.specs.Standing.{NamesStand, ObjectsStand}
+use Rattle.ev_resident.specs.OutcomeStanding.{NamesStand, ObjectsStand}
 use Rattle.ev_pass.specs.Acts.{words_by}
 use Rattle.ev_pass.specs.Reading.{names_under}
 use Rattle.ev_resident.proofs.Worlds.{world_of}
@@ -29,7 +29,7 @@ use Rattle.ev_room.specs.Reading.{World as Seen, vat_of}
 use Rattle.ev_resident.specs.declared.VatStop.{VatStop}
 use Rattle.ev_resident.specs.declared.VatStop.TheVariants.{Fuel, Deep, WordRepeated, Astray, Memory}
 use Rattle.ev_ways.proofs.Cuts.{shown_join}
-use Rattle.ev_naming.specs.Names.{Named}
+use Rattle.ev_resident.specs.Names.{Named}
 use Rattle.ev_ways.specs.Rows.{Lane}
 use Rattle.ev_ways.specs.Standing.{WaysStand}
 use Rattle.ev_world.specs.Standing.{HaltsAs, IsWorld, told_so}
@@ -41,7 +41,7 @@ use Rattle.ev_world.proofs.Left.{IsRested}
 use Rattle.ev_world.proofs.Objects.{is_within, same_or_not, set_other, set_there}
 use Rattle.ev_world.proofs.Opening.{tree_is}
 use Rattle.ev_world.proofs.Telling.{only}
-use Rattle.law_peers.specs.Steady.{StepIsSteady, TurnIsSteady}
+use Rattle.ev_wire.specs.Steady.{StepIsSteady, TurnIsSteady}
 
 -- ---- what a call answered
 

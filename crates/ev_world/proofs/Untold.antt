@@ -1,8 +1,8 @@
 -- A step does the same whatever was told before, and tells it behind that.
 use Rattle.std.proofs.Common.{◌≡◌, ℕ, zero, Bool, true, false, List, [], ◌∷◌, ◌++◌, Option, Some, None, refl, ap, append_assoc}
 use Rattle.std.specs.Prelude.{slice_get}
-use Rattle.def_local.specs.Numbers.{Brought, Frame, Vats, Way, after_step, arrives, brings, carry_frames, carry_way, close, cut, given, hears, idle, left_by, left_members, left_ways, notice_by, nothing_brought, numbers, open_member, own_step, ready, step, step_number, turn, turn_queue, way_at, with_way}
-use Rattle.def_local.specs.Vats.{Member, heard_in}
+use Rattle.def_run.specs.Numbers.{Brought, Frame, Vats, Way, after_step, arrives, brings, carry_frames, carry_way, close, cut, given, hears, idle, left_by, left_members, left_ways, notice_by, nothing_brought, numbers, open_member, own_step, ready, step, step_number, turn, turn_queue, way_at, with_way}
+use Rattle.def_run.specs.Vats.{Member, heard_in}
 use Rattle.def_machine.specs.Arrive.{Incoming, arrive, notice}
 use Rattle.def_machine.specs.Eval.{opening, taking}
 use Rattle.def_machine.specs.State.{Act, Done, Gives, Throws, Ejects, Stops, Message, Note, Vat}

@@ -3,13 +3,13 @@ use Rattle.std.proofs.Common.{◌≡◌, ℕ, zero, suc, Bool, true, false, List
 use Rattle.def_event.specs.Lines.{render}
 use Rattle.def_event.specs.declared.event.Event.{Event as ShownEvent}
 use Rattle.def_kernel.specs.declared.node.Node.{Node}
-use Rattle.def_local.specs.Numbers.{Course, Runs, Halts, Vats, begins, close, open_from, run, steps_from, then_runs}
-use Rattle.def_local.specs.Text.{text, wire_text}
+use Rattle.def_run.specs.Numbers.{Course, Runs, Halts, Vats, begins, close, open_from, run, steps_from, then_runs}
+use Rattle.def_run.specs.LocalText.{text, wire_text}
 use Rattle.def_machine.specs.State as machine
 use Rattle.def_machine.specs.Values.{Words}
 use Rattle.def_run.specs.Text.{shown_events, vat_names}
 use Rattle.def_run.specs.World.{Program, Script}
-use Rattle.ev_scope.specs.declared.accepted.Scoped.{Scoped}
+use Rattle.ev_reader.specs.declared.accepted.Scoped.{Scoped}
 use Rattle.ev_script.specs.declared.script.Script.{Script as TheirScript}
 use Rattle.ev_script.specs.declared.script.VatScript.{VatScript}
 use Rattle.ev_world.proofs.Loops.{halts_on, runs_on}

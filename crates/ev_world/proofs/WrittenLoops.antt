@@ -2,7 +2,7 @@
 use Rattle.std.proofs.Common.{◌≡◌, ℕ, zero, ◌+◌, ◌<◌, ◌≤◌, Bool, List, [], Option, Some, Result, length, map, refl, sym, subst, arith}
 use Rattle.std.specs.Prelude.{slice_get}
 use Rattle.std.proofs.KnownBytes.{Appends-nil}
-use Rattle.def_local.specs.Numbers.{Course, Runs, Vats, begins, open_from, open_member, step, steps_from}
+use Rattle.def_run.specs.Numbers.{Course, Runs, Vats, begins, open_from, open_member, step, steps_from}
 use Rattle.def_machine.specs.Values.{Words}
 use Rattle.def_run.specs.World.{Entry, Program, Script}
 use Rattle.ev_io.specs.Causes.{Rose}
@@ -15,7 +15,7 @@ use Rattle.ev_world.specs.declared.world.World.{World}
 use Rattle.ev_world.specs.declared.writing.Halt.{Halt}
 use Rattle.ev_world.proofs.Loops.{OpenedBy, SteppedBy, opened_next, runs_on, stepped_next, steps_by}
 use Rattle.ev_world.proofs.Untold.{open_behind, step_behind}
-use Rattle.law_peers.specs.Steady.{RunsSteadily}
+use Rattle.ev_wire.specs.Steady.{RunsSteadily}
 use Rattle.law_schedule.specs.Scripts.{machine_entry}
 
 pub rose_since : (a b c : ℕ) → a ≤ b → Rose b c → Rose a c

@@ -5,7 +5,7 @@ use Rattle.std.specs.Io.KnownBytes.{Appends}
 use Rattle.std.proofs.KnownBytes.{Appends-nil, Appends-trans}
 use Rattle.def_event.specs.Lines.{render}
 use Rattle.def_event.specs.declared.event.Event.{Event as ShownEvent}
-use Rattle.def_local.specs.Numbers.{Course, Runs, Halts, Vats, begins, close, open_from, run, steps_from, then_runs}
+use Rattle.def_run.specs.Numbers.{Course, Runs, Halts, Vats, begins, close, open_from, run, steps_from, then_runs}
 use Rattle.def_machine.specs.State as machine
 use Rattle.def_machine.specs.Values.{Words}
 use Rattle.def_run.specs.Text.{shown_events, stop_line, vat_names}
@@ -25,7 +25,7 @@ use Rattle.ev_world.proofs.Fronts.{closes_as, opened_text, stepped_text}
 use Rattle.ev_world.proofs.Loops.{OpenedBy, SteppedBy, openings_joined, runs_on, steps_joined}
 use Rattle.ev_world.proofs.Wholes.{halts_whole, run_goes, text_goes, text_halts}
 use Rattle.ev_world.proofs.WrittenSteps.{behind, front_behind, went_on}
-use Rattle.law_peers.specs.Steady.{RunsSteadily}
+use Rattle.ev_wire.specs.Steady.{RunsSteadily}
 
 -- ---- the start
 

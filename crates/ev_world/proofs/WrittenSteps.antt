@@ -5,7 +5,7 @@ use Rattle.std.proofs.KnownBytes.{Appends-trans}
 use Rattle.def_event.specs.Lines.{render}
 use Rattle.def_event.specs.declared.event.Event.{Event as ShownEvent}
 use Rattle.std.specs.Prelude.{slice_get}
-use Rattle.def_local.specs.Numbers.{Course, Runs, Halts, Vats, open_member, ready, step}
+use Rattle.def_run.specs.Numbers.{Course, Runs, Halts, Vats, open_member, ready, step}
 use Rattle.def_machine.specs.State as machine
 use Rattle.def_machine.specs.Values.{Words}
 use Rattle.def_run.specs.Text.{shown_events}
@@ -19,7 +19,7 @@ use Rattle.ev_world.specs.declared.world.World.{World}
 use Rattle.ev_world.specs.Steadily.{OpensSteadily, StepsSteadily}
 use Rattle.ev_world.proofs.Fronts.{step_text, text_append}
 use Rattle.ev_world.proofs.Untold.{open_behind, step_behind}
-use Rattle.law_peers.specs.Steady.{EntryIsSteady, ShownAlike}
+use Rattle.ev_wire.specs.Steady.{EntryIsSteady, ShownAlike}
 
 -- ---- with what was told before
 

@@ -2,18 +2,18 @@
 use Rattle.std.specs.Prelude.{◌≡◌, ◌++◌, ℕ, List, [], ◌∷◌, Result, Ok, Err, Some, length, slice_get}
 use Rattle.def_event.specs.declared.event.Event.{Event as ShownEvent}
 use Rattle.def_event.specs.declared.event.Event.TheVariants as line
-use Rattle.def_local.specs.Numbers.{Brought, Vats, brought, carried_in, left_by, step, step_number}
-use Rattle.def_local.specs.Vats.{Member, connection_for}
+use Rattle.def_run.specs.Numbers.{Brought, Vats, brought, carried_in, left_by, step, step_number}
+use Rattle.def_run.specs.Vats.{Member, connection_for}
 use Rattle.def_machine.specs.State as machine
 use Rattle.def_machine.specs.State.{Note}
 use Rattle.def_machine.specs.Values.{Local, Name}
 use Rattle.def_run.specs.World.{Carry, Event, Script}
 use Rattle.ev_resident.specs.MemberHearing.{Brings, HeardNote}
 use Rattle.ev_resident.specs.MemberStanding.{IsMember}
-use Rattle.ev_naming.specs.Names.{Entry, carried_mails}
-use Rattle.ev_naming.specs.Standing.{Says, mails_of, words_of}
-use Rattle.ev_outcome.specs.Standing.{NamesStand, ObjectsStand}
-use Rattle.ev_read.specs.declared.news.News.{News}
+use Rattle.ev_resident.specs.Names.{Entry, carried_mails}
+use Rattle.ev_resident.specs.NamesStanding.{Says, mails_of, words_of}
+use Rattle.ev_resident.specs.OutcomeStanding.{NamesStand, ObjectsStand}
+use Rattle.ev_wire.specs.declared.news.News.{News}
 use Rattle.ev_resident.specs.declared.VatStop.{VatStop}
 use Rattle.ev_resident.specs.declared.resident.Resident.{Resident}
 use Rattle.ev_ways.specs.Rows.{Lane}

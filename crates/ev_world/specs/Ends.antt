@@ -2,7 +2,7 @@
 use Rattle.std.specs.Prelude.{◌≡◌, ℕ, List, [], ◌∷◌, ◌++◌, Result, string_bytes, IfOk}
 use Rattle.def_event.specs.Lines.{render}
 use Rattle.def_event.specs.declared.event.Event.{Event as ShownEvent}
-use Rattle.def_local.specs.Numbers.{Course, begins, open_from, steps_from, then_runs}
+use Rattle.def_run.specs.Numbers.{Course, begins, open_from, steps_from, then_runs}
 use Rattle.def_machine.specs.State.{Stop, Fuel, Deep, Repeated, Astray}
 use Rattle.def_machine.specs.Values.{Words}
 use Rattle.def_run.specs.Text.{stop_line}

@@ -2,7 +2,7 @@
 use Rattle.std.specs.Prelude.{◌≡◌, ℕ, List, filter, Result, IfOk}
 use Rattle.def_event.specs.Lines.{is_no_frame}
 use Rattle.def_event.specs.declared.event.Event.{Event as ShownEvent}
-use Rattle.def_local.specs.Numbers.{Course, Runs, Halts}
+use Rattle.def_run.specs.Numbers.{Course, Runs, Halts}
 use Rattle.def_run.specs.Text.{shown_events}
 use Rattle.ev_base.specs.declared.memory.Memory.{Memory}
 use Rattle.ev_resident.specs.declared.VatStop.{VatStop}

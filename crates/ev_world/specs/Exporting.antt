@@ -3,10 +3,10 @@ use Rattle.std.specs.Prelude.{◌≡◌, ◌≤◌, ◌<◌, ℕ, zero, List, []
 use Rattle.ev_base.specs.declared.values.Value.{Value}
 use Rattle.ev_base.specs.declared.values.Value.TheVariants as held
 use Rattle.ev_resident.specs.declared.Member.{Member}
-use Rattle.ev_naming.specs.Names.{Named}
+use Rattle.ev_resident.specs.Names.{Named}
 use Rattle.ev_resident.specs.declared.resident.Resident.{Resident}
 use Rattle.ev_step_lines.specs.Lines.{with_import}
-use Rattle.ev_write.specs.Putting.{table_for}
+use Rattle.ev_wire.specs.Putting.{table_for}
 
 -- the number of an object, and 0 of what is none
 unfoldable pub object_of : Value → ℕ

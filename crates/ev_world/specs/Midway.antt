@@ -1,7 +1,7 @@
 -- The state of a run in the code while a step of a vat is told.
 use Rattle.std.specs.Prelude.{◌≡◌, ◌++◌, ◌<◌, ℕ, zero, List, Option, Some, get_or, length, map, slice_get}
-use Rattle.def_local.specs.Numbers.{Brought, Vats}
-use Rattle.def_local.specs.Vats.{Member, connection_for, unconnected}
+use Rattle.def_run.specs.Numbers.{Brought, Vats}
+use Rattle.def_run.specs.Vats.{Member, connection_for, unconnected}
 use Rattle.def_machine.specs.State as machine
 use Rattle.def_machine.specs.Values.{Local}
 use Rattle.def_run.specs.Text.{shown_events}
@@ -9,9 +9,9 @@ use Rattle.def_run.specs.World.{Event, Program, Script, name_at}
 use Rattle.ev_base.specs.declared.names.Msg.{Msg}
 use Rattle.ev_resident.specs.MemberSteps.{Having}
 use Rattle.ev_resident.specs.declared.Sending.{Sending}
-use Rattle.ev_naming.specs.Names.{Entry, carried_mails}
-use Rattle.ev_naming.specs.Standing.{Says, mails_of}
-use Rattle.ev_outcome.specs.Standing.{NamesStand, ObjectsStand}
+use Rattle.ev_resident.specs.Names.{Entry, carried_mails}
+use Rattle.ev_resident.specs.NamesStanding.{Says, mails_of}
+use Rattle.ev_resident.specs.OutcomeStanding.{NamesStand, ObjectsStand}
 use Rattle.ev_resident.specs.Standing.{IsResident, IsStepped}
 use Rattle.ev_resident.specs.declared.resident.Resident.{Resident}
 use Rattle.ev_resident.specs.Vat.{IsReady}

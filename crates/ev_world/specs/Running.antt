@@ -3,9 +3,9 @@ use Rattle.std.specs.Prelude.{ℕ, Bool, true, false, List, map}
 use Rattle.def_kernel.specs.declared.node.Node.{Node}
 use Rattle.def_machine.specs.State.{Stop, Fuel, Deep, Repeated, Astray}
 use Rattle.def_run.specs.World as machine
-use Rattle.def_local.specs.Numbers.{Course, Runs, Halts, run}
-use Rattle.def_local.specs.Text.{text, wire_text}
-use Rattle.ev_scope.specs.declared.accepted.Scoped.{Scoped}
+use Rattle.def_run.specs.Numbers.{Course, Runs, Halts, run}
+use Rattle.def_run.specs.LocalText.{text, wire_text}
+use Rattle.ev_reader.specs.declared.accepted.Scoped.{Scoped}
 use Rattle.ev_script.specs.declared.script.Script.{Script}
 use Rattle.ev_world.specs.declared.run.RunEnd.{RunEnd}
 use Rattle.ev_world.specs.declared.run.RunEnd.TheVariants as end

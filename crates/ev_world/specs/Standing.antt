@@ -2,8 +2,8 @@
 use Rattle.std.specs.Prelude.{◌≡◌, ℕ, Bool, true, false, List, Some, Result, Ok, Err, filter, length, map, slice_get}
 use Rattle.def_event.specs.Lines.{is_no_frame}
 use Rattle.def_event.specs.declared.event.Event.{Event as ShownEvent}
-use Rattle.def_local.specs.Numbers.{Course, Runs, Halts, Vats}
-use Rattle.def_local.specs.Vats.{Member}
+use Rattle.def_run.specs.Numbers.{Course, Runs, Halts, Vats}
+use Rattle.def_run.specs.Vats.{Member}
 use Rattle.def_machine.specs.State as machine
 use Rattle.def_run.specs.Text.{shown_events}
 use Rattle.def_run.specs.World.{Program, Script, name_at}

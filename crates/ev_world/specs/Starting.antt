@@ -1,13 +1,13 @@
 -- The vats of a script in the code, each at the start of its run.
 use Rattle.std.specs.Prelude.{◌≡◌, ℕ, List, [], ◌∷◌, Some, length, map, slice_get}
-use Rattle.def_local.specs.Names.{Names}
+use Rattle.def_run.specs.Names.{Names}
 use Rattle.def_machine.specs.State as machine
 use Rattle.def_machine.specs.Values.{Local, Root}
 use Rattle.def_run.specs.World.{Program, knowers}
 use Rattle.ev_resident.specs.MemberStanding.{IsMember}
 use Rattle.ev_resident.specs.MemberStarting.{rooted_member}
-use Rattle.ev_naming.specs.Names.{names_first}
-use Rattle.ev_outcome.specs.Standing.{NamesStand}
+use Rattle.ev_resident.specs.Names.{names_first}
+use Rattle.ev_resident.specs.OutcomeStanding.{NamesStand}
 use Rattle.ev_resident.specs.Starting.{with_roots}
 use Rattle.ev_resident.specs.declared.resident.Resident.{Resident}
 use Rattle.ev_script.specs.declared.script.Script.{Script}

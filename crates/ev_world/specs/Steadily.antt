@@ -1,11 +1,11 @@
 -- What is asked of one step of a run.
 use Rattle.std.specs.Prelude.{◌≡◌, ℕ, zero, Some, slice_get}
-use Rattle.def_local.specs.Numbers.{Runs, Vats, given, numbers, open_member, step}
-use Rattle.def_local.specs.Vats.{Member}
+use Rattle.def_run.specs.Numbers.{Runs, Vats, given, numbers, open_member, step}
+use Rattle.def_run.specs.Vats.{Member}
 use Rattle.def_machine.specs.Eval.{opening}
 use Rattle.def_machine.specs.Values.{Prom}
 use Rattle.def_run.specs.World.{Entry, Program, Script}
-use Rattle.law_peers.specs.Steady.{ActIsSteady, EntryIsSteady, ShownAlike}
+use Rattle.ev_wire.specs.Steady.{ActIsSteady, EntryIsSteady, ShownAlike}
 
 -- the opening turn of vat u, of program p
 pub record OpensSteadily (S : Script) (u : ℕ) (p : Program) (w : Vats) : Type 0 where

@@ -3,7 +3,7 @@ use Rattle.std.specs.Prelude.{◌≡◌, ℕ, Bool, List, [], ◌++◌, Result, 
 use Rattle.std.specs.declared.option.Option.{Option}
 use Rattle.std.specs.Io.KnownBytes.{Appends}
 use Rattle.def_event.specs.Lines.{render}
-use Rattle.def_local.specs.Numbers.{Course, Runs, Halts, Vats, run}
+use Rattle.def_run.specs.Numbers.{Course, Runs, Halts, Vats, run}
 use Rattle.def_machine.specs.State as machine
 use Rattle.def_machine.specs.Values.{Words}
 use Rattle.def_run.specs.Text.{shown_events}

@@ -2,7 +2,7 @@
 
 ghost use Rattle.std.specs.Prelude.{◌≡◌, ◌++◌, ◌∷◌, [], ℕ, List, Some, IfOk, OnOk};
 ghost use Rattle.def_event.specs.declared.event.Event.TheVariants as line;
-ghost use Rattle.def_local.specs.Numbers.{Vats, step, step_number};
+ghost use Rattle.def_run.specs.Numbers.{Vats, step, step_number};
 ghost use Rattle.def_run.specs.World as their;
 ghost use Rattle.def_run.specs.World.{Script as TheirScript};
 ghost use Rattle.ev_ways.specs.Rows.{Lane, behind, changed, next_at};
@@ -15,10 +15,9 @@ use crate::world::World;
 use def_event::{Boxed, Event};
 use ev_base::{Memory, VatId};
 use ev_event::History;
-use ev_naming::Told;
-use ev_read::News;
-use ev_resident::{Arrival, Resident, Sending, VatStop, told_of};
+use ev_resident::{Arrival, Resident, Sending, Told, VatStop, told_of};
 use ev_ways::Frame;
+use ev_wire::News;
 use std::alloc::Global;
 
 /// What a frame came to at the vat that heard it, which is still to be told.

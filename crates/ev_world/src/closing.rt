@@ -2,7 +2,7 @@
 
 ghost use Rattle.std.specs.Prelude.{◌≡◌, ◌++◌, ◌∷◌, [], IfOk, OnOk};
 ghost use Rattle.def_event.specs.declared.event.Event.TheVariants as line;
-ghost use Rattle.def_local.specs.Numbers.{Vats, close};
+ghost use Rattle.def_run.specs.Numbers.{Vats, close};
 ghost use Rattle.def_run.specs.Text.{shown_events};
 ghost use Rattle.def_run.specs.World.{Script as TheirScript};
 ghost use Rattle.ev_ways.specs.Telling.{left_rows};

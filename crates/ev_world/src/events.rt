@@ -1,18 +1,18 @@
 //! The run of a script, with its events in place of its text.
 
 ghost use Rattle.std.specs.Prelude.{◌≡◌, IfOk, length};
-ghost use Rattle.def_local.specs.Numbers.{run};
+ghost use Rattle.def_run.specs.Numbers.{run};
 ghost use Rattle.ev_script.specs.Rules.{IsAdmitted};
 ghost use Rattle.ev_world.specs.Events.{EndsAs, events_of};
 ghost use Rattle.ev_world.specs.Running.{end_of, script_of};
-ghost use Rattle.law_peers.specs.Steady.{RunsSteadily};
+ghost use Rattle.ev_wire.specs.Steady.{RunsSteadily};
 
 use crate::run::RunEnd;
 use crate::world::World;
 use ev_base::{Limits, Memory};
 use ev_event::History;
+use ev_reader::Scoped;
 use ev_resident::VatStop;
-use ev_scope::Scoped;
 use ev_script::Script;
 use std::alloc::Global;
 

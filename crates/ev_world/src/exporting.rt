@@ -5,8 +5,7 @@ ghost use Rattle.ev_resident.specs.declared.resident.Resident.{Resident as Their
 ghost use Rattle.ev_world.specs.Exporting.{AreCounted, AreTold, object_of, objects_for, told_by, with_imports};
 
 use ev_base::{Memory, Value, VatId};
-use ev_naming::VatNames;
-use ev_resident::{Member, Resident};
+use ev_resident::{Member, Resident, VatNames};
 use std::alloc::Global;
 
 /// The number of an object, and 0 of what is none.

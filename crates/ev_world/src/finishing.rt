@@ -1,8 +1,8 @@
 //! A step of a vat is told, and what it put goes out.
 
 ghost use Rattle.std.specs.Prelude.{◌≡◌, ℕ, List, OnOk};
-ghost use Rattle.def_local.specs.Numbers.{Brought, Vats, left_by};
-ghost use Rattle.def_local.specs.Vats.{Member};
+ghost use Rattle.def_run.specs.Numbers.{Brought, Vats, left_by};
+ghost use Rattle.def_run.specs.Vats.{Member};
 ghost use Rattle.def_machine.specs.State as machine;
 ghost use Rattle.def_machine.specs.Values.{Local};
 ghost use Rattle.def_run.specs.World.{Event};
@@ -14,8 +14,7 @@ use crate::exporting::tell_exports;
 use crate::pushing::push_out;
 use crate::world::World;
 use ev_base::{Memory, Msg, VatId};
-use ev_naming::Told;
-use ev_resident::Sending;
+use ev_resident::{Sending, Told};
 use std::alloc::Global;
 
 impl World {

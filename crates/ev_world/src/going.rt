@@ -1,7 +1,7 @@
 //! The steps of a run, one after the other, each written before the next.
 
 ghost use Rattle.std.specs.Prelude.{◌≡◌, ◌≤◌, ◌+◌, ◌<◌, ◌^◌, Err, List, ℕ, OnOk, Option, Some, length, map, slice_get, zero};
-ghost use Rattle.def_local.specs.Numbers.{Runs, Vats, begins, open_from, open_member, step, step_number, steps_from};
+ghost use Rattle.def_run.specs.Numbers.{Runs, Vats, begins, open_from, open_member, step, step_number, steps_from};
 ghost use Rattle.def_run.specs.World.{Program};
 ghost use Rattle.def_run.specs.World.{Script as TheirScript};
 ghost use Rattle.ev_io.specs.Causes.{Rose};
@@ -9,7 +9,7 @@ ghost use Rattle.ev_world.specs.Ends.{course_of};
 ghost use Rattle.ev_world.specs.Standing.{AreReady, IsWorld};
 ghost use Rattle.ev_world.specs.Steadily.{OpensSteadily, StepsSteadily};
 ghost use Rattle.ev_world.specs.Writing.{GoesTo, IsCourse, IsWritten};
-ghost use Rattle.law_peers.specs.Steady.{RunsSteadily};
+ghost use Rattle.ev_wire.specs.Steady.{RunsSteadily};
 ghost use Rattle.law_schedule.specs.Scripts.{machine_entry};
 
 use crate::world::World;

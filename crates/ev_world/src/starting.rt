@@ -1,9 +1,9 @@
 //! The start of a run.
 
 ghost use Rattle.std.specs.Prelude.{◌≡◌, IfOk, length, map};
-ghost use Rattle.def_local.specs.Numbers.{begins};
+ghost use Rattle.def_run.specs.Numbers.{begins};
 ghost use Rattle.def_run.specs.World.{knowers, name_at};
-ghost use Rattle.ev_scope.specs.declared.accepted.Scoped.{Scoped as Tree};
+ghost use Rattle.ev_reader.specs.declared.accepted.Scoped.{Scoped as Tree};
 ghost use Rattle.ev_script.specs.Rules.{IsAdmitted};
 ghost use Rattle.ev_script.specs.declared.script.VatScript.{VatScript as Vat};
 ghost use Rattle.ev_world.specs.Running.{script_of};
@@ -11,15 +11,14 @@ ghost use Rattle.ev_world.specs.Standing.{AreReady, IsWorld};
 ghost use Rattle.ev_world.specs.Starting.{AreStarted, bare};
 
 use crate::world::World;
-use ev_base::{Limits, Memory, Seq, VatId};
+use ev_base::{Limits, Memory, Seq, VatId, Word};
 use ev_event::History;
 use ev_intro::Words;
+use ev_reader::Scoped;
 use ev_resident::Resident;
 use ev_room::Program;
-use ev_scope::Scoped;
 use ev_script::{Script, VatScript};
 use ev_ways::Ways;
-use ev_word::Word;
 use std::alloc::Global;
 
 /// The vat at that place of a script.

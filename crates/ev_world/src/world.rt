@@ -1,29 +1,27 @@
 //! The state of a run: vats, the ways between them, and the lines so far.
 
 ghost use Rattle.std.specs.Prelude.{◌≡◌, ◌+◌, ◌<◌, ◌^◌, Some, IfOk, OnOk, length, map, slice_get, zero};
-ghost use Rattle.def_local.specs.Numbers.{Runs, Vats, begins, open_from, open_member, step, step_number, steps_from};
+ghost use Rattle.def_run.specs.Numbers.{Runs, Vats, begins, open_from, open_member, step, step_number, steps_from};
 ghost use Rattle.def_run.specs.World as their;
 ghost use Rattle.def_run.specs.World.{Program as TheirProgram, Script as TheirScript};
 ghost use Rattle.ev_world.specs.Ends.{course_of};
 ghost use Rattle.ev_world.specs.Running.{script_of};
 ghost use Rattle.ev_world.specs.Standing.{AreReady, CourseIs, IsWorld, RunIs};
 ghost use Rattle.ev_world.specs.Steadily.{OpensSteadily, StepsSteadily};
-ghost use Rattle.law_peers.specs.Steady.{RunsSteadily};
+ghost use Rattle.ev_wire.specs.Steady.{RunsSteadily};
 ghost use Rattle.law_schedule.specs.Scripts.{machine_entry};
 
 use crate::exporting::exports_of;
 use crate::starting::vat_at;
 use def_event::Event;
-use ev_base::{Limits, Memory, Seq, VatId};
+use ev_base::{Limits, Memory, Seq, VatId, Word};
 use ev_event::History;
 use ev_intro::Words;
-use ev_naming::Told;
-use ev_resident::{Resident, VatStop};
+use ev_resident::{Resident, Told, VatStop};
 use ev_room::Program;
 use ev_script::{Entry, Script};
 use ev_ways::Ways;
 use ev_ways::telling::tell_lost;
-use ev_word::Word;
 use std::alloc::Global;
 
 /// Why a run stopped, and the number of that step.

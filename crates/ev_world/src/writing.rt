@@ -3,7 +3,7 @@
 ghost use Rattle.std.specs.Prelude.{◌≡◌, ◌≤◌, List, ℕ, OnOk, Option, Err};
 ghost use Rattle.std.specs.Io.KnownBytes.{Appends};
 ghost use Rattle.def_event.specs.Lines.{render};
-ghost use Rattle.def_local.specs.Numbers.{Course, Vats};
+ghost use Rattle.def_run.specs.Numbers.{Course, Vats};
 ghost use Rattle.def_run.specs.World.{Script as TheirScript};
 ghost use Rattle.ev_io.specs.Causes.{Rose};
 ghost use Rattle.ev_world.specs.Standing.{AreReady, CourseIs};

@@ -1,7 +1,7 @@
 //! The run of a script, written as it happens.
 
 ghost use Rattle.std.specs.Prelude.{◌≡◌, ◌≤◌, Bool, Err, List, ℕ, Option, length};
-ghost use Rattle.def_local.specs.Numbers.{Runs, Vats, run};
+ghost use Rattle.def_run.specs.Numbers.{Runs, Vats, run};
 ghost use Rattle.def_machine.specs.Values.{Words};
 ghost use Rattle.def_run.specs.Text.{vat_names};
 ghost use Rattle.def_run.specs.World.{Script as TheirScript};
@@ -10,7 +10,7 @@ ghost use Rattle.ev_script.specs.Rules.{IsAdmitted};
 ghost use Rattle.ev_world.specs.Ends.{course_of};
 ghost use Rattle.ev_world.specs.Running.{script_of};
 ghost use Rattle.ev_world.specs.Writing.{IsWritten, StopsAs, WritesRun};
-ghost use Rattle.law_peers.specs.Steady.{RunsSteadily};
+ghost use Rattle.ev_wire.specs.Steady.{RunsSteadily};
 
 use crate::going::go_on;
 use crate::run::{RunEnd, names_of, stopped};
@@ -18,7 +18,7 @@ use crate::world::{Halted, World};
 use crate::writing::{Halt, Unfinished, write_lines, write_text};
 use ev_base::{Limits, Seq, Str};
 use ev_io::Sink;
-use ev_scope::Scoped;
+use ev_reader::Scoped;
 use ev_script::Script;
 use std::alloc::Global;
 

@@ -2,8 +2,7 @@
 #![tactic(auto)]
 
 use ev_check_text::check_source;
-use ev_io::{StdSink, StdSource};
-use ev_reply::Status;
+use ev_io::{Status, StdSink, StdSource};
 use std::io;
 use std::io::BufReader;
 use std::process::ExitCode;

@@ -1,13 +1,3 @@
-pub mod Alike
-pub mod Asks
-pub mod Calls
-pub mod Coercing
-pub mod Grows
-pub mod Guarded
-pub mod IsMet
-pub mod Meets
-pub mod Objects
-pub mod Primitives
-pub mod Statements
-pub mod Turns
-pub mod Auditing
+pub mod Acts
+pub mod Evaluation
+pub mod Arrivals

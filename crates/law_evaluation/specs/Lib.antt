@@ -1,1 +1,3 @@
+pub mod Acts
 pub mod Evaluation
+pub mod Arrivals

@@ -1,4 +1,8 @@
-//! Evaluation in the inside of a vat, node by node, is the machine's.
+//! What evaluation and arrivals are in the machine: acts, turns, and notes that are received.
 #![tactic(auto)]
 
-pub mod laws;
+pub mod act_laws;
+pub mod arrival_laws;
+pub mod evaluation_laws;
+pub mod telling;
+pub mod values;

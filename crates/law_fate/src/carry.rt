@@ -1,8 +1,8 @@
 //! Each message is carried at most twice.
 
-ghost use Rattle.law_fate.specs.CarryExample.{IsCarriedTwice};
-ghost use Rattle.law_fate.specs.CarryLaws.{StepsLighten};
-ghost use Rattle.law_fate.specs.CarryRuns.{CarriesAndWeight, MessagesGoToHosts, TwoCarriesAtMost};
+ghost use Rattle.law_fate.specs.Fates.CarryExample.{IsCarriedTwice};
+ghost use Rattle.law_fate.specs.Fates.CarryLaws.{StepsLighten};
+ghost use Rattle.law_fate.specs.Fates.CarryRuns.{CarriesAndWeight, MessagesGoToHosts, TwoCarriesAtMost};
 
 /// No step of a vat lets a message be carried more often than twice for each time that it is sent.
 ///
@@ -50,7 +50,7 @@ pub fn messages_go_to_hosts()
 
 /// A run by computing in which one message is carried twice: to the host of a promise, and on to
 /// the host of the object to which it settled.
-#[tactic(auto, unfolding(def_run::specs::World::opened_world, crate::specs::Carry::opened_carry, crate::specs::CarryExample::opened_example))]
+#[tactic(auto, unfolding(def_run::specs::World::opened_world, crate::specs::Fates::Carry::opened_carry, crate::specs::Fates::CarryExample::opened_example))]
 pub fn one_is_carried_twice()
     ensures { IsCarriedTwice }
 {}

@@ -1,11 +1,11 @@
 //! Each message has one place at most, until it is taken or lost.
 
-ghost use Rattle.law_fate.specs.FateLaws.{StepsDoubleNone};
-ghost use Rattle.law_fate.specs.FateExample.{FatesAreMet};
-ghost use Rattle.law_fate.specs.Finding.{SendsFindPlaces};
-ghost use Rattle.law_fate.specs.Lasting.{StepsKeepPlaces};
-ghost use Rattle.law_fate.specs.Wellness.{RunsStayWell};
-ghost use Rattle.law_fate.specs.FateRuns.{EachSentOnce, EachTakenOnce, OneFateAtMost, PlacesAndFates};
+ghost use Rattle.law_fate.specs.Fates.FateLaws.{StepsDoubleNone};
+ghost use Rattle.law_fate.specs.Fates.FateExample.{FatesAreMet};
+ghost use Rattle.law_fate.specs.Fates.Finding.{SendsFindPlaces};
+ghost use Rattle.law_fate.specs.Fates.Lasting.{StepsKeepPlaces};
+ghost use Rattle.law_fate.specs.Fates.Wellness.{RunsStayWell};
+ghost use Rattle.law_fate.specs.Fates.FateRuns.{EachSentOnce, EachTakenOnce, OneFateAtMost, PlacesAndFates};
 
 /// No step of a vat doubles a message, and what it sends is a message that the vat numbers then.
 ///
@@ -78,7 +78,7 @@ pub fn one_fate_at_most()
 
 /// The counts of a run, by computing: of three messages the first is taken, the second stands in
 /// the closing list and the third is lost, each once.
-#[tactic(auto, unfolding(def_run::specs::World::opened_world, crate::specs::Fate::opened_fate, crate::specs::FateExample::opened_example))]
+#[tactic(auto, unfolding(def_run::specs::World::opened_world, crate::specs::Fates::Fate::opened_fate, crate::specs::Fates::FateExample::opened_example))]
 pub fn fates_are_met()
     ensures { FatesAreMet }
 {}

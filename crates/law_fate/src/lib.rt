@@ -1,6 +1,7 @@
-//! The fates of messages, and how often each is carried.
+//! Names and messages: what a vat knows of a name, and what becomes of each message.
 #![tactic(auto)]
 
 pub mod carry;
 pub mod fate;
+pub mod names;
 pub mod whole;

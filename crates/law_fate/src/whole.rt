@@ -2,11 +2,11 @@
 //! may be told twice that it knows a vat, or that it knows itself, which the reading of scripts
 //! refuses.
 
-ghost use Rattle.law_fate.specs.Steps.{ViewsEndInRuns};
-ghost use Rattle.law_fate.specs.Steps.{StepsFindPlaces};
-ghost use Rattle.law_fate.specs.WholeFateRuns.{NotesGoToVatsOfTheRun};
-ghost use Rattle.law_fate.specs.WholeFateRuns.{EachMessageHasAFate};
-ghost use Rattle.law_fate.specs.WholeFateRuns.{ExactlyOneFate};
+ghost use Rattle.law_fate.specs.Fates.Steps.{ViewsEndInRuns};
+ghost use Rattle.law_fate.specs.Fates.Steps.{StepsFindPlaces};
+ghost use Rattle.law_fate.specs.Fates.WholeFateRuns.{NotesGoToVatsOfTheRun};
+ghost use Rattle.law_fate.specs.Fates.WholeFateRuns.{EachMessageHasAFate};
+ghost use Rattle.law_fate.specs.Fates.WholeFateRuns.{ExactlyOneFate};
 
 /// In each vat of every world of a run views end: from each name one comes, by no more views than
 /// the vat knows names, to a name that is not viewed.

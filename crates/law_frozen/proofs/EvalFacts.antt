@@ -18,8 +18,8 @@ use Rattle.def_machine.specs.Scopes.{frozen_guard, freezes, any_guard}
 use Rattle.def_kernel.specs.declared.node.Node.{Node}
 use Rattle.def_kernel.specs.declared.node.Literal.{Literal}
 use Rattle.def_kernel.specs.declared.node.Literal.TheVariants as literal
-use Rattle.law_natives.specs.Natives.{IsPlain}
-use Rattle.law_natives.proofs.Natives.{either_has, entry_has, data_has, range_has, compared_has, null_reply_has, asked_has}
+use Rattle.law_machine.specs.Natives.Natives.{IsPlain}
+use Rattle.law_machine.proofs.Natives.Natives.{either_has, entry_has, data_has, range_has, compared_has, null_reply_has, asked_has}
 use Rattle.law_frozen.specs.Frozen.{AllOf, IsAmong, Lists, IsThere, AreThere, FreedomThere, HasNoName, BearsFrozen, IsFrozen, BoundWell, NounWell, Sound, deep_frozen}
 use Rattle.law_frozen.proofs.Fine.{Keeper, MayBe, Fact, IsValue, AreValues, AreLists, IsBound, AreNouns, IsView, MayValue, MayBound, IsReply, IsAsked, IsAuditionAsk, IsResolverAsk, ReplyThere, AuditionAskThere, ResolverAskThere, Gets, Fine, fine_sees, fine_give}
 use Rattle.law_frozen.proofs.Looks.{get_all, list_at_there, follow_there}

@@ -6,8 +6,8 @@ use Rattle.def_machine.specs.State.{Bound, Binding, Scope, Cell, FreeName, View,
 use Rattle.def_machine.specs.Refs.{Place, Parcel}
 use Rattle.def_machine.specs.Native.{Reply, Says, Lists as Listed, Iterates, DeepFrozen, Asked, MakesList, Loops, SendsTo, CallsTo, Breaks, Tells, Whens, Coerces, AddsNull}
 use Rattle.def_machine.specs.Scopes.{meets, Answer, Answers, AuditionAsk, GetsGuard, Asks, ResolverAsk, Resolves, Smashes, NoResolverAsk}
-use Rattle.law_machine.proofs.StepLaws.{get_append}
-use Rattle.law_natives.specs.Natives.{ReplyHas, AskedHas}
+use Rattle.law_machine.proofs.Machine.StepLaws.{get_append}
+use Rattle.law_machine.specs.Natives.Natives.{ReplyHas, AskedHas}
 use Rattle.law_frozen.specs.Frozen.{AllOf, IsAmong, Lists, IsThere, AreThere, IsBelow, AreStacked, MessageThere, KnownThere, CellThere, ViewThere, Passes, AllPass, NotePasses, BoundWell, NounWell, ThingWell, SoundParts, Sound, deep_frozen}
 use Rattle.law_frozen.proofs.Facts.{Grows, all_map, all_end, there_up, message_up, known_up, cell_up, view_up, bound_up, noun_up, thing_up}
 

@@ -2,8 +2,8 @@
 use Rattle.std.proofs.Common.{◌≡◌, ℕ}
 use Rattle.def_machine.specs.Values.{Naming, Own}
 use Rattle.def_machine.specs.State.{Vat, Done, Gives}
-use Rattle.law_machine.specs.Steps.{Step, Opens, Takes, Receives, Notices, does, After}
-use Rattle.law_machine.proofs.Walks.{where_some}
+use Rattle.law_machine.specs.Machine.Steps.{Step, Opens, Takes, Receives, Notices, does, After}
+use Rattle.law_machine.proofs.Machine.Walks.{where_some}
 use Rattle.law_frozen.specs.Frozen.{Sound}
 use Rattle.law_frozen.specs.Laws.{StepWell, StaysSound}
 use Rattle.law_frozen.proofs.Fine.{Keeper, Loose, Fact, Nothing, AreNouns, IsMessage, nothing, Ends, got_itself}

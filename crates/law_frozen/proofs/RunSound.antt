@@ -8,7 +8,7 @@ use Rattle.def_machine.specs.Scopes as scopes
 use Rattle.def_machine.specs.Scopes.{any_guard}
 use Rattle.def_machine.specs.Eval.{opening}
 use Rattle.def_machine.specs.Arrive.{notice}
-use Rattle.law_machine.specs.Steps.{Step, Opens as Starts, Takes, Receives, Notices, does, After}
+use Rattle.law_machine.specs.Machine.Steps.{Step, Opens as Starts, Takes, Receives, Notices, does, After}
 use Rattle.def_run.specs.Draws.{draw_word}
 use Rattle.def_run.specs.World as world
 use Rattle.def_run.specs.World.{Script, Program, Opens, Entry, Turn, Carry, CutLink, NoticeLink, Event, Turned, Idle, Carried, NoticedAt, Link, World, Run, Goes, Stopped, names, names_of, read_note}

@@ -2,7 +2,7 @@
 use Rattle.std.specs.Prelude.{ℕ}
 use Rattle.def_machine.specs.Values.{Name, Naming, Local, naming, numbering}
 use Rattle.def_machine.specs.State.{Vat}
-use Rattle.law_machine.specs.Steps.{Step, Opens, Takes, Receives, Notices, does, After}
+use Rattle.law_machine.specs.Machine.Steps.{Step, Opens, Takes, Receives, Notices, does, After}
 use Rattle.law_frozen.specs.Frozen.{AllOf, MessageThere, NotePasses, NounWell, Sound, FrozenReach}
 
 -- What is asked of a step: that what it is given is bound well and holds no list but those that are there, and that no list stands by its number in a note.

@@ -7,18 +7,18 @@ use Rattle.def_machine.specs.State.{Known, Note, Deliver, Put, Vat, Gives, ◌>>
 use Rattle.def_machine.specs.Arrive as arrive
 use Rattle.def_machine.specs.Arrive.{New}
 use Rattle.def_run.specs.World.{next_frame, Script, Program, Event, Carried, World, put_at, push_all, with_link, with_notes, readied, names}
-use Rattle.law_name.specs.Names.{AllOf, IsAmong, IsMessageMade, NoteOk, names_in, Once}
-use Rattle.law_name.proofs.Among.{among_more, among_last, among_or, names_end}
-use Rattle.law_name.proofs.Run.{Stands, Told}
-use Rattle.law_reference.proofs.OwnRuns.{InScript}
-use Rattle.law_reference.proofs.NotesRuns.{links_of}
-use Rattle.law_reference.specs.Behind.{Bears, IsKnownTo}
-use Rattle.law_reference.proofs.First.{PutsFirst}
-use Rattle.law_reference.proofs.Follow.{put_cases, goes_known, goes_follow}
-use Rattle.law_reference.proofs.FollowRuns.{Past, Holds, taken_known, taken_follow, stepped_follow, outs_known, there_next, holds_on, begins_holds}
-use Rattle.law_reference.proofs.Moves.{entry_moves, opening_moves, get_mid}
-use Rattle.law_run.specs.Moves.{Deed, Move, Opened, Stepped, Swallowed, Says, AnyNotice, Follows, Performs, went, without, hear, hear_message}
-use Rattle.law_run.proofs.Honest.{lifted}
+use Rattle.law_fate.specs.Name.Names.{AllOf, IsAmong, IsMessageMade, NoteOk, names_in, Once}
+use Rattle.law_fate.proofs.Name.Among.{among_more, among_last, among_or, names_end}
+use Rattle.law_fate.proofs.Name.Run.{Stands, Told}
+use Rattle.law_reference.proofs.Reference.OwnRuns.{InScript}
+use Rattle.law_reference.proofs.Reference.NotesRuns.{links_of}
+use Rattle.law_reference.specs.Reference.Behind.{Bears, IsKnownTo}
+use Rattle.law_reference.proofs.Reference.First.{PutsFirst}
+use Rattle.law_reference.proofs.Reference.Follow.{put_cases, goes_known, goes_follow}
+use Rattle.law_reference.proofs.Reference.FollowRuns.{Past, Holds, taken_known, taken_follow, stepped_follow, outs_known, there_next, holds_on, begins_holds}
+use Rattle.law_reference.proofs.Reference.Moves.{entry_moves, opening_moves, get_mid}
+use Rattle.law_machine.specs.Run.Moves.{Deed, Move, Opened, Stepped, Swallowed, Says, AnyNotice, Follows, Performs, went, without, hear, hear_message}
+use Rattle.law_machine.proofs.Run.Honest.{lifted}
 use Rattle.law_hostile.specs.Hostile as hostile
 use Rattle.law_hostile.specs.Hostile.{May, Lawful, AnswersFirst, IsHostile, IsReached, IsReachedInOrder}
 use Rattle.law_hostile.proofs.Known.{left_stands}

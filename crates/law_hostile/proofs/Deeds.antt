@@ -8,14 +8,14 @@ use Rattle.def_machine.specs.Arrive as arrive
 use Rattle.def_machine.specs.Arrive.{New}
 use Rattle.def_run.specs.Draws.{draw_word}
 use Rattle.def_run.specs.World.{Script, World, put_at, names, names_of}
-use Rattle.law_name.specs.Names.{Bit, Named, Mail, At, Off, bare, promises_of, IsMade, IsHad, NoteOk, GoesOk, names_in}
-use Rattle.law_name.proofs.Facts.{note_up, Fact, Also, Nothing, IsVat, IsName, IsMail, IsDraw, NoteDoes, NoteGoes, new_names, nothing}
-use Rattle.law_name.proofs.Care.{Care, Sound, Ends, Fine, fine_then, fine_give, fine_thing, fine_promise, fine_new_message, fine_lone_message, fine_draw, fine_out, come_answer}
-use Rattle.law_name.proofs.Among.{promises_at, get_put}
-use Rattle.law_name.proofs.Run.{IsInside, Inside, inside, name_had}
-use Rattle.law_name.proofs.Tracked.{IsFar, Ok, follows_trans, tracked, tracked_under, tracked_makes}
-use Rattle.law_name.proofs.Learn.{Grew, Knows, Learned, Ended, grew, learn_name, message_learned, reads_bind, reads_fine}
-use Rattle.law_run.specs.Moves.{Deed, NewObject, NewPromise, NewMessage, NewLone, NewDraw, Learns, Performs, perform, hear, hear_message}
+use Rattle.law_fate.specs.Name.Names.{Bit, Named, Mail, At, Off, bare, promises_of, IsMade, IsHad, NoteOk, GoesOk, names_in}
+use Rattle.law_fate.proofs.Name.Facts.{note_up, Fact, Also, Nothing, IsVat, IsName, IsMail, IsDraw, NoteDoes, NoteGoes, new_names, nothing}
+use Rattle.law_fate.proofs.Name.Care.{Care, Sound, Ends, Fine, fine_then, fine_give, fine_thing, fine_promise, fine_new_message, fine_lone_message, fine_draw, fine_out, come_answer}
+use Rattle.law_fate.proofs.Name.Among.{promises_at, get_put}
+use Rattle.law_fate.proofs.Name.Run.{IsInside, Inside, inside, name_had}
+use Rattle.law_fate.proofs.Name.Tracked.{IsFar, Ok, follows_trans, tracked, tracked_under, tracked_makes}
+use Rattle.law_fate.proofs.Name.Learn.{Grew, Knows, Learned, Ended, grew, learn_name, message_learned, reads_bind, reads_fine}
+use Rattle.law_machine.specs.Run.Moves.{Deed, NewObject, NewPromise, NewMessage, NewLone, NewDraw, Learns, Performs, perform, hear, hear_message}
 use Rattle.law_hostile.specs.Hostile.{May, Lawful, IsBelow, IsOther}
 
 module _ (script : Script) (w : World) (v : ℕ) (s : Vat Name) (there : slice_get w.vats v ≡ Some s) (here : Inside script (At v)) where

@@ -8,18 +8,18 @@ use Rattle.def_machine.specs.Arrive.{Old, New}
 use Rattle.def_run.specs.Draws.{draw_word}
 use Rattle.def_run.specs.World as world
 use Rattle.def_run.specs.World.{Script, Program, Entry, Event, Link, World, Run, Goes as Going, readied, names, names_of}
-use Rattle.law_name.specs.Names.{AllOf, Once, IsMessageMade, NoteOk}
-use Rattle.law_name.proofs.Facts.{all_end, all_map}
-use Rattle.law_name.proofs.Run.{Stands, Told}
-use Rattle.law_reference.specs.Own.{IsOwnKnown}
-use Rattle.law_reference.specs.Notes.{IsBetween, Carries}
-use Rattle.law_reference.proofs.OwnKeeps.{Whole, came_own}
-use Rattle.law_reference.proofs.OwnRuns.{Any, InScript, Each}
-use Rattle.law_reference.proofs.RunLift.{put_at_or, all_allowed}
-use Rattle.law_reference.proofs.NotesLift as lift
-use Rattle.law_reference.proofs.NotesRuns.{Its, OfNotes, Ever, its_keep, begins_all}
-use Rattle.law_run.specs.Moves.{Deed, NewObject, NewPromise, NewMessage, NewLone, NewDraw, Learns, Performs, perform, Move, Opened, Stepped, Swallowed, Says, AnyNotice, Nobody, went, without, hear, hear_message, Follows, IsHonest}
-use Rattle.law_run.proofs.Honest.{lifted}
+use Rattle.law_fate.specs.Name.Names.{AllOf, Once, IsMessageMade, NoteOk}
+use Rattle.law_fate.proofs.Name.Facts.{all_end, all_map}
+use Rattle.law_fate.proofs.Name.Run.{Stands, Told}
+use Rattle.law_reference.specs.Reference.Own.{IsOwnKnown}
+use Rattle.law_reference.specs.Reference.Notes.{IsBetween, Carries}
+use Rattle.law_reference.proofs.Reference.OwnKeeps.{Whole, came_own}
+use Rattle.law_reference.proofs.Reference.OwnRuns.{Any, InScript, Each}
+use Rattle.law_reference.proofs.Reference.RunLift.{put_at_or, all_allowed}
+use Rattle.law_reference.proofs.Reference.NotesLift as lift
+use Rattle.law_reference.proofs.Reference.NotesRuns.{Its, OfNotes, Ever, its_keep, begins_all}
+use Rattle.law_machine.specs.Run.Moves.{Deed, NewObject, NewPromise, NewMessage, NewLone, NewDraw, Learns, Performs, perform, Move, Opened, Stepped, Swallowed, Says, AnyNotice, Nobody, went, without, hear, hear_message, Follows, IsHonest}
+use Rattle.law_machine.proofs.Run.Honest.{lifted}
 use Rattle.law_hostile.specs.Hostile as hostile
 use Rattle.law_hostile.specs.Hostile.{May, Lawful, IsHostile, IsReached}
 use Rattle.law_hostile.proofs.Links.{with_link_holds, found_holds, push_all_holds}

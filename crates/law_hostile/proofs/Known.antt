@@ -5,15 +5,15 @@ use Rattle.def_machine.specs.Values.{Name, Root}
 use Rattle.def_machine.specs.State.{Note, Vat, Gives}
 use Rattle.def_run.specs.World as world
 use Rattle.def_run.specs.World.{Script, Program, Event, Link, World, Goes as Going, put_at, readied}
-use Rattle.law_name.specs.Names.{Bit, bare, Once, AllOf, promises_of, messages_of, IsMade, IsHad, NoteOk, names_in}
-use Rattle.law_name.proofs.Facts.{all_map, all_end, note_up}
-use Rattle.law_name.proofs.Care.{parts_up}
-use Rattle.law_name.proofs.Among.{is_made_up}
-use Rattle.law_name.proofs.Run.{Stands, VatStands, LinkStands, Told, Had, Inside, low_at, sound_ready, knows_ready, step_stands, open_stands}
-use Rattle.law_reference.proofs.RunLift.{put_at_or, links_made}
-use Rattle.law_reference.proofs.OwnRuns.{begins_stand}
-use Rattle.law_run.specs.Moves.{Move, Opened, Stepped, Swallowed, Says, AnyNotice, went, without, hear}
-use Rattle.law_run.proofs.Honest.{lifted}
+use Rattle.law_fate.specs.Name.Names.{Bit, bare, Once, AllOf, promises_of, messages_of, IsMade, IsHad, NoteOk, names_in}
+use Rattle.law_fate.proofs.Name.Facts.{all_map, all_end, note_up}
+use Rattle.law_fate.proofs.Name.Care.{parts_up}
+use Rattle.law_fate.proofs.Name.Among.{is_made_up}
+use Rattle.law_fate.proofs.Name.Run.{Stands, VatStands, LinkStands, Told, Had, Inside, low_at, sound_ready, knows_ready, step_stands, open_stands}
+use Rattle.law_reference.proofs.Reference.RunLift.{put_at_or, links_made}
+use Rattle.law_reference.proofs.Reference.OwnRuns.{begins_stand}
+use Rattle.law_machine.specs.Run.Moves.{Move, Opened, Stepped, Swallowed, Says, AnyNotice, went, without, hear}
+use Rattle.law_machine.proofs.Run.Honest.{lifted}
 use Rattle.law_hostile.specs.Hostile as hostile
 use Rattle.law_hostile.specs.Hostile.{May, Lawful, IsHostile, IsReached}
 use Rattle.law_hostile.proofs.Deeds.{GrewTo, OkAt, says_goes, hear_goes}

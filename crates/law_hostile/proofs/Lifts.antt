@@ -5,17 +5,17 @@ use Rattle.def_machine.specs.Values.{Name, Promise, Answer, Sent, Msg, IsLearnt,
 use Rattle.def_machine.specs.State.{Thing, Made, Note, Deliver, Put, Vat, Gives, ◌>>=◌, ◌>>◌, and_then, give, new_thing, new_promise, new_message, new_lone_message, draw, draws, send_out, begun, come, mail}
 use Rattle.def_machine.specs.Arrive as arrive
 use Rattle.def_machine.specs.Arrive.{Old, New}
-use Rattle.law_machine.proofs.Keeps.{IsKept, IsKeptUnder}
+use Rattle.law_machine.proofs.Machine.Keeps.{IsKept, IsKeptUnder}
 use Rattle.def_run.specs.World as world
 use Rattle.def_run.specs.World.{Script, Program, Entry, Event, Carried, World, Run, Goes as Going, put_at, readied, names, names_of}
-use Rattle.law_run.specs.Runs.{EachVat}
-use Rattle.law_run.proofs.RunKeeps.{IsKeptInRuns, each_kept, run_keeps, opens_keep}
-use Rattle.law_name.specs.Names.{Once, NoteOk}
-use Rattle.law_name.proofs.Run.{Stands, Told}
-use Rattle.law_reference.proofs.RunLift.{StepsKeep, InVats, put_at_or, step_keeps, opened_keeps, all_allowed}
-use Rattle.law_reference.proofs.Gentle.{IsGentle}
-use Rattle.law_run.specs.Moves.{Deed, NewObject, NewPromise, NewMessage, NewLone, NewDraw, Learns, Performs, perform, Opened, Stepped, Swallowed, Says, AnyNotice, went, without, hear, hear_message}
-use Rattle.law_run.proofs.Honest.{lifted}
+use Rattle.law_machine.specs.Run.Runs.{EachVat}
+use Rattle.law_machine.proofs.Run.RunKeeps.{IsKeptInRuns, each_kept, run_keeps, opens_keep}
+use Rattle.law_fate.specs.Name.Names.{Once, NoteOk}
+use Rattle.law_fate.proofs.Name.Run.{Stands, Told}
+use Rattle.law_reference.proofs.Reference.RunLift.{StepsKeep, InVats, put_at_or, step_keeps, opened_keeps, all_allowed}
+use Rattle.law_reference.proofs.Reference.Gentle.{IsGentle}
+use Rattle.law_machine.specs.Run.Moves.{Deed, NewObject, NewPromise, NewMessage, NewLone, NewDraw, Learns, Performs, perform, Opened, Stepped, Swallowed, Says, AnyNotice, went, without, hear, hear_message}
+use Rattle.law_machine.proofs.Run.Honest.{lifted}
 use Rattle.law_hostile.specs.Hostile.{May, Lawful, IsHostile, IsReached, Leads}
 use Rattle.law_hostile.proofs.Known.{Moves, left_stands, reached_stands}
 

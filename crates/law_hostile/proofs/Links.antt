@@ -5,7 +5,7 @@ use Rattle.def_machine.specs.Values.{Name}
 use Rattle.def_machine.specs.State.{Put}
 use Rattle.def_run.specs.World as world
 use Rattle.def_run.specs.World.{Link}
-use Rattle.law_name.specs.Names.{AllOf}
+use Rattle.law_fate.specs.Name.Names.{AllOf}
 
 ends_at : (b c : Bool) (l : Link) (v w : ℕ) → (l.from == v) ≡ b → (l.to == w) ≡ c → elim b [ true ↦ c | false ↦ false ] ≡ true → (l.from ≡ v) × (l.to ≡ w)
 ends_at true true l v w e f i = (eqb-true l.from v e, eqb-true l.to w f)

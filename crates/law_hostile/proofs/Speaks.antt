@@ -4,8 +4,8 @@ use Rattle.def_machine.specs.Values.{Name, Root, Answer, Sent}
 use Rattle.def_machine.specs.State.{Unsettled, Vat}
 use Rattle.def_run.specs.World as world
 use Rattle.def_run.specs.World.{Script, Link, World, readied, opened_world}
-use Rattle.law_name.specs.Names.{opened_names}
-use Rattle.law_run.specs.Moves.{NewMessage, Says, went, opened_moves}
+use Rattle.law_fate.specs.Name.Names.{opened_names}
+use Rattle.law_machine.specs.Run.Moves.{NewMessage, Says, went, opened_moves}
 use Rattle.law_hostile.specs.Hostile.{a_note, IsReached, HostileVatsSpeak}
 
 other : suc zero ≡ zero → ⊥

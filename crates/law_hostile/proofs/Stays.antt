@@ -2,22 +2,22 @@
 use Rattle.std.proofs.Common.{ℕ, [], refl}
 use Rattle.def_machine.specs.Values.{Name, Root, naming}
 use Rattle.def_machine.specs.State.{Vat}
-use Rattle.law_machine.specs.Laws.{SettledStays, NoticedStays}
-use Rattle.law_machine.proofs.StepLaws.{noticed_law, noticed_names, noticed_stays, settled_law, settled_names, settled_stays}
+use Rattle.law_machine.specs.Machine.Laws.{SettledStays, NoticedStays}
+use Rattle.law_machine.proofs.Machine.StepLaws.{noticed_law, noticed_names, noticed_stays, settled_law, settled_names, settled_stays}
 use Rattle.def_run.specs.Draws.{draw_word}
 use Rattle.def_run.specs.World as world
 use Rattle.def_run.specs.World.{Script, readied, names}
-use Rattle.law_run.proofs.RunKeeps.{IsKeptInRuns}
-use Rattle.law_name.specs.Names.{names_in}
-use Rattle.law_reference.specs.Views.{ViewsWait}
-use Rattle.law_reference.proofs.ViewsGo.{views_gentle, go_same, ViewsGo}
-use Rattle.law_reference.proofs.ViewsRuns.{new_gifts, tells_none, views_wait_in_runs}
-use Rattle.law_reference.proofs.ViewsSteps.{views_taking, views_opening, views_notice, views_arrive}
-use Rattle.law_reference.proofs.OwnRuns.{Any, own_keep, begins_own, InScript}
-use Rattle.law_reference.proofs.RunLift.{StepsKeep}
+use Rattle.law_machine.proofs.Run.RunKeeps.{IsKeptInRuns}
+use Rattle.law_fate.specs.Name.Names.{names_in}
+use Rattle.law_reference.specs.Reference.Views.{ViewsWait}
+use Rattle.law_reference.proofs.Reference.ViewsGo.{views_gentle, go_same, ViewsGo}
+use Rattle.law_reference.proofs.Reference.ViewsRuns.{new_gifts, tells_none, views_wait_in_runs}
+use Rattle.law_reference.proofs.Reference.ViewsSteps.{views_taking, views_opening, views_notice, views_arrive}
+use Rattle.law_reference.proofs.Reference.OwnRuns.{Any, own_keep, begins_own, InScript}
+use Rattle.law_reference.proofs.Reference.RunLift.{StepsKeep}
 use Rattle.law_hostile.specs.Hostile as hostile
 use Rattle.law_hostile.proofs.Lifts.{IsKeptByDeeds, single_deeds, gentle_deeds, leads_each, says_keeps, hear_keeps, reached_all}
-use Rattle.law_run.proofs.Honest.{honest_reached}
+use Rattle.law_machine.proofs.Run.Honest.{honest_reached}
 use Rattle.law_hostile.proofs.Known.{names_are_known}
 use Rattle.law_hostile.proofs.Ends.{heard_own, runs_are_reached, notes_name_their_ends, deeds_own, ready_clean, said_its}
 

@@ -7,10 +7,10 @@ use Rattle.def_machine.specs.Arrive as arrive
 use Rattle.def_machine.specs.Arrive.{Old, New}
 use Rattle.def_run.specs.World as world
 use Rattle.def_run.specs.World.{Script, World, readied, names, names_of}
-use Rattle.law_name.specs.Names.{IsAmong, names_in}
-use Rattle.law_name.proofs.Among.{among_or, names_end}
-use Rattle.law_reference.specs.Behind.{Bears}
-use Rattle.law_run.specs.Moves.{Deed, NewPromise, NewMessage, NewDraw, Learns, perform}
+use Rattle.law_fate.specs.Name.Names.{IsAmong, names_in}
+use Rattle.law_fate.proofs.Name.Among.{among_or, names_end}
+use Rattle.law_reference.specs.Reference.Behind.{Bears}
+use Rattle.law_machine.specs.Run.Moves.{Deed, NewPromise, NewMessage, NewDraw, Learns, perform}
 use Rattle.law_hostile.specs.Hostile as hostile
 use Rattle.law_hostile.specs.Hostile.{IsStrict, PerformsStrictly}
 

@@ -3,17 +3,17 @@ use Rattle.std.specs.Prelude.{◌≡◌, ℕ, ◌<◌, true, List, [], ◌∷◌
 use Rattle.def_machine.specs.Values.{Name, Root, Answer, Sent, Msg, host_of}
 use Rattle.def_machine.specs.State.{Note, Deliver, NoMore, Vat, is_in, Gives}
 use Rattle.def_run.specs.World.{Script, Link, World, put_at, link_at, names, readied}
-use Rattle.law_name.specs.Names.{Bit, Named, Mail, Drew, At, Off, Entered, Owns, Gave, AllOf, IsAmong, IsMade, IsHad, NoteOk, GoesOk, Everywhere, names_in}
-use Rattle.law_name.specs.Runs.{KnowsOnce}
-use Rattle.law_name.specs.Runs as old_names
-use Rattle.law_reference.specs.Notes as old_notes
-use Rattle.law_reference.specs.Notes.{IsBetween, LinkFits, Carries, LinkCarries}
-use Rattle.law_reference.specs.Views.{ViewsWait}
-use Rattle.law_reference.specs.Own.{Own}
-use Rattle.law_reference.specs.Behind.{Bears, ComesFirst}
-use Rattle.law_machine.specs.Laws.{SettledStays, NoticedStays}
-use Rattle.law_run.specs.Runs.{EachVat}
-use Rattle.law_run.specs.Moves.{Deed, NewObject, NewPromise, NewMessage, NewLone, NewDraw, Learns, Move, Reached, AnyNotice, perform}
+use Rattle.law_fate.specs.Name.Names.{Bit, Named, Mail, Drew, At, Off, Entered, Owns, Gave, AllOf, IsAmong, IsMade, IsHad, NoteOk, GoesOk, Everywhere, names_in}
+use Rattle.law_fate.specs.Name.Runs.{KnowsOnce}
+use Rattle.law_fate.specs.Name.Runs as old_names
+use Rattle.law_reference.specs.Reference.Notes as old_notes
+use Rattle.law_reference.specs.Reference.Notes.{IsBetween, LinkFits, Carries, LinkCarries}
+use Rattle.law_reference.specs.Reference.Views.{ViewsWait}
+use Rattle.law_reference.specs.Reference.Own.{Own}
+use Rattle.law_reference.specs.Reference.Behind.{Bears, ComesFirst}
+use Rattle.law_machine.specs.Machine.Laws.{SettledStays, NoticedStays}
+use Rattle.law_machine.specs.Run.Runs.{EachVat}
+use Rattle.law_machine.specs.Run.Moves.{Deed, NewObject, NewPromise, NewMessage, NewLone, NewDraw, Learns, Move, Reached, AnyNotice, perform}
 
 -- its host, or the vat, is one of so many
 abbrev pub IsBelow : ℕ → Bit Name → Type 0

@@ -8,14 +8,14 @@ use Rattle.std.proofs.lemmas.Bool.Decides.{nat_tests}
 use Rattle.std.proofs.lemmas.Int.{ints}
 use Rattle.def_kernel.specs.declared.node.Node.{Node}
 use Rattle.def_kernel.specs.declared.node.Literal.TheVariants.{Int}
-use Rattle.def_kernel_form.specs.declared.reader.Item.{Item}
-use Rattle.def_kernel_form.specs.declared.reader.Item.TheVariants.{Literal as ALit}
-use Rattle.def_kernel_form.specs.declared.reader.Frame.{Frame}
-use Rattle.def_kernel_form.specs.declared.reader.Mode.TheVariants.{Before as before, Behind as behind, Whole as whole, Negative as negative, Digits as digits}
-use Rattle.def_kernel_form.specs.declared.reader.State.{State}
-use Rattle.def_kernel_form.specs.declared.shape.Head.{Head}
-use Rattle.def_kernel_form.specs.declared.shape.Want.TheVariants.{Literal as ALiteral}
-use Rattle.def_kernel_form.specs.Reading.{step, add_item, wanted, takes_exit, literal_begins, is_digit, is_zero, fits, with_digit, more_digits, item_ends}
+use Rattle.def_kernel.specs.declared.reader.Item.{Item}
+use Rattle.def_kernel.specs.declared.reader.Item.TheVariants.{Literal as ALit}
+use Rattle.def_kernel.specs.declared.reader.Frame.{Frame}
+use Rattle.def_kernel.specs.declared.reader.Mode.TheVariants.{Before as before, Behind as behind, Whole as whole, Negative as negative, Digits as digits}
+use Rattle.def_kernel.specs.declared.reader.State.{State}
+use Rattle.def_kernel.specs.declared.shape.Head.{Head}
+use Rattle.def_kernel.specs.declared.shape.Want.TheVariants.{Literal as ALiteral}
+use Rattle.def_kernel.specs.Reading.{step, add_item, wanted, takes_exit, literal_begins, is_digit, is_zero, fits, with_digit, more_digits, item_ends}
 use Rattle.std.specs.Char.{encode_utf8}
 use Rattle.std.proofs.lemmas.Str.{encode_ascii}
 use Rattle.std.proofs.lemmas.Option.{same_Some, option_and_then_some}

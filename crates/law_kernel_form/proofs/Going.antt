@@ -11,18 +11,18 @@ use Rattle.std.proofs.lemmas.Option.{slice_get_within}
 use Rattle.std.proofs.lemmas.Str.{IsUtf8-append}
 use Rattle.std.proofs.Math.Seq.{set-append_seam}
 use Rattle.def_kernel.specs.declared.node.Node.{Node}
-use Rattle.def_kernel_form.specs.declared.reader.Item.{Item}
-use Rattle.def_kernel_form.specs.declared.reader.Item.TheVariants.{Node as ANode}
-use Rattle.def_kernel_form.specs.declared.reader.Frame.{Frame}
-use Rattle.def_kernel_form.specs.declared.reader.Mode.TheVariants.{Heading as heading}
-use Rattle.def_kernel_form.specs.declared.reader.State.{State}
-use Rattle.def_kernel_form.specs.declared.shape.Head.{Head}
-use Rattle.def_kernel_form.specs.declared.shape.Head.TheVariants.{Def, DefExit}
-use Rattle.def_kernel_form.specs.declared.shape.Kind.{Kind}
-use Rattle.def_kernel_form.specs.declared.shape.Want.TheVariants.{Tree}
-use Rattle.def_kernel_form.specs.declared.shape.Tail.TheVariants.{Many}
+use Rattle.def_kernel.specs.declared.reader.Item.{Item}
+use Rattle.def_kernel.specs.declared.reader.Item.TheVariants.{Node as ANode}
+use Rattle.def_kernel.specs.declared.reader.Frame.{Frame}
+use Rattle.def_kernel.specs.declared.reader.Mode.TheVariants.{Heading as heading}
+use Rattle.def_kernel.specs.declared.reader.State.{State}
+use Rattle.def_kernel.specs.declared.shape.Head.{Head}
+use Rattle.def_kernel.specs.declared.shape.Head.TheVariants.{Def, DefExit}
+use Rattle.def_kernel.specs.declared.shape.Kind.{Kind}
+use Rattle.def_kernel.specs.declared.shape.Want.TheVariants.{Tree}
+use Rattle.def_kernel.specs.declared.shape.Tail.TheVariants.{Many}
 use Rattle.def_kernel.specs.Forms.{enclosed, items as written, form_of, form_within}
-use Rattle.def_kernel_form.specs.Reading.{step, no_node, node_of, wanted, more, fixed, tail, ends, tail_ends, close_in, close_frame}
+use Rattle.def_kernel.specs.Reading.{step, no_node, node_of, wanted, more, fixed, tail, ends, tail_ends, close_in, close_frame}
 use Rattle.law_kernel_form.specs.Trees.{Has}
 use Rattle.law_kernel_form.proofs.Parts.{Part, done, there, joined, long}
 use Rattle.law_kernel_form.proofs.Steps.{steps, reads_one, Stops, space, bracket, Goes, goes_nowhere, goes_on, split, bracketed, bracketed_utf8, item, state, at, closed, closes_in, ReadsTree, tree_item}

@@ -4,16 +4,16 @@ use Rattle.std.specs.Str.{chars, IsUtf8}
 use Rattle.std.proofs.lemmas.List.{append-nil, length-replicate}
 use Rattle.std.proofs.lemmas.Str.{IsUtf8-append, IsUtf8-nil, chars-nil}
 use Rattle.def_kernel.specs.declared.node.Node.{Node}
-use Rattle.def_kernel_form.specs.declared.reader.Item.{Item}
-use Rattle.def_kernel_form.specs.declared.reader.Item.TheVariants.{Node as ANode, Nodes as ANodes}
-use Rattle.def_kernel_form.specs.declared.reader.Frame.{Frame}
-use Rattle.def_kernel_form.specs.declared.reader.Mode.TheVariants.{Before as before, Grouping as grouping, Whole as whole}
-use Rattle.def_kernel_form.specs.declared.shape.Head.{Head}
-use Rattle.def_kernel_form.specs.declared.shape.Head.TheVariants.{Group}
-use Rattle.def_kernel_form.specs.declared.shape.Kind.{Kind}
-use Rattle.def_kernel_form.specs.declared.shape.Want.TheVariants.{Tree, Group as Grouped}
+use Rattle.def_kernel.specs.declared.reader.Item.{Item}
+use Rattle.def_kernel.specs.declared.reader.Item.TheVariants.{Node as ANode, Nodes as ANodes}
+use Rattle.def_kernel.specs.declared.reader.Frame.{Frame}
+use Rattle.def_kernel.specs.declared.reader.Mode.TheVariants.{Before as before, Grouping as grouping, Whole as whole}
+use Rattle.def_kernel.specs.declared.shape.Head.{Head}
+use Rattle.def_kernel.specs.declared.shape.Head.TheVariants.{Group}
+use Rattle.def_kernel.specs.declared.shape.Kind.{Kind}
+use Rattle.def_kernel.specs.declared.shape.Want.TheVariants.{Tree, Group as Grouped}
 use Rattle.def_kernel.specs.Forms.{spaced, enclosed, form_within}
-use Rattle.def_kernel_form.specs.Reading.{step, no_node, numbers, wanted, open_wanted, close_in}
+use Rattle.def_kernel.specs.Reading.{step, no_node, numbers, wanted, open_wanted, close_in}
 use Rattle.law_kernel_form.proofs.Parts.{Part, done, joined, long}
 use Rattle.law_kernel_form.proofs.Steps.{steps, reads_one, bracket, Goes, goes_nowhere, goes_on, split, bracketed, bracketed_utf8, item, state, framed, at, space_wanted, tree_item}
 use Rattle.law_kernel_form.proofs.Going.{behind_spaces, TreeRead, Going, further, wants_more, may_end, closes_form, one}

@@ -4,13 +4,13 @@ use Rattle.std.specs.Prelude.{codes}
 use Rattle.std.specs.Char.{encode_utf8}
 use Rattle.std.specs.Str.{chars, IsUtf8}
 use Rattle.def_kernel.specs.declared.node.Node.{Node}
-use Rattle.def_kernel_form.specs.declared.reader.Frame.{Frame}
-use Rattle.def_kernel_form.specs.declared.reader.Mode.TheVariants.{Heading as heading}
-use Rattle.def_kernel_form.specs.declared.shape.Kind.{Kind}
-use Rattle.def_kernel_form.specs.declared.shape.Kind.TheVariants.{Expression, Pattern, Member, Naming}
-use Rattle.def_kernel_form.specs.declared.shape.Head.{Head}
-use Rattle.def_kernel_form.specs.declared.shape.Head.TheVariants.{Lit, Noun, Set, Def, Call, Seq, If, Escape, Try, Finally, Hide, Match, Object, Method, Matcher, Final, Var, Any, List as ListHead, Via, FinalName, NoName}
-use Rattle.def_kernel_form.specs.Reading.{no_node}
+use Rattle.def_kernel.specs.declared.reader.Frame.{Frame}
+use Rattle.def_kernel.specs.declared.reader.Mode.TheVariants.{Heading as heading}
+use Rattle.def_kernel.specs.declared.shape.Kind.{Kind}
+use Rattle.def_kernel.specs.declared.shape.Kind.TheVariants.{Expression, Pattern, Member, Naming}
+use Rattle.def_kernel.specs.declared.shape.Head.{Head}
+use Rattle.def_kernel.specs.declared.shape.Head.TheVariants.{Lit, Noun, Set, Def, Call, Seq, If, Escape, Try, Finally, Hide, Match, Object, Method, Matcher, Final, Var, Any, List as ListHead, Via, FinalName, NoName}
+use Rattle.def_kernel.specs.Reading.{no_node}
 use Rattle.law_kernel_form.proofs.Steps.{steps, state, at, Stops, space, bracket}
 
 -- a form that is begun with these characters, where a space or a bracket comes next

@@ -3,13 +3,13 @@ use Rattle.std.proofs.Common.{◌≡◌, ℕ, false, List, [], ◌∷◌, ◌++�
 use Rattle.def_kernel.specs.declared.node.Literal.{Literal}
 use Rattle.def_kernel.specs.declared.node.Literal.TheVariants.{Int, Char, Text}
 use Rattle.def_kernel.specs.declared.node.Node.{Node}
-use Rattle.def_kernel_form.specs.declared.reader.Item.{Item}
-use Rattle.def_kernel_form.specs.declared.reader.Item.TheVariants.{Literal as ALit}
-use Rattle.def_kernel_form.specs.declared.reader.Frame.{Frame}
-use Rattle.def_kernel_form.specs.declared.shape.Head.{Head}
-use Rattle.def_kernel_form.specs.declared.shape.Want.TheVariants.{Literal as ALiteral}
+use Rattle.def_kernel.specs.declared.reader.Item.{Item}
+use Rattle.def_kernel.specs.declared.reader.Item.TheVariants.{Literal as ALit}
+use Rattle.def_kernel.specs.declared.reader.Frame.{Frame}
+use Rattle.def_kernel.specs.declared.shape.Head.{Head}
+use Rattle.def_kernel.specs.declared.shape.Want.TheVariants.{Literal as ALiteral}
 use Rattle.def_kernel.specs.Forms.{literal_form}
-use Rattle.def_kernel_form.specs.Reading.{wanted, takes_exit}
+use Rattle.def_kernel.specs.Reading.{wanted, takes_exit}
 use Rattle.law_kernel_form.specs.Trees.{IsLiteral}
 use Rattle.law_kernel_form.proofs.Steps.{Goes, at}
 use Rattle.law_kernel_form.proofs.Going.{Going, then_word}

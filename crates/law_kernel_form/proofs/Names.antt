@@ -8,16 +8,16 @@ use Rattle.std.proofs.lemmas.List.{append-nil}
 use Rattle.std.proofs.lemmas.Str.{encodes-chars}
 use Rattle.def_text.specs.Keywords.{is_identifier, begins_identifier, continues_identifier, has_identifier_form}
 use Rattle.def_kernel.specs.declared.node.Node.{Node}
-use Rattle.def_kernel_form.specs.declared.reader.Item.{Item}
-use Rattle.def_kernel_form.specs.declared.reader.Item.TheVariants.{Word as AWord}
-use Rattle.def_kernel_form.specs.declared.reader.Frame.{Frame}
-use Rattle.def_kernel_form.specs.declared.reader.Mode.{Mode}
-use Rattle.def_kernel_form.specs.declared.reader.Mode.TheVariants.{Before as before, Bare as bare, Exiting as exiting, Whole as whole, Behind as behind}
-use Rattle.def_kernel_form.specs.declared.reader.State.{State}
-use Rattle.def_kernel_form.specs.declared.shape.Head.{Head}
-use Rattle.def_kernel_form.specs.declared.shape.Want.{Want}
-use Rattle.def_kernel_form.specs.declared.shape.Want.TheVariants.{Name}
-use Rattle.def_kernel_form.specs.Reading.{step, add_item, wanted, takes_exit, open_wanted, begin_wanted, ends_word, item_ends}
+use Rattle.def_kernel.specs.declared.reader.Item.{Item}
+use Rattle.def_kernel.specs.declared.reader.Item.TheVariants.{Word as AWord}
+use Rattle.def_kernel.specs.declared.reader.Frame.{Frame}
+use Rattle.def_kernel.specs.declared.reader.Mode.{Mode}
+use Rattle.def_kernel.specs.declared.reader.Mode.TheVariants.{Before as before, Bare as bare, Exiting as exiting, Whole as whole, Behind as behind}
+use Rattle.def_kernel.specs.declared.reader.State.{State}
+use Rattle.def_kernel.specs.declared.shape.Head.{Head}
+use Rattle.def_kernel.specs.declared.shape.Want.{Want}
+use Rattle.def_kernel.specs.declared.shape.Want.TheVariants.{Name}
+use Rattle.def_kernel.specs.Reading.{step, add_item, wanted, takes_exit, open_wanted, begin_wanted, ends_word, item_ends}
 use Rattle.law_kernel_form.specs.Trees.{IsName}
 use Rattle.law_kernel_form.proofs.Steps.{steps, reads_one, Stops, space, bracket, Goes, item, state, framed, at, space_wanted}
 use Rattle.law_kernel_form.proofs.Going.{Going, then_word}

@@ -10,18 +10,18 @@ use Rattle.std.proofs.lemmas.Str.{encodes-chars}
 use Rattle.def_text.specs.Quoting.{by_number, escaped, quoted, quoted_character}
 use Rattle.def_kernel.specs.declared.node.Node.{Node}
 use Rattle.def_kernel.specs.declared.node.Literal.TheVariants.{Char}
-use Rattle.def_kernel_form.specs.declared.reader.Item.{Item}
-use Rattle.def_kernel_form.specs.declared.reader.Item.TheVariants.{Literal as ALit}
-use Rattle.def_kernel_form.specs.declared.reader.Frame.{Frame}
-use Rattle.def_kernel_form.specs.declared.reader.Digit.{Digit}
-use Rattle.def_kernel_form.specs.declared.reader.Digit.TheVariants.{More, Made}
-use Rattle.def_kernel_form.specs.declared.reader.Place.{Place}
-use Rattle.def_kernel_form.specs.declared.reader.Place.TheVariants.{Third, Low, High}
-use Rattle.def_kernel_form.specs.declared.reader.Mode.TheVariants.{Before as before, Behind as behind, Text as text, TextNumber as text_number, Character as character, CharacterEscape as character_escape, CharacterNumber as character_number, CharacterEnd as character_end, TextEscape as text_escape}
-use Rattle.def_kernel_form.specs.declared.reader.State.{State}
-use Rattle.def_kernel_form.specs.declared.shape.Head.{Head}
-use Rattle.def_kernel_form.specs.declared.shape.Want.{Want}
-use Rattle.def_kernel_form.specs.Reading.{step, add_item, wanted, hexadecimal, low_control, number_digit, text_digit, character_digit, text_item, may_end_text}
+use Rattle.def_kernel.specs.declared.reader.Item.{Item}
+use Rattle.def_kernel.specs.declared.reader.Item.TheVariants.{Literal as ALit}
+use Rattle.def_kernel.specs.declared.reader.Frame.{Frame}
+use Rattle.def_kernel.specs.declared.reader.Digit.{Digit}
+use Rattle.def_kernel.specs.declared.reader.Digit.TheVariants.{More, Made}
+use Rattle.def_kernel.specs.declared.reader.Place.{Place}
+use Rattle.def_kernel.specs.declared.reader.Place.TheVariants.{Third, Low, High}
+use Rattle.def_kernel.specs.declared.reader.Mode.TheVariants.{Before as before, Behind as behind, Text as text, TextNumber as text_number, Character as character, CharacterEscape as character_escape, CharacterNumber as character_number, CharacterEnd as character_end, TextEscape as text_escape}
+use Rattle.def_kernel.specs.declared.reader.State.{State}
+use Rattle.def_kernel.specs.declared.shape.Head.{Head}
+use Rattle.def_kernel.specs.declared.shape.Want.{Want}
+use Rattle.def_kernel.specs.Reading.{step, add_item, wanted, hexadecimal, low_control, number_digit, text_digit, character_digit, text_item, may_end_text}
 use Rattle.law_kernel_form.proofs.Steps.{steps, reads_one, Goes, item, state, framed, at, space_wanted}
 use Rattle.law_kernel_form.proofs.Spelled.{either, spelled, spelled_alone, spells_quoted, spells_quoted_character, spells_utf8, spells_chars}
 

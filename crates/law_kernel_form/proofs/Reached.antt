@@ -12,20 +12,20 @@ use Rattle.def_text.specs.Keywords.{is_identifier, continues_identifier}
 use Rattle.def_kernel.specs.declared.node.Literal.{Literal}
 use Rattle.def_kernel.specs.declared.node.Literal.TheVariants.{Int, Char, Text}
 use Rattle.def_kernel.specs.declared.node.Node.{Node}
-use Rattle.def_kernel_form.specs.declared.reader.Item.TheVariants.{Word as AWord, Literal as ALit}
-use Rattle.def_kernel_form.specs.declared.reader.Frame.{Frame}
-use Rattle.def_kernel_form.specs.declared.reader.Place.{Place as Digits}
-use Rattle.def_kernel_form.specs.declared.reader.Place.TheVariants.{First, Second, Third, Low, High}
-use Rattle.def_kernel_form.specs.declared.reader.Digit.{Digit}
-use Rattle.def_kernel_form.specs.declared.reader.Digit.TheVariants.{More, Made}
-use Rattle.def_kernel_form.specs.declared.reader.Mode.{Mode}
-use Rattle.def_kernel_form.specs.declared.reader.Mode.TheVariants.{Opening as opening, Heading as heading, Behind as behind, Before as before, Grouping as grouping, Exiting as exiting, Bare as bare, Negative as negative, Digits as digits, Text as text, TextEscape as text_escape, TextNumber as text_number, Character as character, CharacterEscape as character_escape, CharacterNumber as character_number, CharacterEnd as character_end, Whole as whole}
-use Rattle.def_kernel_form.specs.declared.reader.State.{State}
-use Rattle.def_kernel_form.specs.declared.shape.Kind.{Kind}
-use Rattle.def_kernel_form.specs.declared.shape.Want.TheVariants as want
-use Rattle.def_kernel_form.specs.Reading.{next_wanted, add_item, step, step_in, step_bare, step_digits, step_negative, step_text, step_text_escape, step_character, step_character_escape, step_character_end, item_ends, is_digit, is_zero, fits, with_digit, more_digits, letter_escape, character_letter, hexadecimal, low_control, number_digit, text_digit, character_digit, text_item, may_end_text, ends_word}
-use Rattle.def_kernel_form.specs.declared.shape.Kind.TheVariants.{Expression}
-use Rattle.def_kernel_form.specs.Reading.{read_on, finished, started}
+use Rattle.def_kernel.specs.declared.reader.Item.TheVariants.{Word as AWord, Literal as ALit}
+use Rattle.def_kernel.specs.declared.reader.Frame.{Frame}
+use Rattle.def_kernel.specs.declared.reader.Place.{Place as Digits}
+use Rattle.def_kernel.specs.declared.reader.Place.TheVariants.{First, Second, Third, Low, High}
+use Rattle.def_kernel.specs.declared.reader.Digit.{Digit}
+use Rattle.def_kernel.specs.declared.reader.Digit.TheVariants.{More, Made}
+use Rattle.def_kernel.specs.declared.reader.Mode.{Mode}
+use Rattle.def_kernel.specs.declared.reader.Mode.TheVariants.{Opening as opening, Heading as heading, Behind as behind, Before as before, Grouping as grouping, Exiting as exiting, Bare as bare, Negative as negative, Digits as digits, Text as text, TextEscape as text_escape, TextNumber as text_number, Character as character, CharacterEscape as character_escape, CharacterNumber as character_number, CharacterEnd as character_end, Whole as whole}
+use Rattle.def_kernel.specs.declared.reader.State.{State}
+use Rattle.def_kernel.specs.declared.shape.Kind.{Kind}
+use Rattle.def_kernel.specs.declared.shape.Want.TheVariants as want
+use Rattle.def_kernel.specs.Reading.{next_wanted, add_item, step, step_in, step_bare, step_digits, step_negative, step_text, step_text_escape, step_character, step_character_escape, step_character_end, item_ends, is_digit, is_zero, fits, with_digit, more_digits, letter_escape, character_letter, hexadecimal, low_control, number_digit, text_digit, character_digit, text_item, may_end_text, ends_word}
+use Rattle.def_kernel.specs.declared.shape.Kind.TheVariants.{Expression}
+use Rattle.def_kernel.specs.Reading.{read_on, finished, started}
 use Rattle.law_kernel_form.specs.Trees.{IsInt, IsLiteral, IsTree, Tree}
 use Rattle.law_kernel_form.specs.Laws.{WhatIsReadIsATree}
 use Rattle.std.specs.List.{flat_map}

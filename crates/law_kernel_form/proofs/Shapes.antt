@@ -8,16 +8,16 @@ use Rattle.std.proofs.lemmas.Slice.Eq.{bytes_eq-Decides}
 use Rattle.def_kernel.specs.declared.node.Literal.{Literal}
 use Rattle.def_kernel.specs.declared.node.Node.{Node}
 use Rattle.def_kernel.specs.declared.node.Node.TheVariants as node
-use Rattle.def_kernel_form.specs.declared.reader.Item.{Item}
-use Rattle.def_kernel_form.specs.declared.reader.Item.TheVariants.{Node as ANode, Nodes as ANodes, Word as AWord, Literal as ALit}
-use Rattle.def_kernel_form.specs.declared.shape.Kind.{Kind}
-use Rattle.def_kernel_form.specs.declared.shape.Kind.TheVariants.{Expression, Pattern, Member, Naming}
-use Rattle.def_kernel_form.specs.declared.shape.Head.{Head}
-use Rattle.def_kernel_form.specs.declared.shape.Head.TheVariants as head
-use Rattle.def_kernel_form.specs.declared.shape.Want.{Want}
-use Rattle.def_kernel_form.specs.declared.shape.Want.TheVariants as want
-use Rattle.def_kernel_form.specs.declared.shape.Tail.TheVariants.{Many}
-use Rattle.def_kernel_form.specs.Reading.{heads, head_of, fixed, tail, wanted, ends, numbers, node_of}
+use Rattle.def_kernel.specs.declared.reader.Item.{Item}
+use Rattle.def_kernel.specs.declared.reader.Item.TheVariants.{Node as ANode, Nodes as ANodes, Word as AWord, Literal as ALit}
+use Rattle.def_kernel.specs.declared.shape.Kind.{Kind}
+use Rattle.def_kernel.specs.declared.shape.Kind.TheVariants.{Expression, Pattern, Member, Naming}
+use Rattle.def_kernel.specs.declared.shape.Head.{Head}
+use Rattle.def_kernel.specs.declared.shape.Head.TheVariants as head
+use Rattle.def_kernel.specs.declared.shape.Want.{Want}
+use Rattle.def_kernel.specs.declared.shape.Want.TheVariants as want
+use Rattle.def_kernel.specs.declared.shape.Tail.TheVariants.{Many}
+use Rattle.def_kernel.specs.Reading.{heads, head_of, fixed, tail, wanted, ends, numbers, node_of}
 use Rattle.law_kernel_form.specs.Trees.{Has, IsName, IsLiteral, Tree, Row, literal, noun, set, def, def_exit, call, sequence, choice, escape, escape_catch, try_catch, finally, hide, match_bind, object, method, matcher, final, final_guarded, variable, variable_guarded, any, any_guarded, list, via, named, unnamed, none, one_more}
 use Rattle.law_kernel_form.proofs.Going.{wants_more}
 use Rattle.std.specs.Prelude.{codes}

@@ -10,18 +10,18 @@ use Rattle.std.proofs.lemmas.Option.{same_Some}
 use Rattle.std.proofs.lemmas.Str.{IsUtf8-encode, IsUtf8-nil}
 use Rattle.def_text.specs.Keywords.{begins_identifier}
 use Rattle.def_kernel.specs.declared.node.Node.{Node}
-use Rattle.def_kernel_form.specs.declared.reader.Item.{Item}
-use Rattle.def_kernel_form.specs.declared.reader.Item.TheVariants.{Node as ANode, Nodes as ANodes}
-use Rattle.def_kernel_form.specs.declared.reader.Frame.{Frame}
-use Rattle.def_kernel_form.specs.declared.reader.Mode.{Mode}
-use Rattle.def_kernel_form.specs.declared.reader.Mode.TheVariants.{Heading as heading, Behind as behind, Before as before, Grouping as grouping, Exiting as exiting, Bare as bare, Negative as negative, Digits as digits, Text as text, Character as character, Whole as whole}
-use Rattle.def_kernel_form.specs.declared.reader.State.{State}
-use Rattle.def_kernel_form.specs.declared.shape.Kind.{Kind}
-use Rattle.def_kernel_form.specs.declared.shape.Head.{Head}
-use Rattle.def_kernel_form.specs.declared.shape.Head.TheVariants as head
-use Rattle.def_kernel_form.specs.declared.shape.Want.{Want}
-use Rattle.def_kernel_form.specs.declared.shape.Want.TheVariants as want
-use Rattle.def_kernel_form.specs.Reading.{heads, head_of, no_node, node_of, numbers, takes_exit, ends, next_wanted, may_exit, with_exit, add_item, begin, begin_head, close_frame, close, step_behind, step_before, step_heading, step_exiting, open_wanted, begin_wanted, item_begins, item_ends, literal_begins, is_digit, ends_word, is_front_of_head}
+use Rattle.def_kernel.specs.declared.reader.Item.{Item}
+use Rattle.def_kernel.specs.declared.reader.Item.TheVariants.{Node as ANode, Nodes as ANodes}
+use Rattle.def_kernel.specs.declared.reader.Frame.{Frame}
+use Rattle.def_kernel.specs.declared.reader.Mode.{Mode}
+use Rattle.def_kernel.specs.declared.reader.Mode.TheVariants.{Heading as heading, Behind as behind, Before as before, Grouping as grouping, Exiting as exiting, Bare as bare, Negative as negative, Digits as digits, Text as text, Character as character, Whole as whole}
+use Rattle.def_kernel.specs.declared.reader.State.{State}
+use Rattle.def_kernel.specs.declared.shape.Kind.{Kind}
+use Rattle.def_kernel.specs.declared.shape.Head.{Head}
+use Rattle.def_kernel.specs.declared.shape.Head.TheVariants as head
+use Rattle.def_kernel.specs.declared.shape.Want.{Want}
+use Rattle.def_kernel.specs.declared.shape.Want.TheVariants as want
+use Rattle.def_kernel.specs.Reading.{heads, head_of, no_node, node_of, numbers, takes_exit, ends, next_wanted, may_exit, with_exit, add_item, begin, begin_head, close_frame, close, step_behind, step_before, step_heading, step_exiting, open_wanted, begin_wanted, item_begins, item_ends, literal_begins, is_digit, ends_word, is_front_of_head}
 use Rattle.law_kernel_form.specs.Trees.{IsInt}
 use Rattle.law_kernel_form.proofs.Steps.{state, framed, at, closed, closes_in}
 use Rattle.std.proofs.lemmas.List.{append-nil}

@@ -5,17 +5,17 @@ use Rattle.std.specs.Str.{chars, IsUtf8}
 use Rattle.std.proofs.lemmas.Str.{chars-append, IsUtf8-append, chars-nil, IsUtf8-nil}
 use Rattle.std.proofs.lemmas.Option.{same_Some}
 use Rattle.def_kernel.specs.declared.node.Node.{Node}
-use Rattle.def_kernel_form.specs.declared.reader.Item.{Item}
-use Rattle.def_kernel_form.specs.declared.reader.Item.TheVariants.{Node as ANode}
-use Rattle.def_kernel_form.specs.declared.reader.Frame.{Frame}
-use Rattle.def_kernel_form.specs.declared.reader.Mode.{Mode}
-use Rattle.def_kernel_form.specs.declared.reader.Mode.TheVariants.{Heading as heading, Behind as behind, Before as before, Whole as whole}
-use Rattle.def_kernel_form.specs.declared.reader.State.{State}
-use Rattle.def_kernel_form.specs.declared.shape.Head.{Head}
-use Rattle.def_kernel_form.specs.declared.shape.Kind.{Kind}
-use Rattle.def_kernel_form.specs.declared.shape.Want.{Want}
-use Rattle.def_kernel_form.specs.declared.shape.Want.TheVariants.{Tree}
-use Rattle.def_kernel_form.specs.Reading.{step, read_on, finished, add_item, close_in, wanted, takes_exit, open_wanted}
+use Rattle.def_kernel.specs.declared.reader.Item.{Item}
+use Rattle.def_kernel.specs.declared.reader.Item.TheVariants.{Node as ANode}
+use Rattle.def_kernel.specs.declared.reader.Frame.{Frame}
+use Rattle.def_kernel.specs.declared.reader.Mode.{Mode}
+use Rattle.def_kernel.specs.declared.reader.Mode.TheVariants.{Heading as heading, Behind as behind, Before as before, Whole as whole}
+use Rattle.def_kernel.specs.declared.reader.State.{State}
+use Rattle.def_kernel.specs.declared.shape.Head.{Head}
+use Rattle.def_kernel.specs.declared.shape.Kind.{Kind}
+use Rattle.def_kernel.specs.declared.shape.Want.{Want}
+use Rattle.def_kernel.specs.declared.shape.Want.TheVariants.{Tree}
+use Rattle.def_kernel.specs.Reading.{step, read_on, finished, add_item, close_in, wanted, takes_exit, open_wanted}
 
 -- the state behind these characters
 abbrev pub steps : List ℕ → State → Option State

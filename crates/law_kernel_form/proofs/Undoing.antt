@@ -3,10 +3,10 @@ use Rattle.std.proofs.Common.{◌≡◌, ℕ, ◌+◌, ◌≤◌, List, [], leng
 use Rattle.std.specs.Str.{chars}
 use Rattle.std.proofs.lemmas.List.{append-nil}
 use Rattle.def_kernel.specs.declared.node.Node.{Node}
-use Rattle.def_kernel_form.specs.declared.reader.Mode.TheVariants.{Whole as whole}
-use Rattle.def_kernel_form.specs.declared.shape.Kind.TheVariants.{Expression}
+use Rattle.def_kernel.specs.declared.reader.Mode.TheVariants.{Whole as whole}
+use Rattle.def_kernel.specs.declared.shape.Kind.TheVariants.{Expression}
 use Rattle.def_kernel.specs.Forms.{form}
-use Rattle.def_kernel_form.specs.Reading.{read, started}
+use Rattle.def_kernel.specs.Reading.{read, started}
 use Rattle.law_kernel_form.specs.Laws.{ReadingUndoesPrinting, FormOfOneTree}
 use Rattle.law_kernel_form.proofs.Parts.{whole_part}
 use Rattle.law_kernel_form.proofs.Steps.{steps, state, whole_read}

@@ -5,14 +5,14 @@ use Rattle.std.specs.Str.{IsUtf8}
 use Rattle.def_text.specs.Quoting.{quoted}
 use Rattle.def_text.specs.Keywords.{is_identifier, begins_identifier, printed_verb}
 use Rattle.def_kernel.specs.declared.node.Node.{Node}
-use Rattle.def_kernel_form.specs.declared.reader.Item.{Item}
-use Rattle.def_kernel_form.specs.declared.reader.Item.TheVariants.{Word as AWord}
-use Rattle.def_kernel_form.specs.declared.reader.Frame.{Frame}
-use Rattle.def_kernel_form.specs.declared.reader.Mode.{Mode}
-use Rattle.def_kernel_form.specs.declared.reader.Mode.TheVariants.{Before as before, Bare as bare, Text as text}
-use Rattle.def_kernel_form.specs.declared.shape.Head.{Head}
-use Rattle.def_kernel_form.specs.declared.shape.Want.TheVariants.{Verb}
-use Rattle.def_kernel_form.specs.Reading.{step, wanted, takes_exit}
+use Rattle.def_kernel.specs.declared.reader.Item.{Item}
+use Rattle.def_kernel.specs.declared.reader.Item.TheVariants.{Word as AWord}
+use Rattle.def_kernel.specs.declared.reader.Frame.{Frame}
+use Rattle.def_kernel.specs.declared.reader.Mode.{Mode}
+use Rattle.def_kernel.specs.declared.reader.Mode.TheVariants.{Before as before, Bare as bare, Text as text}
+use Rattle.def_kernel.specs.declared.shape.Head.{Head}
+use Rattle.def_kernel.specs.declared.shape.Want.TheVariants.{Verb}
+use Rattle.def_kernel.specs.Reading.{step, wanted, takes_exit}
 use Rattle.law_kernel_form.proofs.Steps.{Goes, state, framed, at}
 use Rattle.law_kernel_form.proofs.Going.{Going, then_word}
 use Rattle.law_kernel_form.proofs.Names.{differs, begins_wanted, bare_item}

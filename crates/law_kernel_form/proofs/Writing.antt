@@ -8,16 +8,16 @@ use Rattle.std.proofs.lemmas.Grind.{flat_map-append}
 use Rattle.def_text.specs.Quoting.{escaped, escaped_character}
 use Rattle.def_text.specs.Keywords.{printed_verb}
 use Rattle.def_kernel.specs.declared.node.Node.{Node}
-use Rattle.def_kernel_form.specs.declared.reader.Item.{Item}
-use Rattle.def_kernel_form.specs.declared.reader.Item.TheVariants.{Node as ANode, Nodes as ANodes, Word as AWord, Literal as ALit}
-use Rattle.def_kernel_form.specs.declared.reader.Frame.{Frame}
-use Rattle.def_kernel_form.specs.declared.reader.Place.{Place as Digits}
-use Rattle.def_kernel_form.specs.declared.reader.Place.TheVariants.{First, Second, Third, Low, High}
-use Rattle.def_kernel_form.specs.declared.reader.Mode.{Mode}
-use Rattle.def_kernel_form.specs.declared.reader.Mode.TheVariants.{Heading as heading, Behind as behind, Exiting as exiting, Bare as bare, Negative as negative, Digits as digits, Text as text, TextEscape as text_escape, TextNumber as text_number, Character as character, CharacterEscape as character_escape, CharacterNumber as character_number, CharacterEnd as character_end, Whole as whole}
-use Rattle.def_kernel_form.specs.declared.reader.State.{State}
-use Rattle.def_kernel_form.specs.declared.shape.Head.{Head}
-use Rattle.def_kernel_form.specs.declared.shape.Head.TheVariants as head
+use Rattle.def_kernel.specs.declared.reader.Item.{Item}
+use Rattle.def_kernel.specs.declared.reader.Item.TheVariants.{Node as ANode, Nodes as ANodes, Word as AWord, Literal as ALit}
+use Rattle.def_kernel.specs.declared.reader.Frame.{Frame}
+use Rattle.def_kernel.specs.declared.reader.Place.{Place as Digits}
+use Rattle.def_kernel.specs.declared.reader.Place.TheVariants.{First, Second, Third, Low, High}
+use Rattle.def_kernel.specs.declared.reader.Mode.{Mode}
+use Rattle.def_kernel.specs.declared.reader.Mode.TheVariants.{Heading as heading, Behind as behind, Exiting as exiting, Bare as bare, Negative as negative, Digits as digits, Text as text, TextEscape as text_escape, TextNumber as text_number, Character as character, CharacterEscape as character_escape, CharacterNumber as character_number, CharacterEnd as character_end, Whole as whole}
+use Rattle.def_kernel.specs.declared.reader.State.{State}
+use Rattle.def_kernel.specs.declared.shape.Head.{Head}
+use Rattle.def_kernel.specs.declared.shape.Head.TheVariants as head
 use Rattle.def_kernel.specs.Forms.{spaced, enclosed, literal_form, form_within}
 use Rattle.law_kernel_form.proofs.Going.{behind_spaces}
 

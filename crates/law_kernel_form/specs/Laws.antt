@@ -3,7 +3,7 @@ use Rattle.std.specs.Prelude.{◌≡◌, ℕ, List, Ok}
 use Rattle.std.specs.Str.{IsUtf8}
 use Rattle.def_kernel.specs.declared.node.Node.{Node}
 use Rattle.def_kernel.specs.Forms.{form}
-use Rattle.def_kernel_form.specs.Reading.{read}
+use Rattle.def_kernel.specs.Reading.{read}
 use Rattle.law_kernel_form.specs.Trees.{IsTree}
 
 -- the form of a tree is read as that tree

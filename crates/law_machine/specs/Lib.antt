@@ -1,4 +1,6 @@
-pub mod Steps
-pub mod Laws
-pub mod Breaks
-pub mod Receiving
+pub mod Natives
+pub mod Machine
+pub mod Run
+pub mod Renamed
+pub mod Costs
+pub mod Halting

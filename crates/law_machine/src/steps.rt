@@ -1,29 +1,29 @@
 //! Laws of every step of a vat: an opening turn, a turn, the arrival of a note, a notice.
 
-ghost use Rattle.law_machine.specs.Laws.{FuelNeverRises};
-ghost use Rattle.law_machine.specs.Laws.{ObjectsStay};
-ghost use Rattle.law_machine.specs.Laws.{ResolversStay};
-ghost use Rattle.law_machine.specs.Laws.{EjectorsStayDead};
-ghost use Rattle.law_machine.specs.Laws.{AuditionsStayDead};
-ghost use Rattle.law_machine.specs.Laws.{ListsStay};
-ghost use Rattle.law_machine.specs.Laws.{GuardsStay};
-ghost use Rattle.law_machine.specs.Laws.{NamesStay};
-ghost use Rattle.law_machine.specs.Laws.{MailsStay};
-ghost use Rattle.law_machine.specs.Laws.{DrawsStay};
-ghost use Rattle.law_machine.specs.Laws.{SettlingsStay};
-ghost use Rattle.law_machine.specs.Laws.{BreakingsStay};
-ghost use Rattle.law_machine.specs.Laws.{NoticesStay};
-ghost use Rattle.law_machine.specs.Laws.{HistoryGrows};
-ghost use Rattle.law_machine.specs.Laws.{StepsAreQuiet};
-ghost use Rattle.law_machine.specs.Breaks.{SettledBreaksStay};
-ghost use Rattle.law_machine.specs.Breaks.{SeveredObjectsStay};
-ghost use Rattle.law_machine.specs.Breaks.{FollowedBreaksStay};
-ghost use Rattle.law_machine.specs.Breaks.{SeveringsStay};
-ghost use Rattle.law_machine.specs.Breaks.{NoticesSever};
-ghost use Rattle.law_machine.specs.Breaks.{NoticesBreak};
-ghost use Rattle.law_machine.specs.Breaks.{FarStaysApart};
-ghost use Rattle.law_machine.specs.Breaks.{RestIsNeeded};
-ghost use Rattle.law_machine.specs.Receiving.{EachReceivingIsTold, NewNotesArrive, NothingNewDoesNothing, ReceivingUndoesNothing};
+ghost use Rattle.law_machine.specs.Machine.Laws.{FuelNeverRises};
+ghost use Rattle.law_machine.specs.Machine.Laws.{ObjectsStay};
+ghost use Rattle.law_machine.specs.Machine.Laws.{ResolversStay};
+ghost use Rattle.law_machine.specs.Machine.Laws.{EjectorsStayDead};
+ghost use Rattle.law_machine.specs.Machine.Laws.{AuditionsStayDead};
+ghost use Rattle.law_machine.specs.Machine.Laws.{ListsStay};
+ghost use Rattle.law_machine.specs.Machine.Laws.{GuardsStay};
+ghost use Rattle.law_machine.specs.Machine.Laws.{NamesStay};
+ghost use Rattle.law_machine.specs.Machine.Laws.{MailsStay};
+ghost use Rattle.law_machine.specs.Machine.Laws.{DrawsStay};
+ghost use Rattle.law_machine.specs.Machine.Laws.{SettlingsStay};
+ghost use Rattle.law_machine.specs.Machine.Laws.{BreakingsStay};
+ghost use Rattle.law_machine.specs.Machine.Laws.{NoticesStay};
+ghost use Rattle.law_machine.specs.Machine.Laws.{HistoryGrows};
+ghost use Rattle.law_machine.specs.Machine.Laws.{StepsAreQuiet};
+ghost use Rattle.law_machine.specs.Machine.Breaks.{SettledBreaksStay};
+ghost use Rattle.law_machine.specs.Machine.Breaks.{SeveredObjectsStay};
+ghost use Rattle.law_machine.specs.Machine.Breaks.{FollowedBreaksStay};
+ghost use Rattle.law_machine.specs.Machine.Breaks.{SeveringsStay};
+ghost use Rattle.law_machine.specs.Machine.Breaks.{NoticesSever};
+ghost use Rattle.law_machine.specs.Machine.Breaks.{NoticesBreak};
+ghost use Rattle.law_machine.specs.Machine.Breaks.{FarStaysApart};
+ghost use Rattle.law_machine.specs.Machine.Breaks.{RestIsNeeded};
+ghost use Rattle.law_machine.specs.Machine.Receiving.{EachReceivingIsTold, NewNotesArrive, NothingNewDoesNothing, ReceivingUndoesNothing};
 
 /// The fuel that is left never rises.
 pub fn fuel_never_rises()

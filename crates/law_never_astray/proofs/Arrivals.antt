@@ -7,12 +7,12 @@ use Rattle.def_machine.specs.Arrive.{arrive, notice}
 use Rattle.def_run.specs.Draws.{draw_word}
 use Rattle.def_run.specs.World as world
 use Rattle.def_run.specs.World.{Script, Entry, Turn, Carry, CutLink, NoticeLink, Event, Link, World, Goes, Stopped, names, names_of, read_note, readied}
-use Rattle.law_machine.specs.Steps.{Receives, Notices, IsQuiet, does}
-use Rattle.law_machine.proofs.StepEnds.{step_ends}
-use Rattle.law_name.specs.Names.{AllOf, NoteOk, names_in}
-use Rattle.law_name.proofs.Facts.{MayBe, Nothing}
-use Rattle.law_name.proofs.Tracked.{tracked, tracked_under}
-use Rattle.law_name.proofs.Run.{Told, LinkStands, Stands, inside, low_at, sound_ready, knows_ready, link_holds, steps_stand, opened_stands}
+use Rattle.law_machine.specs.Machine.Steps.{Receives, Notices, IsQuiet, does}
+use Rattle.law_machine.proofs.Machine.StepEnds.{step_ends}
+use Rattle.law_fate.specs.Name.Names.{AllOf, NoteOk, names_in}
+use Rattle.law_fate.proofs.Name.Facts.{MayBe, Nothing}
+use Rattle.law_fate.proofs.Name.Tracked.{tracked, tracked_under}
+use Rattle.law_fate.proofs.Name.Run.{Told, LinkStands, Stands, inside, low_at, sound_ready, knows_ready, link_holds, steps_stand, opened_stands}
 use Rattle.law_never_astray.specs.Settlings.{NotAstray}
 use Rattle.law_never_astray.specs.Arrivals.{IsThereFor, ArrivalsAreNotAstray}
 use Rattle.law_never_astray.proofs.Awaited.{is_mail, tracked_awaits}

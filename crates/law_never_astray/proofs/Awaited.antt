@@ -4,12 +4,12 @@ use Rattle.std.specs.Prelude.{slice_get}
 use Rattle.def_machine.specs.Values.{Name, Root, Object, Promise, Answer, Gift, Sent, same_name, same_reference, naming, name_of, answer_of}
 use Rattle.def_machine.specs.State.{Message, Known, Vat, WhereSome}
 use Rattle.def_machine.specs.Refs.{entry_of}
-use Rattle.law_name.specs.Names.{Bit, Named, Mail, At, Entered, AllOf, IsAmong, names_in, IsKnownIn, IsHad, IsEventual, IsMessageName, EntryOk, MessageOk, NameOk, KnownOk}
-use Rattle.law_name.proofs.Facts.{all_map}
-use Rattle.law_name.proofs.Among.{all_among}
-use Rattle.law_name.proofs.SameNames.{reference_self, false_true}
-use Rattle.law_name.proofs.Care.{Sound}
-use Rattle.law_name.proofs.Tracked.{Marked, Ok, tracked}
+use Rattle.law_fate.specs.Name.Names.{Bit, Named, Mail, At, Entered, AllOf, IsAmong, names_in, IsKnownIn, IsHad, IsEventual, IsMessageName, EntryOk, MessageOk, NameOk, KnownOk}
+use Rattle.law_fate.proofs.Name.Facts.{all_map}
+use Rattle.law_fate.proofs.Name.Among.{all_among}
+use Rattle.law_fate.proofs.Name.SameNames.{reference_self, false_true}
+use Rattle.law_fate.proofs.Name.Care.{Sound}
+use Rattle.law_fate.proofs.Name.Tracked.{Marked, Ok, tracked}
 use Rattle.law_never_astray.specs.Settlings.{IsNone, IsAwaited, IsAsked, EntryWaits, AllAwaited}
 
 -- the names of messages

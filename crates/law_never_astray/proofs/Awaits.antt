@@ -8,9 +8,9 @@ use Rattle.def_machine.specs.Refs.{settle, resolve, send, send_only, react}
 use Rattle.def_machine.specs.Scopes.{ended}
 use Rattle.def_machine.specs.Calls.{leave, leaving, new_ejector}
 use Rattle.def_kernel.specs.declared.node.Node.{Node}
-use Rattle.law_machine.proofs.Walks.{Property, Holds, IsClosed, InRefs, InRefsUnder, InSettling, InSending, walk, walk_then}
-use Rattle.law_machine.proofs.RefsWalk.{settles_by_lines, walk_settle, walk_resolve, walk_send, walk_send_only, walk_react}
-use Rattle.law_name.specs.Names.{IsAmong}
+use Rattle.law_machine.proofs.Machine.Walks.{Property, Holds, IsClosed, InRefs, InRefsUnder, InSettling, InSending, walk, walk_then}
+use Rattle.law_machine.proofs.Machine.RefsWalk.{settles_by_lines, walk_settle, walk_resolve, walk_send, walk_send_only, walk_react}
+use Rattle.law_fate.specs.Name.Names.{IsAmong}
 
 -- each ejector that is live is one of these
 abbrev pub Awaits : {N : Type 0} → List ℕ → List (Thing N) → Type 0

@@ -13,8 +13,8 @@ use Rattle.def_machine.specs.Eval as eval
 use Rattle.def_machine.specs.Scopes.{Answer, Evaluator, Caller, Body, Case, AuditionAsk, GetsForm, NoAuditionAsk, ResolverAsk, Resolves}
 use Rattle.def_kernel.specs.declared.node.Node.{Node}
 use Rattle.def_kernel.specs.declared.node.Node.TheVariants.{Escape, MatchBind, Any}
-use Rattle.law_machine.proofs.Walks.{walk_bind, walk_then}
-use Rattle.law_name.specs.Names.{IsAmong}
+use Rattle.law_machine.proofs.Machine.Walks.{walk_bind, walk_then}
+use Rattle.law_fate.specs.Name.Names.{IsAmong}
 use Rattle.law_never_astray.proofs.Awaits.{Awaited, AwaitedBy, awaited_closed, awaits, await_ending, await_eject, await_look_thing, await_escape, await_break, await_resolve, await_send, await_send_only, await_react, await_ended, await_leaving}
 
 -- a call does, whatever is called

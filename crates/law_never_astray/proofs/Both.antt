@@ -3,9 +3,9 @@ use Rattle.std.proofs.Common.{List, [], ◌∷◌, Option, Some, None}
 use Rattle.def_machine.specs.Values.{Value, Ref, Naming}
 use Rattle.def_machine.specs.State.{Bound, Fixed, Slot, Binding, Cell, Freedom, IsFinal, Thing, Made, Ejector, Audition, Resolver, Message, Standing, Unsettled, Settled, Known, GiftEntry, Vat, WhereSome}
 use Rattle.def_machine.specs.Refs.{Place, Mine, Away, spotted}
-use Rattle.law_name.specs.Names.{Bit, AllOf, ValueOk, ValuesOk, NameOk, MessageOk, StandingOk, KnownOk, CellOk, FreedomOk, BoundOk, NounOk, ThingOk, GiftOk, Parts}
-use Rattle.law_name.proofs.Facts.{PlaceOk, IsChange, put_up, holds_up}
-use Rattle.law_name.proofs.Care.{Care, Under, Makes}
+use Rattle.law_fate.specs.Name.Names.{Bit, AllOf, ValueOk, ValuesOk, NameOk, MessageOk, StandingOk, KnownOk, CellOk, FreedomOk, BoundOk, NounOk, ThingOk, GiftOk, Parts}
+use Rattle.law_fate.proofs.Name.Facts.{PlaceOk, IsChange, put_up, holds_up}
+use Rattle.law_fate.proofs.Name.Care.{Care, Under, Makes}
 
 -- ---- what holds of all names in two ways
 

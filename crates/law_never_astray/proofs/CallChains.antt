@@ -9,9 +9,9 @@ use Rattle.def_machine.specs.Scopes as scopes
 use Rattle.def_machine.specs.Scopes.{Evaluator, Caller}
 use Rattle.def_machine.specs.Calls as calls
 use Rattle.def_kernel.specs.declared.node.Node.{Node}
-use Rattle.law_name.specs.Names.{AllOf}
-use Rattle.law_name.proofs.Facts.{all_map}
-use Rattle.law_natives.proofs.Natives.{entry_has}
+use Rattle.law_fate.specs.Name.Names.{AllOf}
+use Rattle.law_fate.proofs.Name.Facts.{all_map}
+use Rattle.law_machine.proofs.Natives.Natives.{entry_has}
 use Rattle.law_never_astray.specs.Levels.{EndsIn, ListsEnd, call_by, CallsEnd}
 use Rattle.law_never_astray.proofs.CallsAlike.{Alike, Agree, AgreeOn, ReplyAlike, AuditionAlike, AskedAlike, Suits, CallsAlike, each_reply, alike_call}
 use Rattle.law_never_astray.proofs.CallsSpoken.{runs_suit, pairs_suit, audits_suit, ones_suit}

@@ -7,10 +7,10 @@ use Rattle.def_machine.specs.State.{Bound, Fixed, Slot, Binding, Scope}
 use Rattle.def_machine.specs.Free.{BoundNoun, same_words, has_words, Walk, walk, walk_all, free_nouns}
 use Rattle.def_machine.specs.Scopes.{bound_in, captures}
 use Rattle.def_kernel.specs.declared.node.Node.{Node}
-use Rattle.def_kernel_form.specs.declared.shape.Kind.TheVariants.{Member}
-use Rattle.ev_scope.specs.declared.scope.Binding.{Binding as Named}
-use Rattle.ev_scope.specs.Scopes as static
-use Rattle.ev_scope.specs.Scopes.{bound, is_bound_here, with_name_here}
+use Rattle.def_kernel.specs.declared.shape.Kind.TheVariants.{Member}
+use Rattle.ev_reader.specs.declared.scope.Binding.{Binding as Named}
+use Rattle.ev_reader.specs.Scopes as static
+use Rattle.ev_reader.specs.Scopes.{bound, is_bound_here, with_name_here}
 use Rattle.law_never_astray.specs.Scoped.{Scopes, AllScoped}
 use Rattle.law_never_astray.specs.Formed.{AllOf, Formed}
 use Rattle.law_never_astray.specs.Covered.{Stands, Covers}

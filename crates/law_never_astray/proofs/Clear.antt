@@ -5,11 +5,11 @@ use Rattle.def_machine.specs.State.{Message, Standing, Viewed, Settled, Known, C
 use Rattle.def_machine.specs.Refs as refs
 use Rattle.def_machine.specs.Refs.{Place, Near, Mine, Away, Gone}
 use Rattle.def_machine.specs.Arrive as arrive
-use Rattle.law_machine.proofs.Walks.{where_some}
-use Rattle.law_name.proofs.Facts.{Fact, Also, IsName, IsMail, IsVat, IsDraw, IsEntry, IsKnown, AreKnown, AreGifts, nothing, Holds}
-use Rattle.law_name.proofs.Care.{Care, Under, Sound, Gets, Ends, Fine, rise, fine_tell, fine_mark, fine_open, fine_to_tell, come_answer, got, got_left}
-use Rattle.law_name.proofs.Looks.{look_number, look_known, look_gifts, each_known}
-use Rattle.law_name.proofs.CareArrive as care
+use Rattle.law_machine.proofs.Machine.Walks.{where_some}
+use Rattle.law_fate.proofs.Name.Facts.{Fact, Also, IsName, IsMail, IsVat, IsDraw, IsEntry, IsKnown, AreKnown, AreGifts, nothing, Holds}
+use Rattle.law_fate.proofs.Name.Care.{Care, Under, Sound, Gets, Ends, Fine, rise, fine_tell, fine_mark, fine_open, fine_to_tell, come_answer, got, got_left}
+use Rattle.law_fate.proofs.Name.Looks.{look_number, look_known, look_gifts, each_known}
+use Rattle.law_fate.proofs.Name.CareArrive as care
 use Rattle.law_never_astray.specs.Settlings.{NotAstray, AllAwaited}
 use Rattle.law_never_astray.proofs.Counts.{open_zero}
 use Rattle.law_never_astray.proofs.Sure as sure

@@ -3,7 +3,7 @@ use Rattle.std.proofs.Common.{◌≡◌, ℕ, zero, suc, ◌+◌, ◌≤◌, Boo
 use Rattle.def_machine.specs.Values.{Value, Naming}
 use Rattle.def_machine.specs.State.{Standing, Settled, Known, Change, Hold, Settle, with_change, changed, changed_to, unless_settled}
 use Rattle.def_machine.specs.Refs.{entry_of}
-use Rattle.law_name.specs.Names.{AllOf}
+use Rattle.law_fate.specs.Name.Names.{AllOf}
 
 -- one, where it has not settled
 unfoldable pub open_one : {N : Type 0} → Standing N → ℕ

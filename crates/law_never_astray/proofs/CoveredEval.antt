@@ -8,8 +8,8 @@ use Rattle.def_machine.specs.Calls as calls
 use Rattle.def_machine.specs.Eval as eval
 use Rattle.def_machine.specs.Scopes.{Answer, Answers, Evaluator, Caller, Body, Case, AuditionAsk, GetsForm, GetsGuard, Asks, NoAuditionAsk, members_of, method_of, matchers_of}
 use Rattle.def_kernel.specs.declared.node.Node.{Node}
-use Rattle.def_kernel_form.specs.declared.shape.Kind.{Kind}
-use Rattle.def_kernel_form.specs.declared.shape.Kind.TheVariants.{Expression, Pattern, Member}
+use Rattle.def_kernel.specs.declared.shape.Kind.{Kind}
+use Rattle.def_kernel.specs.declared.shape.Kind.TheVariants.{Expression, Pattern, Member}
 use Rattle.law_never_astray.specs.Scoped.{Scopes, Scoped, AllScoped, no_more, one_more}
 use Rattle.law_never_astray.specs.Formed.{AllOf, Formed}
 use Rattle.law_never_astray.specs.Covered.{Covers, ThingCarries}

@@ -7,11 +7,11 @@ use Rattle.def_machine.specs.Scopes.{Evaluator, bound_in}
 use Rattle.def_machine.specs.Calls as calls
 use Rattle.def_machine.specs.Eval.{evaluator}
 use Rattle.def_kernel.specs.declared.node.Node.{Node}
-use Rattle.def_kernel_form.specs.declared.shape.Kind.TheVariants.{Expression}
+use Rattle.def_kernel.specs.declared.shape.Kind.TheVariants.{Expression}
 use Rattle.law_kernel_form.specs.Trees.{IsTree}
-use Rattle.ev_scope.specs.declared.scope.Binding.{Binding as Named}
-use Rattle.ev_scope.specs.Scopes as static
-use Rattle.ev_scope.specs.Scopes.{bound, with_name, with_given, first_fault}
+use Rattle.ev_reader.specs.declared.scope.Binding.{Binding as Named}
+use Rattle.ev_reader.specs.Scopes as static
+use Rattle.ev_reader.specs.Scopes.{bound, with_name, with_given, first_fault}
 use Rattle.law_never_astray.proofs.AcceptedTrees.{accepted_scoped}
 use Rattle.law_never_astray.specs.Formed.{AllOf}
 use Rattle.law_never_astray.specs.Covered.{Stands, Covers}

@@ -5,14 +5,14 @@ use Rattle.def_machine.specs.Values.{Words, Value, Name, Naming}
 use Rattle.def_machine.specs.State.{Binding, Message, Vat, Gives, Act}
 use Rattle.def_machine.specs.Eval as eval
 use Rattle.def_kernel.specs.declared.node.Node.{Node}
-use Rattle.law_machine.specs.Steps.{Step, Opens as Starts, Takes, Receives, Notices, does}
+use Rattle.law_machine.specs.Machine.Steps.{Step, Opens as Starts, Takes, Receives, Notices, does}
 use Rattle.def_run.specs.World as world
 use Rattle.def_run.specs.World.{Script, Program, World, Goes, CutLink, names, tree_at, readied, put_at}
-use Rattle.law_run.specs.Moves.{Moved, Still, Severs, Drops, Steps, Arrives, Hears, Tells, Does, Nobody, AnyNotice, IsReached, went}
-use Rattle.law_run.proofs.Honest.{honest_reached, lifted}
-use Rattle.law_run.proofs.Told.{moves_told}
+use Rattle.law_machine.specs.Run.Moves.{Moved, Still, Severs, Drops, Steps, Arrives, Hears, Tells, Does, Nobody, AnyNotice, IsReached, went}
+use Rattle.law_machine.proofs.Run.Honest.{honest_reached, lifted}
+use Rattle.law_machine.proofs.Run.Told.{moves_told}
 use Rattle.law_kernel_form.specs.Trees.{IsTree}
-use Rattle.ev_scope.specs.Scopes.{first_fault}
+use Rattle.ev_reader.specs.Scopes.{first_fault}
 use Rattle.law_never_astray.specs.Covered.{Carries}
 use Rattle.law_never_astray.specs.CoveredLaws.{AreGiven, EndsCarrying}
 use Rattle.law_never_astray.specs.CoveredRuns.{IsAccepted, AllCarry, AllCarryInRuns}

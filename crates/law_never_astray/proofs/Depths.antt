@@ -6,8 +6,8 @@ use Rattle.def_machine.specs.Calls as calls
 use Rattle.def_machine.specs.Eval as eval
 use Rattle.def_machine.specs.Scopes.{Evaluator, Caller}
 use Rattle.def_kernel.specs.declared.node.Node.{Node}
-use Rattle.law_name.proofs.Facts.{Fact, IsValue}
-use Rattle.law_name.proofs.Care.{Care}
+use Rattle.law_fate.proofs.Name.Facts.{Fact, IsValue}
+use Rattle.law_fate.proofs.Name.Care.{Care}
 use Rattle.law_never_astray.proofs.Leads.{Nothing}
 use Rattle.law_never_astray.specs.Levels.{ListsEnd, LevelsSuffice, call_by}
 use Rattle.law_never_astray.proofs.Good.{Good, Goes, good_stop, good_spend, good_look, go_unit, on_number}

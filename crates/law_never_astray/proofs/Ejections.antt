@@ -4,10 +4,10 @@ use Rattle.std.specs.Prelude.{slice_get}
 use Rattle.def_machine.specs.Values.{Naming, naming, numbering}
 use Rattle.def_machine.specs.State.{Thing, Ejector, Done, Ejects, Stops}
 use Rattle.def_run.specs.World.{Script, World, names, readied}
-use Rattle.law_name.proofs.SameNames.{false_true}
-use Rattle.law_connected.specs.Liveness.{is_live, live_at}
-use Rattle.law_connected.specs.Runs.{NothingLive}
-use Rattle.law_connected.proofs.RunDies.{opened_still, run_still}
+use Rattle.law_fate.proofs.Name.SameNames.{false_true}
+use Rattle.law_uses.specs.Connectivity.Liveness.{is_live, live_at}
+use Rattle.law_uses.specs.Connectivity.Runs.{NothingLive}
+use Rattle.law_uses.proofs.Connectivity.RunDies.{opened_still, run_still}
 use Rattle.law_never_astray.specs.Ejections.{NoneIsLive, IsAwaited, EndsAwaited, EjectionsAreAwaited, EndsAwaitedIn, EjectionsAreAwaitedInRuns}
 use Rattle.law_never_astray.proofs.Awaits as awaits
 use Rattle.law_never_astray.proofs.AwaitsEval.{await_turn_value, good_evaluator}

@@ -9,13 +9,13 @@ use Rattle.def_machine.specs.Eval as eval
 use Rattle.def_machine.specs.Native as native
 use Rattle.def_machine.specs.Scopes.{Answer, Answers, Evaluator, Caller, Body, Case, members_of, method_of, matchers_of}
 use Rattle.def_kernel.specs.declared.node.Node.{Node}
-use Rattle.def_kernel_form.specs.declared.shape.Kind.TheVariants.{Expression, Pattern, Member}
+use Rattle.def_kernel.specs.declared.shape.Kind.TheVariants.{Expression, Pattern, Member}
 use Rattle.law_never_astray.specs.Scoped.{Scopes, Scoped, AllScoped, no_more, one_more}
-use Rattle.law_name.specs.Names.{Named}
-use Rattle.law_name.proofs.Facts.{Fact, Also, IsName, IsValue, AreValues, AreNouns, IsThing, scope, answer, answers}
-use Rattle.law_name.proofs.Care.{Care, Gets, got, got_left, got_right, got_itself, got_both, got_null, got_text, got_none, got_more, got_ref, told_called}
-use Rattle.law_name.proofs.Looks.{look_follow}
-use Rattle.law_name.proofs.EvalFacts.{got_asked, got_audition_ask, got_resolver_ask, got_ejector_ask}
+use Rattle.law_fate.specs.Name.Names.{Named}
+use Rattle.law_fate.proofs.Name.Facts.{Fact, Also, IsName, IsValue, AreValues, AreNouns, IsThing, scope, answer, answers}
+use Rattle.law_fate.proofs.Name.Care.{Care, Gets, got, got_left, got_right, got_itself, got_both, got_null, got_text, got_none, got_more, got_ref, told_called}
+use Rattle.law_fate.proofs.Name.Looks.{look_follow}
+use Rattle.law_fate.proofs.Name.EvalFacts.{got_asked, got_audition_ask, got_resolver_ask, got_ejector_ask}
 use Rattle.law_never_astray.specs.Formed.{AllOf, Formed}
 use Rattle.law_never_astray.specs.Covered.{Covers, ThingCarries}
 use Rattle.law_never_astray.proofs.Statics.{IsOpen}

@@ -4,30 +4,30 @@ use Rattle.std.specs.Prelude.{slice_get}
 use Rattle.def_machine.specs.State.{Stop, Astray, is_in}
 use Rattle.def_run.specs.World as world
 use Rattle.def_run.specs.World.{Script, Program, Entry, Turn, Carry, CutLink, NoticeLink, Link, World, Run, Goes, Stopped, names}
-use Rattle.law_name.specs.Runs.{KnowsOnce}
-use Rattle.law_name.proofs.Laws.{names_made, names_known, next_new, notes_made}
-use Rattle.law_name.proofs.Run.{steps_stand, opened_stands}
-use Rattle.law_fate.specs.Wellness.{WorldWell}
-use Rattle.law_fate.specs.Lasting.{Each, NoteWell}
-use Rattle.law_fate.specs.FateRuns.{Reached}
-use Rattle.law_fate.proofs.RunWell.{runs_stay_well}
+use Rattle.law_fate.specs.Name.Runs.{KnowsOnce}
+use Rattle.law_fate.proofs.Name.Laws.{names_made, names_known, next_new, notes_made}
+use Rattle.law_fate.proofs.Name.Run.{steps_stand, opened_stands}
+use Rattle.law_fate.specs.Fates.Wellness.{WorldWell}
+use Rattle.law_fate.specs.Fates.Lasting.{Each, NoteWell}
+use Rattle.law_fate.specs.Fates.FateRuns.{Reached}
+use Rattle.law_fate.proofs.Fates.RunWell.{runs_stay_well}
 use Rattle.law_frozen.proofs.RunSound.{WorldSound, step_sound, open_sound, begins_sound}
-use Rattle.law_reference.specs.Cuts.{NoticesFollow, NoticesFollowCuts}
-use Rattle.law_reference.proofs.HostsRuns.{hosts_rest_in_runs}
-use Rattle.law_reference.proofs.NoticedRuns.{noticed_links_cut}
-use Rattle.law_reference.proofs.NotesRuns.{notes_name_ends}
-use Rattle.law_reference.proofs.NotesSpared.{notes_spared}
-use Rattle.law_reference.proofs.ViewsRuns.{views_wait_in_runs}
-use Rattle.law_reference.proofs.VatStep.{RingsBy, Rings}
-use Rattle.law_reference.proofs.Around.{Around, each_all}
-use Rattle.law_reference.proofs.StepRings.{word, NoDraws, step_rings, open_rings, weaken_all}
+use Rattle.law_reference.specs.Reference.Cuts.{NoticesFollow, NoticesFollowCuts}
+use Rattle.law_reference.proofs.Reference.HostsRuns.{hosts_rest_in_runs}
+use Rattle.law_reference.proofs.Reference.NoticedRuns.{noticed_links_cut}
+use Rattle.law_reference.proofs.Reference.NotesRuns.{notes_name_ends}
+use Rattle.law_reference.proofs.Reference.NotesSpared.{notes_spared}
+use Rattle.law_reference.proofs.Reference.ViewsRuns.{views_wait_in_runs}
+use Rattle.law_reference.proofs.Reference.VatStep.{RingsBy, Rings}
+use Rattle.law_reference.proofs.Reference.Around.{Around, each_all}
+use Rattle.law_reference.proofs.Reference.StepRings.{word, NoDraws, step_rings, open_rings, weaken_all}
 use Rattle.law_never_astray.proofs.ThingsWorlds.{things_are_there_in_runs}
 use Rattle.law_never_astray.specs.CoveredRuns.{IsAccepted}
 use Rattle.law_never_astray.proofs.CoveredWorlds.{all_carry_in_runs}
-use Rattle.law_connected.proofs.RunDies.{opened_still, run_still}
+use Rattle.law_uses.proofs.Connectivity.RunDies.{opened_still, run_still}
 use Rattle.law_never_astray.proofs.Arrivals.{arrivals_are_not_astray}
 use Rattle.law_never_astray.specs.Runs.{NoticersAreThere, NeverAstray}
-use Rattle.law_reference.proofs.RingStart.{begins_by}
+use Rattle.law_reference.proofs.Reference.RingStart.{begins_by}
 use Rattle.law_never_astray.proofs.Stops.{turn_none, open_none}
 use Rattle.law_never_astray.proofs.Steps.{Facts, Lasts, begins_last, some_there, entry_lasts, opening_lasts, turn_clear, open_clear}
 

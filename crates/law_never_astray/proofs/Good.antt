@@ -6,10 +6,10 @@ use Rattle.def_machine.specs.State.{Cell, Thing, Message, Known, Happened, Vat, 
 use Rattle.def_machine.specs.Refs.{Place}
 use Rattle.def_machine.specs.Native.{Reply}
 use Rattle.def_kernel.specs.declared.node.Node.{Node}
-use Rattle.law_name.specs.Names.{ThingOk}
-use Rattle.law_name.proofs.Facts.{Fact, Also, IsName, IsValue, AreValues, IsPlace, IsThing, MayValue, MayCell, MayThing, IsReply, MayName, nothing, Holds}
-use Rattle.law_name.proofs.Care.{Care, Sound, Gets, Ends, Fine, widen, rise, fine_give, fine_throw, fine_eject, fine_look, fine_spend, fine_activation, fine_thing, fine_kill, fine_slot, fine_write, fine_list}
-use Rattle.law_name.proofs.Looks.{get_all}
+use Rattle.law_fate.specs.Name.Names.{ThingOk}
+use Rattle.law_fate.proofs.Name.Facts.{Fact, Also, IsName, IsValue, AreValues, IsPlace, IsThing, MayValue, MayCell, MayThing, IsReply, MayName, nothing, Holds}
+use Rattle.law_fate.proofs.Name.Care.{Care, Sound, Gets, Ends, Fine, widen, rise, fine_give, fine_throw, fine_eject, fine_look, fine_spend, fine_activation, fine_thing, fine_kill, fine_slot, fine_write, fine_list}
+use Rattle.law_fate.proofs.Name.Looks.{get_all}
 use Rattle.law_never_astray.specs.Covered.{ThingCarries}
 use Rattle.law_never_astray.proofs.Leads as covered
 use Rattle.law_never_astray.proofs.Leads.{AtStops, Leads, Kept, Nothing, ends_less, all_at, slot_there, lead_give, lead_gives, lead_throw, lead_eject, lead_look, lead_tell, lead_spend, lead_activation, lead_thing, lead_kill, lead_slot, lead_write, lead_list}

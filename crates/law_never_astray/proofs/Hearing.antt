@@ -7,12 +7,12 @@ use Rattle.def_machine.specs.Arrive as arrive
 use Rattle.def_machine.specs.Arrive.{Incoming, Old, New}
 use Rattle.def_run.specs.World as world
 use Rattle.def_run.specs.World.{read_name, known_after}
-use Rattle.law_name.specs.Names.{Named, Drew, At, Gave, WasDrawn, PassedOk, PassedsOk, NoteOk}
-use Rattle.law_name.proofs.Facts.{Fact, Nothing, Also, IsName, IsMail, IsDraw, IsGiven, IsVat, IsValue, AreValues, nothing, Holds}
-use Rattle.law_name.proofs.Care.{Care, Under, Sound, Gets, come_gift, got, got_left}
-use Rattle.law_name.proofs.CareArrive.{Gifts, gifts_by, fine_ask_for}
-use Rattle.law_name.proofs.Tracked.{Marked, tracked, tracked_under, tracked_gives}
-use Rattle.law_name.proofs.Learn.{Was, Good, Knows, Learned, Learns, rise, learn, learn_all, message_learned}
+use Rattle.law_fate.specs.Name.Names.{Named, Drew, At, Gave, WasDrawn, PassedOk, PassedsOk, NoteOk}
+use Rattle.law_fate.proofs.Name.Facts.{Fact, Nothing, Also, IsName, IsMail, IsDraw, IsGiven, IsVat, IsValue, AreValues, nothing, Holds}
+use Rattle.law_fate.proofs.Name.Care.{Care, Under, Sound, Gets, come_gift, got, got_left}
+use Rattle.law_fate.proofs.Name.CareArrive.{Gifts, gifts_by, fine_ask_for}
+use Rattle.law_fate.proofs.Name.Tracked.{Marked, tracked, tracked_under, tracked_gives}
+use Rattle.law_fate.proofs.Name.Learn.{Was, Good, Knows, Learned, Learns, rise, learn, learn_all, message_learned}
 use Rattle.law_never_astray.specs.Settlings.{NotAstray, AllAwaited}
 use Rattle.law_never_astray.proofs.Clear as clear
 use Rattle.law_never_astray.proofs.Clear.{Firm, firm_bind, firm_give, firm_come, firm_mail}

@@ -11,12 +11,12 @@ use Rattle.def_machine.specs.Perform as perform
 use Rattle.def_machine.specs.Calls as calls
 use Rattle.def_machine.specs.Scopes.{Caller, AuditionAsk, GetsForm, GetsGuard, Asks, NoAuditionAsk, ResolverAsk, Resolves, Smashes, NoResolverAsk}
 use Rattle.def_kernel.specs.declared.node.Node.{Node}
-use Rattle.law_name.proofs.Facts.{Fact, Also, IsName, IsValue, AreValues, IsThing, IsView, IsPlace, MayValue, IsReply, IsAsked, IsAuditionAsk, IsResolverAsk, nothing}
-use Rattle.law_name.proofs.Care.{Care, Gets, Fine, gets, got, got_left, got_ejector, got_audition, got_resolver, told_called, told_back, told_thrown, told_left, told_got, told_slot_made, told_slot_read, told_slot_wrote, told_list_made, told_ejector_made, told_audition_made, told_promise_made, told_object_made, told_finished, told_threw}
-use Rattle.law_name.proofs.Looks.{looks, look_place, look_place_of, follow_ok}
-use Rattle.law_name.proofs.EvalFacts.{knows, got_no_lists}
-use Rattle.law_name.proofs.Serves.{Serves, below_end}
-use Rattle.law_name.proofs.CareEval.{fine_build}
+use Rattle.law_fate.proofs.Name.Facts.{Fact, Also, IsName, IsValue, AreValues, IsThing, IsView, IsPlace, MayValue, IsReply, IsAsked, IsAuditionAsk, IsResolverAsk, nothing}
+use Rattle.law_fate.proofs.Name.Care.{Care, Gets, Fine, gets, got, got_left, got_ejector, got_audition, got_resolver, told_called, told_back, told_thrown, told_left, told_got, told_slot_made, told_slot_read, told_slot_wrote, told_list_made, told_ejector_made, told_audition_made, told_promise_made, told_object_made, told_finished, told_threw}
+use Rattle.law_fate.proofs.Name.Looks.{looks, look_place, look_place_of, follow_ok}
+use Rattle.law_fate.proofs.Name.EvalFacts.{knows, got_no_lists}
+use Rattle.law_fate.proofs.Name.Serves.{Serves, below_end}
+use Rattle.law_fate.proofs.Name.CareEval.{fine_build}
 use Rattle.law_never_astray.specs.Covered.{ThingCarries}
 use Rattle.law_never_astray.proofs.Leads.{Nothing}
 use Rattle.law_never_astray.proofs.CoveredNatives.{IsSeen}

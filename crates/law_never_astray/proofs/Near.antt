@@ -4,8 +4,8 @@ use Rattle.def_machine.specs.Values.{Words, Value, Null, Broken, Ref, Naming, Co
 use Rattle.def_machine.specs.State.{Message, Standing, Settled, Known, Change, Hold, Wait, WaitOn, See, React, ToTell, Settle, Passed, Passeds, Plain, AGift, Many, NoMore, More, Sends, Vat, Act, ◌>>=◌, ◌>>◌, and_then, each, give, look, tell, enqueue, with_change, changed, changed_to, unless_settled, alter, come, mail, draw, draws, new_promise, new_message, new_lone_message, begun}
 use Rattle.def_machine.specs.Refs as refs
 use Rattle.def_machine.specs.Refs.{Place, Near, Mine, Away, Gone}
-use Rattle.law_name.specs.Names.{AllOf}
-use Rattle.law_name.proofs.Facts.{MayBe, all_end}
+use Rattle.law_fate.specs.Name.Names.{AllOf}
+use Rattle.law_fate.proofs.Name.Facts.{MayBe, all_end}
 use Rattle.law_never_astray.specs.Near.{IsNear, TargetNear, ReactsNear, TargetsNear}
 use Rattle.law_never_astray.proofs.Rests.{Quiet, RestsAfter, quiets, quiet_bind, quiet_then, quiet_some, quiet_give, quiet_tell, quiet_each}
 

@@ -2,7 +2,7 @@
 use Rattle.std.proofs.Common.{◌≡◌, ℕ, zero, suc, List, [], ◌∷◌, ◌++◌, refl, sym, subst, length, ◌+◌, arith, append-nil}
 use Rattle.def_run.specs.World as world
 use Rattle.def_run.specs.World.{Script, Entry, World, Goes}
-use Rattle.law_name.specs.Runs.{KnowsOnce}
+use Rattle.law_fate.specs.Name.Runs.{KnowsOnce}
 use Rattle.law_never_astray.specs.CoveredRuns.{IsAccepted}
 use Rattle.law_never_astray.specs.Near.{TargetsAreNearInRuns}
 use Rattle.law_never_astray.proofs.Steps.{Lasts, entry_lasts}

@@ -9,18 +9,18 @@ use Rattle.def_machine.specs.Native.{list_at}
 use Rattle.def_machine.specs.Calls as calls
 use Rattle.def_machine.specs.Eval.{evaluator}
 use Rattle.def_kernel.specs.declared.node.Node.{Node}
-use Rattle.law_machine.specs.Steps.{After}
-use Rattle.law_machine.specs.Laws.{SameLists, SettledStays}
-use Rattle.law_machine.proofs.Keeps.{Keeps, KeepsBy, IsKept, IsKeptUnder, keeps_closed, keeps_ends}
-use Rattle.law_machine.proofs.EvalKeeps.{keeps_in_eval, keeps_in_nodes, good_evaluator}
-use Rattle.law_machine.proofs.EvalWalk as walk
-use Rattle.law_machine.proofs.StepLaws.{lists_law, lists_names, settled_law, settled_names, settled_entry, standing_found}
-use Rattle.law_name.specs.Names.{AllOf}
+use Rattle.law_machine.specs.Machine.Steps.{After}
+use Rattle.law_machine.specs.Machine.Laws.{SameLists, SettledStays}
+use Rattle.law_machine.proofs.Machine.Keeps.{Keeps, KeepsBy, IsKept, IsKeptUnder, keeps_closed, keeps_ends}
+use Rattle.law_machine.proofs.Machine.EvalKeeps.{keeps_in_eval, keeps_in_nodes, good_evaluator}
+use Rattle.law_machine.proofs.Machine.EvalWalk as walk
+use Rattle.law_machine.proofs.Machine.StepLaws.{lists_law, lists_names, settled_law, settled_names, settled_entry, standing_found}
+use Rattle.law_fate.specs.Name.Names.{AllOf}
 use Rattle.law_frozen.specs.Frozen as frozen
 use Rattle.law_frozen.specs.Frozen.{IsAmong}
-use Rattle.law_reference.specs.Views.{IsOpen, ViewsWait}
-use Rattle.law_reference.specs.Lists.{Leads, LeadsIn, NoListLeadsBack, LeadingEndsIn}
-use Rattle.law_reference.proofs.ListLaws.{following_suffices, ringless_lists_end}
+use Rattle.law_reference.specs.Reference.Views.{IsOpen, ViewsWait}
+use Rattle.law_reference.specs.Reference.Lists.{Leads, LeadsIn, NoListLeadsBack, LeadingEndsIn}
+use Rattle.law_reference.proofs.Reference.ListLaws.{following_suffices, ringless_lists_end}
 use Rattle.law_never_astray.specs.Levels.{EndsIn, ListsEnd}
 
 -- ---- what a call keeps, however it ends

@@ -3,10 +3,10 @@ use Rattle.std.proofs.Common.{◌≡◌, ℕ, zero, suc, Bool, true, false, not,
 use Rattle.std.specs.Prelude.{slice_get, is_some}
 use Rattle.def_kernel.specs.declared.node.Node.{Node}
 use Rattle.def_kernel.specs.declared.node.Node.TheVariants.{Lit, Noun, Set, Def, Call, Sequence, If, Escape, Try, Finally, Hide, MatchBind, Object, Method, Matcher, Final, Var, Any, ListPattern, Via}
-use Rattle.ev_scope.specs.declared.fault.ScopeFault.{ScopeFault}
-use Rattle.ev_scope.specs.declared.fault.ScopeFault.TheVariants.{Unbound, AssignToFinal}
-use Rattle.ev_scope.specs.declared.scan.Scan.{Scan}
-use Rattle.ev_scope.specs.Scopes.{bound, is_bound_here, first, use_of, assignment_of, is_clean, fault_behind, binds, enter, inside, Scanner, all, perhaps, catch, visit, visit_found, scan}
+use Rattle.ev_reader.specs.declared.scope_fault.ScopeFault.{ScopeFault}
+use Rattle.ev_reader.specs.declared.scope_fault.ScopeFault.TheVariants.{Unbound, AssignToFinal}
+use Rattle.ev_reader.specs.declared.scan.Scan.{Scan}
+use Rattle.ev_reader.specs.Scopes.{bound, is_bound_here, first, use_of, assignment_of, is_clean, fault_behind, binds, enter, inside, Scanner, all, perhaps, catch, visit, visit_found, scan}
 
 abbrev pub IsClean : Scan → Type 0
 IsClean s = s.fault ≡ None

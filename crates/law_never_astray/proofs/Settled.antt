@@ -4,9 +4,9 @@ use Rattle.def_machine.specs.Values.{Broken, Naming, Coming, Mailing}
 use Rattle.def_machine.specs.State.{Message, Note, Ask, Shorten, Sends, Reacts, Settles, Views, ListCame, Settle, See, Change, Vat, Stop, Repeated, enqueue, send_out, new_gift, open_gift, mark, alter, come, mail, draw, draws, new_promise, new_message, new_lone_message}
 use Rattle.def_machine.specs.Arrive.{Incoming, arrive, notice}
 use Rattle.def_kernel.specs.declared.node.Node.{Node}
-use Rattle.law_machine.proofs.Walks.{Property, IsClosed, InRefs, InRefsUnder, InSettling, InSending, InArrive, InArriveUnder, walk_then}
-use Rattle.law_machine.proofs.ArriveWalk.{lists_by_line, walk_arrive, walk_notice}
-use Rattle.law_machine.proofs.RefsWalk.{settles_by_lines, walk_settle, walk_resolve, walk_send, walk_send_only, walk_react}
+use Rattle.law_machine.proofs.Machine.Walks.{Property, IsClosed, InRefs, InRefsUnder, InSettling, InSending, InArrive, InArriveUnder, walk_then}
+use Rattle.law_machine.proofs.Machine.ArriveWalk.{lists_by_line, walk_arrive, walk_notice}
+use Rattle.law_machine.proofs.Machine.RefsWalk.{settles_by_lines, walk_settle, walk_resolve, walk_send, walk_send_only, walk_react}
 use Rattle.law_never_astray.specs.Covered.{Carries}
 use Rattle.law_never_astray.proofs.Leads.{AtStops, Ends, Leads, Nothing, Refers, lead_less, lead_next, lead_give, lead_look, lead_stop, lead_tell, lead_spend, lead_list}
 

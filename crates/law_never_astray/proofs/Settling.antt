@@ -4,8 +4,8 @@ use Rattle.def_machine.specs.Values.{Value, Naming, IsAnswer, naming, numbering}
 use Rattle.def_machine.specs.State.{Standing, Settled, Known, Change, Hold, Wait, Settle, Settles, Vat, Done, Stops, Act, ◌>>=◌, ◌>>◌, and_then, give, look, tell, with_change, changed, changed_to, unless_settled, alter, begun}
 use Rattle.def_machine.specs.Refs as refs
 use Rattle.def_machine.specs.Refs.{entry_of}
-use Rattle.law_name.specs.Names.{AllOf}
-use Rattle.law_name.proofs.Facts.{all_end}
+use Rattle.law_fate.specs.Name.Names.{AllOf}
+use Rattle.law_fate.proofs.Name.Facts.{all_end}
 use Rattle.law_never_astray.specs.Settlings.{NotAstray, IsNone, IsAwaited, IsAsked, EntryWaits, AllAwaited, SettlingsEnd}
 use Rattle.law_never_astray.proofs.Counts.{open_one, open_of, open_length, either, found, length_change, length_end, found_change, none_change, found_end, none_end, entry_all, found_entry, less_settled}
 use Rattle.law_never_astray.proofs.Sure as sure

@@ -2,9 +2,9 @@
 use Rattle.std.proofs.Common.{◌≡◌, ℕ, Bool, true, false, List, [], ◌∷◌, ◌++◌, Option, Some, None, refl, sym, ap, subst, ◌∙◌, ◌⊎◌, inl, inr, cond}
 use Rattle.std.specs.Prelude.{bytes_eq, is_some, drop}
 use Rattle.std.proofs.lemmas.Bool.{both_ways}
-use Rattle.ev_scope.specs.declared.scope.Binding.{Binding}
-use Rattle.ev_scope.specs.Scopes as static
-use Rattle.ev_scope.specs.Scopes.{bound, is_bound_here, with_name, with_name_here}
+use Rattle.ev_reader.specs.declared.scope.Binding.{Binding}
+use Rattle.ev_reader.specs.Scopes as static
+use Rattle.ev_reader.specs.Scopes.{bound, is_bound_here, with_name, with_name_here}
 use Rattle.law_never_astray.specs.Scoped.{Scopes}
 use Rattle.law_never_astray.proofs.Words.{is_bytes, bytes_is, same_or_not}
 

@@ -6,21 +6,21 @@ use Rattle.def_machine.specs.State.{Binding, Message, Known, Vat, Stop, Astray, 
 use Rattle.def_machine.specs.Eval.{opening, taking}
 use Rattle.def_machine.specs.Scopes.{any_guard}
 use Rattle.def_kernel.specs.declared.node.Node.{Node}
-use Rattle.law_machine.specs.Steps.{Step, Opens as Starts, Takes, Receives, Notices, does, IsQuiet}
-use Rattle.law_machine.proofs.StepEnds.{step_ends}
+use Rattle.law_machine.specs.Machine.Steps.{Step, Opens as Starts, Takes, Receives, Notices, does, IsQuiet}
+use Rattle.law_machine.proofs.Machine.StepEnds.{step_ends}
 use Rattle.def_run.specs.Draws.{draw_word}
 use Rattle.def_run.specs.World as world
 use Rattle.def_run.specs.World.{Script, Program, Entry, CutLink, NoticeLink, Event, World, Goes, Stopped, names, readied, tree_at, put_at}
-use Rattle.law_run.specs.Moves.{IsHonest, Stepped, Opened, Moved, Still, Severs, Drops, Steps, Arrives, Hears, Tells, Nobody, AnyNotice, Does, went}
-use Rattle.law_run.proofs.Told.{moves_told}
-use Rattle.law_name.specs.Names.{AllOf, NounOk}
-use Rattle.law_name.proofs.Run.{Stands}
+use Rattle.law_machine.specs.Run.Moves.{IsHonest, Stepped, Opened, Moved, Still, Severs, Drops, Steps, Arrives, Hears, Tells, Nobody, AnyNotice, Does, went}
+use Rattle.law_machine.proofs.Run.Told.{moves_told}
+use Rattle.law_fate.specs.Name.Names.{AllOf, NounOk}
+use Rattle.law_fate.proofs.Name.Run.{Stands}
 use Rattle.law_never_astray.specs.Things.{There, ThingsAreThere}
 use Rattle.law_never_astray.specs.Covered.{Carries}
 use Rattle.law_never_astray.specs.CoveredRuns.{IsAccepted, AllCarry}
-use Rattle.law_reference.specs.Lists.{NoListLeadsBack}
-use Rattle.law_reference.specs.Views.{ViewsWait}
-use Rattle.law_connected.specs.Runs.{NothingLive}
+use Rattle.law_reference.specs.Reference.Lists.{NoListLeadsBack}
+use Rattle.law_reference.specs.Reference.Views.{ViewsWait}
+use Rattle.law_uses.specs.Connectivity.Runs.{NothingLive}
 use Rattle.law_never_astray.specs.Settlings.{NotAstray}
 use Rattle.law_never_astray.proofs.Ejections.{none_live}
 use Rattle.law_never_astray.proofs.Arrivals.{put_back_clear}

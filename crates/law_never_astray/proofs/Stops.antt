@@ -4,21 +4,21 @@ use Rattle.std.specs.Prelude.{slice_get}
 use Rattle.def_machine.specs.Values.{Name, Root, host_of}
 use Rattle.def_machine.specs.State.{Message, Vat, Stop, Done, Stops}
 use Rattle.def_machine.specs.Eval.{opening, taking}
-use Rattle.law_machine.specs.Steps.{Opens, Takes, does, After}
+use Rattle.law_machine.specs.Machine.Steps.{Opens, Takes, does, After}
 use Rattle.def_run.specs.World as world
 use Rattle.def_run.specs.World.{Script, Program, World, names, readied}
-use Rattle.law_name.specs.Names.{AllOf}
+use Rattle.law_fate.specs.Name.Names.{AllOf}
 use Rattle.law_frozen.specs.Frozen.{AllOf as EachOf, MessageThere, Sound}
 use Rattle.law_frozen.proofs.RunSound.{WorldSound, given_well}
-use Rattle.law_reference.specs.Lists.{NoListLeadsBack}
-use Rattle.law_reference.specs.ListRingless.{IsOwn, Ringless, TellsSo}
-use Rattle.law_reference.proofs.OwnTurns.{where_map}
-use Rattle.law_reference.proofs.Kept.{ringless_same}
-use Rattle.law_reference.proofs.RefsRing.{answer_view}
-use Rattle.law_reference.proofs.TurnsRing.{turns_keep}
-use Rattle.law_reference.proofs.VatStep.{Seen, RingsBy}
-use Rattle.law_reference.proofs.StepRings.{word, N, NoDraws}
-use Rattle.law_reference.proofs.Around.{Around, waits_spared}
+use Rattle.law_reference.specs.Reference.Lists.{NoListLeadsBack}
+use Rattle.law_reference.specs.Reference.ListRingless.{IsOwn, Ringless, TellsSo}
+use Rattle.law_reference.proofs.Reference.OwnTurns.{where_map}
+use Rattle.law_reference.proofs.Reference.Kept.{ringless_same}
+use Rattle.law_reference.proofs.Reference.RefsRing.{answer_view}
+use Rattle.law_reference.proofs.Reference.TurnsRing.{turns_keep}
+use Rattle.law_reference.proofs.Reference.VatStep.{Seen, RingsBy}
+use Rattle.law_reference.proofs.Reference.StepRings.{word, N, NoDraws}
+use Rattle.law_reference.proofs.Reference.Around.{Around, waits_spared}
 
 module _ (script : Script) where
   abbrev Ended : (ℕ → Type 0) → World → ℕ → Vat Name → Type 0

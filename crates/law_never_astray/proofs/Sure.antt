@@ -5,7 +5,7 @@ use Rattle.def_machine.specs.Values.{Value, Broken, Naming, IsAnswer}
 use Rattle.def_machine.specs.State.{Message, Known, Change, Hold, Wait, WaitOn, ToTell, Passed, Passeds, Plain, AGift, Many, NoMore, More, Note, Happened, Vat, Astray, Done, Gives, Throws, Ejects, Stops, Act, ◌>>=◌, ◌>>◌, and_then, WhereSome, for_some, each, give, look, tell, spend, spent, enqueue, send_out, draws, draw, with_change, alter, come, begun}
 use Rattle.def_machine.specs.Refs as refs
 use Rattle.def_machine.specs.Refs.{Place, Near, Mine, Away, Gone}
-use Rattle.law_name.specs.Names.{AllOf}
+use Rattle.law_fate.specs.Name.Names.{AllOf}
 use Rattle.law_never_astray.specs.Settlings.{IsAsked, EntryWaits}
 use Rattle.law_never_astray.proofs.Counts.{open_of, open_change, open_end}
 

@@ -5,12 +5,12 @@ use Rattle.def_machine.specs.Refs as refs
 use Rattle.def_machine.specs.Values.{Value, Name, Object, Spot, Own, Foreign, NoObject, Local, Obj, Prom, Far, Mess, Naming, IsOwn, IsAnswer, IsGift, IsSent, naming, numbering, spot_of, name_of, answer_of, mail_of, local_spot, same_local}
 use Rattle.def_machine.specs.State.{Thing, Vat, Done, Gives, Throws, Ejects, Stops, change, dead}
 use Rattle.def_machine.specs.Scopes.{Answer}
-use Rattle.law_name.specs.Names.{Bit, Named, Mail, Drew, At, Off, Entered, Owns, Gave}
-use Rattle.law_name.proofs.Facts.{PlaceOk, Also, IsValue, AreValues, AreNouns, answer}
-use Rattle.law_name.proofs.Care.{Care, Under, Giving, Makes, Sound, Ends}
-use Rattle.law_name.proofs.Serves.{served_by}
-use Rattle.law_name.proofs.SameNames.{false_true, reference_is}
-use Rattle.law_name.proofs.CareEval.{good_evaluator, fine_turn_value}
+use Rattle.law_fate.specs.Name.Names.{Bit, Named, Mail, Drew, At, Off, Entered, Owns, Gave}
+use Rattle.law_fate.proofs.Name.Facts.{PlaceOk, Also, IsValue, AreValues, AreNouns, answer}
+use Rattle.law_fate.proofs.Name.Care.{Care, Under, Giving, Makes, Sound, Ends}
+use Rattle.law_fate.proofs.Name.Serves.{served_by}
+use Rattle.law_fate.proofs.Name.SameNames.{false_true, reference_is}
+use Rattle.law_fate.proofs.Name.CareEval.{good_evaluator, fine_turn_value}
 use Rattle.law_never_astray.specs.Things.{There, AnswerThere, ValueThere, EvaluationKeepsThings, ThingsStayThere}
 
 -- ---- how things go on

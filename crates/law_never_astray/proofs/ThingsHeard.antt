@@ -6,11 +6,11 @@ use Rattle.def_machine.specs.Arrive as arrive
 use Rattle.def_machine.specs.Arrive.{Old, New}
 use Rattle.def_run.specs.World as world
 use Rattle.def_run.specs.World.{read_name, known_after, is_old}
-use Rattle.law_name.specs.Names.{Bit}
-use Rattle.law_name.proofs.Facts.{Fact, Also, IsName, IsMail, IsDraw, IsGiven, IsVat, IsValue, AreValues, DoesPass, DoAllPass, NoteDoes, nothing}
-use Rattle.law_name.proofs.Care.{Care, Under, Giving, Gets, Fine, fine_bind, fine_give, fine_look, fine_tell, fine_out, fine_draw, fine_wait, come_gift, with_known, changes_ok, bind_number, bind_draw, bind_name, bind_value, bind_values, then_unit, got}
-use Rattle.law_name.proofs.CareRefs.{fine_settle}
-use Rattle.law_name.proofs.CareArrive.{Gifts, gifts_by, fine_ask_for, fine_make_list, fine_gift_there, fine_delivered, fine_opened, fine_arrive_ask, fine_went, fine_shortened}
+use Rattle.law_fate.specs.Name.Names.{Bit}
+use Rattle.law_fate.proofs.Name.Facts.{Fact, Also, IsName, IsMail, IsDraw, IsGiven, IsVat, IsValue, AreValues, DoesPass, DoAllPass, NoteDoes, nothing}
+use Rattle.law_fate.proofs.Name.Care.{Care, Under, Giving, Gets, Fine, fine_bind, fine_give, fine_look, fine_tell, fine_out, fine_draw, fine_wait, come_gift, with_known, changes_ok, bind_number, bind_draw, bind_name, bind_value, bind_values, then_unit, got}
+use Rattle.law_fate.proofs.Name.CareRefs.{fine_settle}
+use Rattle.law_fate.proofs.Name.CareArrive.{Gifts, gifts_by, fine_ask_for, fine_make_list, fine_gift_there, fine_delivered, fine_opened, fine_arrive_ask, fine_went, fine_shortened}
 use Rattle.law_never_astray.proofs.ThingsCounted.{Counted, same_long, things, things_under, things_gives}
 
 module _ (word : ℕ → ℕ) (v : ℕ) (P : ℕ → Bit Name → Type 0) (counted : Counted (naming word v) P) where

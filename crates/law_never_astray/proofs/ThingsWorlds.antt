@@ -5,22 +5,22 @@ use Rattle.std.proofs.lemmas.Bool.{eqb-true, eq-eqb}
 use Rattle.def_machine.specs.Values.{Name, Root, Object, Sent, Spot, Own, Foreign, naming, name_of, answer_of, mail_of, spot_of}
 use Rattle.def_machine.specs.State.{Message, Note, Put, Vat, Done, Gives, Act, begun}
 use Rattle.def_machine.specs.Scopes.{any_guard}
-use Rattle.law_machine.specs.Steps.{Step, Opens as Starts, Takes, Receives, Notices, does}
+use Rattle.law_machine.specs.Machine.Steps.{Step, Opens as Starts, Takes, Receives, Notices, does}
 use Rattle.def_run.specs.Draws.{draw_word}
 use Rattle.def_run.specs.World as world
 use Rattle.def_run.specs.World.{Script, Program, Event, Carried, Link, World, Goes, CutLink, put_at, names, names_of, read_note}
-use Rattle.law_run.specs.Moves.{Moved, Still, Severs, Drops, Steps, Arrives, Hears, Tells, Does, Nobody, AnyNotice, IsReached, IsAlone, went}
-use Rattle.law_run.proofs.Honest.{honest_reached, lifted}
-use Rattle.law_run.proofs.Told.{moves_told}
-use Rattle.law_name.specs.Names.{Bit, Named, Mail, Entered, Owns, AllOf, MessageOk, NoteOk, NounOk, KnownOk, Parts, Everywhere, IsMessageName}
-use Rattle.law_name.proofs.Facts.{MayBe, all_map, all_so, message_up, note_up, Fact, Nothing, Also, IsName, AreNouns, IsMessage, NoteDoes, nothing, Holds}
-use Rattle.law_name.proofs.Care.{Care, Sound, Ends, Fine, parts_up}
-use Rattle.law_name.proofs.CareEval.{fine_opening, fine_taking}
-use Rattle.law_name.proofs.CareArrive.{fine_notice}
-use Rattle.law_name.proofs.Serves.{served_by, closing_by}
-use Rattle.law_name.proofs.SameNames.{false_true, reference_is}
-use Rattle.law_name.proofs.Among.{get_put}
-use Rattle.law_name.proofs.Run.{with_link_holds, push_all_holds, link_holds, links_from_hold, fresh_at}
+use Rattle.law_machine.specs.Run.Moves.{Moved, Still, Severs, Drops, Steps, Arrives, Hears, Tells, Does, Nobody, AnyNotice, IsReached, IsAlone, went}
+use Rattle.law_machine.proofs.Run.Honest.{honest_reached, lifted}
+use Rattle.law_machine.proofs.Run.Told.{moves_told}
+use Rattle.law_fate.specs.Name.Names.{Bit, Named, Mail, Entered, Owns, AllOf, MessageOk, NoteOk, NounOk, KnownOk, Parts, Everywhere, IsMessageName}
+use Rattle.law_fate.proofs.Name.Facts.{MayBe, all_map, all_so, message_up, note_up, Fact, Nothing, Also, IsName, AreNouns, IsMessage, NoteDoes, nothing, Holds}
+use Rattle.law_fate.proofs.Name.Care.{Care, Sound, Ends, Fine, parts_up}
+use Rattle.law_fate.proofs.Name.CareEval.{fine_opening, fine_taking}
+use Rattle.law_fate.proofs.Name.CareArrive.{fine_notice}
+use Rattle.law_fate.proofs.Name.Serves.{served_by, closing_by}
+use Rattle.law_fate.proofs.Name.SameNames.{false_true, reference_is}
+use Rattle.law_fate.proofs.Name.Among.{get_put}
+use Rattle.law_fate.proofs.Name.Run.{with_link_holds, push_all_holds, link_holds, links_from_hold, fresh_at}
 use Rattle.law_never_astray.specs.Things.{IsThere, AnswersApart, There, ThingsAreThere}
 use Rattle.law_never_astray.specs.Objects.{IsBelow, AreBelow, things_of, ObjectsThere, ObjectsAreThere, ThingsAreThereInRuns}
 use Rattle.law_never_astray.proofs.ThingsCounted.{Counted, things, things_under, things_makes}

@@ -6,13 +6,13 @@ use Rattle.def_machine.specs.Refs.{settle, resolve}
 use Rattle.def_machine.specs.Calls as calls
 use Rattle.def_machine.specs.Eval as eval
 use Rattle.def_kernel.specs.declared.node.Node.{Node}
-use Rattle.def_kernel_form.specs.declared.shape.Kind.TheVariants.{Expression}
+use Rattle.def_kernel.specs.declared.shape.Kind.TheVariants.{Expression}
 use Rattle.law_kernel_form.specs.Trees.{IsTree}
-use Rattle.ev_scope.specs.Scopes.{first_fault}
+use Rattle.ev_reader.specs.Scopes.{first_fault}
 use Rattle.law_never_astray.proofs.AcceptedTrees.{accepted_scoped}
-use Rattle.law_machine.proofs.Walks.{walk_bind, walk_give}
-use Rattle.law_name.proofs.Facts.{Fact, Also, IsName, IsValue, AreNouns, IsMessage, MayName, answer, nothing, Holds}
-use Rattle.law_name.proofs.Care.{Care, Under, Sound, Gets, rise, got_nothing, fine_activation, fine_tell, told_finished, told_threw}
+use Rattle.law_machine.proofs.Machine.Walks.{walk_bind, walk_give}
+use Rattle.law_fate.proofs.Name.Facts.{Fact, Also, IsName, IsValue, AreNouns, IsMessage, MayName, answer, nothing, Holds}
+use Rattle.law_fate.proofs.Name.Care.{Care, Under, Sound, Gets, rise, got_nothing, fine_activation, fine_tell, told_finished, told_threw}
 use Rattle.law_never_astray.specs.Levels.{ListsEnd, LevelsSuffice}
 use Rattle.law_never_astray.specs.Covered.{Carries}
 use Rattle.law_never_astray.specs.CoveredLaws.{AreGiven}

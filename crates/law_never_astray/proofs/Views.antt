@@ -3,12 +3,12 @@ use Rattle.std.proofs.Common.{ℕ, List}
 use Rattle.def_machine.specs.Values.{Broken, Name, Naming, naming}
 use Rattle.def_machine.specs.State.{Message, Known, Vat, Done, Gives, Throws, Ejects, Stops, Act, new_promise}
 use Rattle.def_machine.specs.Refs as refs
-use Rattle.law_machine.proofs.RefsQuiet.{quiet_settle, quiet_resolve, quiet_send, quiet_send_only, quiet_react}
-use Rattle.law_fate.proofs.Leads as fate
-use Rattle.law_reference.specs.Views.{ViewsWait}
-use Rattle.law_reference.proofs.Gentle.{Any, IsGentle, leads_gentle}
-use Rattle.law_reference.proofs.RefsGentle.{SettlesBy, gentle_settle, gentle_resolve, gentle_send, gentle_send_only, gentle_react}
-use Rattle.law_reference.proofs.ViewsGo.{ViewsGo, views_gentle, settles_views}
+use Rattle.law_machine.proofs.Machine.RefsQuiet.{quiet_settle, quiet_resolve, quiet_send, quiet_send_only, quiet_react}
+use Rattle.law_fate.proofs.Fates.Leads as fate
+use Rattle.law_reference.specs.Reference.Views.{ViewsWait}
+use Rattle.law_reference.proofs.Reference.Gentle.{Any, IsGentle, leads_gentle}
+use Rattle.law_reference.proofs.Reference.RefsGentle.{SettlesBy, gentle_settle, gentle_resolve, gentle_send, gentle_send_only, gentle_react}
+use Rattle.law_reference.proofs.Reference.ViewsGo.{ViewsGo, views_gentle, settles_views}
 use Rattle.law_never_astray.specs.Near.{TargetsNear}
 use Rattle.law_never_astray.proofs.Rests.{Quiet, RestsAfter}
 use Rattle.law_never_astray.proofs.Near.{keep_promise, keep_settle, keep_resolve, keep_send, keep_send_only, keep_react}

@@ -5,10 +5,10 @@ use Rattle.def_machine.specs.State.{Message, Known, Vat, Done, Stops, Act, ◌>>
 use Rattle.def_machine.specs.Refs as refs
 use Rattle.def_machine.specs.Refs.{Place, Near, Mine, Away, Gone}
 use Rattle.def_kernel.specs.declared.node.Node.{Node}
-use Rattle.law_name.proofs.Facts.{Fact, IsMail, IsVat, IsPlace, IsValue, new_names, nothing}
-use Rattle.law_name.proofs.Care.{Care, Under, Makes, Sound, Gets, Fine, got, got_left, fine_tell, fine_new_message, fine_lone_message}
-use Rattle.law_name.proofs.Looks.{look_follow, look_place, look_number, got_answer_host}
-use Rattle.law_name.proofs.Serves.{Serves, Closing, served_by, closing_by}
+use Rattle.law_fate.proofs.Name.Facts.{Fact, IsMail, IsVat, IsPlace, IsValue, new_names, nothing}
+use Rattle.law_fate.proofs.Name.Care.{Care, Under, Makes, Sound, Gets, Fine, got, got_left, fine_tell, fine_new_message, fine_lone_message}
+use Rattle.law_fate.proofs.Name.Looks.{look_follow, look_place, look_number, got_answer_host}
+use Rattle.law_fate.proofs.Name.Serves.{Serves, Closing, served_by, closing_by}
 use Rattle.law_never_astray.proofs.Leads as covered
 use Rattle.law_never_astray.proofs.Leads.{Leads, Refers, Nothing}
 use Rattle.law_never_astray.proofs.Settled.{refers}

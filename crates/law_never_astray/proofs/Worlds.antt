@@ -9,18 +9,18 @@ use Rattle.def_run.specs.Draws.{draw_word}
 use Rattle.def_run.specs.World as world
 use Rattle.def_run.specs.World.{Script, Program, World, readied}
 use Rattle.law_kernel_form.specs.Trees.{IsTree}
-use Rattle.ev_scope.specs.Scopes.{first_fault}
-use Rattle.law_name.specs.Names.{Named, AllOf, IsAmong, MessageOk, NounOk, Parts, Everywhere, names_in}
-use Rattle.law_name.proofs.Facts.{message_up, nouns_up}
-use Rattle.law_name.proofs.Care.{Care, Under, Makes, Sound, parts_up}
-use Rattle.law_name.proofs.Tracked.{tracked, tracked_under, tracked_makes}
-use Rattle.law_name.proofs.Run.{Had, Inside, Stands, inside, inside_root, low_at, had_ready, sound_ready, knows_low, given_ok}
+use Rattle.ev_reader.specs.Scopes.{first_fault}
+use Rattle.law_fate.specs.Name.Names.{Named, AllOf, IsAmong, MessageOk, NounOk, Parts, Everywhere, names_in}
+use Rattle.law_fate.proofs.Name.Facts.{message_up, nouns_up}
+use Rattle.law_fate.proofs.Name.Care.{Care, Under, Makes, Sound, parts_up}
+use Rattle.law_fate.proofs.Name.Tracked.{tracked, tracked_under, tracked_makes}
+use Rattle.law_fate.proofs.Name.Run.{Had, Inside, Stands, inside, inside_root, low_at, had_ready, sound_ready, knows_low, given_ok}
 use Rattle.law_never_astray.specs.Things.{There, ThingsAreThere}
 use Rattle.law_never_astray.proofs.ThingsCounted.{named_counted, things, things_under, things_makes}
 use Rattle.law_never_astray.proofs.CallChains.{calls_end}
 use Rattle.law_never_astray.specs.Covered.{Carries}
 use Rattle.law_never_astray.specs.CoveredLaws.{AreGiven}
-use Rattle.law_reference.specs.Lists.{NoListLeadsBack}
+use Rattle.law_reference.specs.Reference.Lists.{NoListLeadsBack}
 use Rattle.law_never_astray.specs.Settlings.{AllAwaited}
 use Rattle.law_never_astray.specs.Ejections.{NoneIsLive}
 use Rattle.law_never_astray.proofs.Awaited.{is_mail, tracked_awaits}

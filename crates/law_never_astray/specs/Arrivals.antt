@@ -2,7 +2,7 @@
 use Rattle.std.specs.Prelude.{◌≡◌, ℕ, zero, List, None, slice_get}
 use Rattle.def_machine.specs.State.{Stop, Astray}
 use Rattle.def_run.specs.World.{Script, Entry, Turn, Carry, CutLink, NoticeLink, World, Goes, Stopped, begins, open_from, step, steps_from}
-use Rattle.law_name.specs.Runs.{KnowsOnce}
+use Rattle.law_fate.specs.Name.Runs.{KnowsOnce}
 
 -- an arrival, a cut, or the notice of one at a vat that is there
 abbrev pub IsThereFor : World → Entry → Type 0

@@ -5,9 +5,9 @@ use Rattle.def_machine.specs.State.{Bound, Fixed, Slot, Binding, Thing, Made, Ej
 use Rattle.def_machine.specs.Native.{safe_value}
 use Rattle.def_machine.specs.Scopes.{bound_in, members_of}
 use Rattle.def_kernel.specs.declared.node.Node.{Node}
-use Rattle.def_kernel_form.specs.declared.shape.Kind.TheVariants.{Member}
+use Rattle.def_kernel.specs.declared.shape.Kind.TheVariants.{Member}
 use Rattle.law_kernel_form.specs.Trees.{Has}
-use Rattle.ev_scope.specs.Scopes.{bound}
+use Rattle.ev_reader.specs.Scopes.{bound}
 use Rattle.law_never_astray.specs.Scoped.{Scopes, AllScoped}
 use Rattle.law_never_astray.specs.Formed.{AllOf, Formed}
 

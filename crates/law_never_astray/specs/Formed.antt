@@ -2,8 +2,8 @@
 use Rattle.std.specs.Prelude.{ℕ, zero, suc, List, [], ◌∷◌, None, length}
 use Rattle.def_kernel.specs.declared.node.Node.{Node}
 use Rattle.def_kernel.specs.declared.node.Node.TheVariants.{Lit, Noun, Set, Def, Call, Sequence, If, Escape, Try, Finally, Hide, MatchBind, Object, Method, Matcher, Final, Var, Any, ListPattern, Via}
-use Rattle.def_kernel_form.specs.declared.shape.Kind.{Kind}
-use Rattle.def_kernel_form.specs.declared.shape.Kind.TheVariants.{Expression, Pattern, Member, Naming}
+use Rattle.def_kernel.specs.declared.shape.Kind.{Kind}
+use Rattle.def_kernel.specs.declared.shape.Kind.TheVariants.{Expression, Pattern, Member, Naming}
 use Rattle.def_machine.specs.State.{WhereSome}
 use Rattle.law_kernel_form.specs.Trees.{Has}
 

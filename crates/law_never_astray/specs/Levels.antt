@@ -7,7 +7,7 @@ use Rattle.def_machine.specs.Refs.{follow}
 use Rattle.def_machine.specs.Scopes.{Evaluator, Caller}
 use Rattle.def_machine.specs.Calls.{call_one, call}
 use Rattle.def_kernel.specs.declared.node.Node.{Node}
-use Rattle.law_name.specs.Names.{AllOf}
+use Rattle.law_fate.specs.Name.Names.{AllOf}
 
 module _ {N W : Type 0} (K : Naming N W) where
   -- by members, each followed, one comes in so many steps at most to values without members

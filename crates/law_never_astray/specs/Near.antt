@@ -3,8 +3,8 @@ use Rattle.std.specs.Prelude.{◌≡◌, ℕ, zero, List, ◌++◌, Some, slice_
 use Rattle.def_machine.specs.Values.{Value, Ref, Name, Naming, Own}
 use Rattle.def_machine.specs.State.{Message, Known, Vat}
 use Rattle.def_run.specs.World.{Script, Program, Entry, World, Goes, names, begins, open_from, steps_from}
-use Rattle.law_name.specs.Names.{AllOf}
-use Rattle.law_name.specs.Runs.{KnowsOnce}
+use Rattle.law_fate.specs.Name.Names.{AllOf}
+use Rattle.law_fate.specs.Name.Runs.{KnowsOnce}
 use Rattle.law_never_astray.specs.CoveredRuns.{IsAccepted}
 
 module _ {N W : Type 0} (K : Naming N W) where

@@ -3,7 +3,7 @@ use Rattle.std.specs.Prelude.{◌≡◌, ℕ, zero, ◌<◌, List, ◌++◌, Som
 use Rattle.def_machine.specs.Values.{Name, Root, Object, Promise, Answer, Gift, Sent}
 use Rattle.def_machine.specs.State.{Vat}
 use Rattle.def_run.specs.World.{Script, Program, Entry, World, Goes, begins, open_from, steps_from, names}
-use Rattle.law_name.specs.Names.{Bit, Named, Mail, Drew, At, Off, Entered, Owns, Gave, AllOf, NoteOk, Everywhere, IsMessageName}
+use Rattle.law_fate.specs.Name.Names.{Bit, Named, Mail, Drew, At, Off, Entered, Owns, Gave, AllOf, NoteOk, Everywhere, IsMessageName}
 use Rattle.law_never_astray.specs.Things.{ThingsAreThere}
 
 -- an object has a number below the count of its vat

@@ -3,7 +3,7 @@ use Rattle.std.specs.Prelude.{◌≡◌, ℕ, ◌⊎◌, Bool, true, false, List
 use Rattle.def_machine.specs.Values.{Value, Name, Naming, IsAnswer, naming, numbering}
 use Rattle.def_machine.specs.State.{Message, Known, Vat, Astray, Done, Gives, Throws, Ejects, Stops, WhereSome}
 use Rattle.def_machine.specs.Refs.{entry_of, settle}
-use Rattle.law_name.specs.Names.{AllOf}
+use Rattle.law_fate.specs.Name.Names.{AllOf}
 
 -- however it ended, it did not go astray
 abbrev pub NotAstray : {N A : Type 0} → Done N A → Type 0

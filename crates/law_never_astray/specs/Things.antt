@@ -6,7 +6,7 @@ use Rattle.def_machine.specs.Scopes.{Answer}
 use Rattle.def_machine.specs.Calls.{turn_value}
 use Rattle.def_machine.specs.Eval.{evaluator}
 use Rattle.def_kernel.specs.declared.node.Node.{Node}
-use Rattle.law_name.specs.Names.{Bit, Named, Mail, Drew, At, Off, Entered, Owns, Gave, AllOf, ValueOk, ValuesOk, NounOk, Everywhere}
+use Rattle.law_fate.specs.Name.Names.{Bit, Named, Mail, Drew, At, Off, Entered, Owns, Gave, AllOf, ValueOk, ValuesOk, NounOk, Everywhere}
 
 module _ {N W : Type 0} (K : Naming N W) where
   -- where it is an object of this vat, that is one of so many things

@@ -4,7 +4,7 @@
 //! A note that delivers nothing and lets no gift go may leave at any time. One that delivers a message
 //! leaves in one change with the coming of the message to where it is sent on.
 
-ghost use Rattle.law_order.specs.Arrivals.{AgreeingKeeps, ArrivingChangesNothing, CarriedMessagesAreLost, CarriedMessagesArePutOn, CarriedMessagesGoOn, LearntNamesAreBehind, OpenedGiftsTurn, ShortenedGiftsTurn, SilentNotesLeave};
+ghost use Rattle.law_order.specs.Ordering.Arrivals.{AgreeingKeeps, ArrivingChangesNothing, CarriedMessagesAreLost, CarriedMessagesArePutOn, CarriedMessagesGoOn, LearntNamesAreBehind, OpenedGiftsTurn, ShortenedGiftsTurn, SilentNotesLeave};
 
 /// An arrival takes the first note from its link. With that note kept there the world is as it was.
 pub fn arriving_changes_nothing()

@@ -1,9 +1,9 @@
 //! The place of each message.
 
-ghost use Rattle.law_order.specs.Comings.{CarriedArePutLast, CarriedComeLast, FoundPlacesKeep, HeldComeInOrder, LostMessagesDoom, QueuesTellOrder, SendsComeLast};
-ghost use Rattle.law_order.specs.Example.{HeldGoInOrder, MessagesAreFound, WaitingComeLast};
-ghost use Rattle.law_order.specs.Leavings.{CarriedIsFirst, FirstLeftKeeps, TakenIsFirst, TakenIsNowhere};
-ghost use Rattle.law_order.specs.Messages.{ComersAreBehind, GoneOnIsBehind, LostIsNowhere, NowhereIsDoomed, PlacesAreFound, PlacesAreOne};
+ghost use Rattle.law_order.specs.Ordering.Comings.{CarriedArePutLast, CarriedComeLast, FoundPlacesKeep, HeldComeInOrder, LostMessagesDoom, QueuesTellOrder, SendsComeLast};
+ghost use Rattle.law_order.specs.Ordering.Example.{HeldGoInOrder, MessagesAreFound, WaitingComeLast};
+ghost use Rattle.law_order.specs.Ordering.Leavings.{CarriedIsFirst, FirstLeftKeeps, TakenIsFirst, TakenIsNowhere};
+ghost use Rattle.law_order.specs.Ordering.Messages.{ComersAreBehind, GoneOnIsBehind, LostIsNowhere, NowhereIsDoomed, PlacesAreFound, PlacesAreOne};
 
 /// The place that is found by a message's name is where the message stands: its lane, with just what is in
 /// front of it there, on its name. Where none is found the message stands in no lane.
@@ -38,7 +38,7 @@ pub fn lost_is_nowhere()
 
 /// The places of three messages in a world, by computing: one is on a link, one waits at the host of a gift, and
 /// one was taken.
-#[tactic(auto, unfolding(crate::specs::Example::opened_example))]
+#[tactic(auto, unfolding(crate::specs::Ordering::Example::opened_example))]
 pub fn messages_are_found()
     ensures { MessagesAreFound }
 {}
@@ -83,7 +83,7 @@ pub fn lost_messages_doom()
 
 /// The places of two messages by computing: they are held for a promise, one behind the other, and as it settles to
 /// an object of another vat they stand so on the link to that vat.
-#[tactic(auto, unfolding(crate::specs::Example::opened_example))]
+#[tactic(auto, unfolding(crate::specs::Ordering::Example::opened_example))]
 pub fn held_go_in_order()
     ensures { HeldGoInOrder }
 {}
@@ -126,7 +126,7 @@ pub fn carried_is_first()
 
 /// The places of three messages by computing: two were held for a promise, and one, sent before them, for a promise
 /// that waited on it. As the first settles to an object they come to the queue in this order.
-#[tactic(auto, unfolding(crate::specs::Example::opened_example))]
+#[tactic(auto, unfolding(crate::specs::Ordering::Example::opened_example))]
 pub fn waiting_come_last()
     ensures { WaitingComeLast }
 {}

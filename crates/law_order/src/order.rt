@@ -1,9 +1,9 @@
 //! What is ahead of what on the ways that messages have before them, and that single changes keep it.
 
-ghost use Rattle.law_order.specs.Changes.{GoingOnKeeps, GrowingKeeps, HeadsAreFree, LosingKeeps, SentIsAhead, TakingKeeps};
-ghost use Rattle.law_order.specs.Example.{FirstIsAhead, HeldOrder, PassedOrder, PlacesAreTold};
-ghost use Rattle.law_order.specs.Turns.{CuttingKeeps, NoticingKeeps, PassingByKeeps, TurningKeeps};
-ghost use Rattle.law_order.specs.Worlds.{AddingGrows, BeginningChangesNoWay, ComingGrows, FirstIsTaken, IdleChangesNoWay, QueuesAreFree, SentMessagesAreAhead};
+ghost use Rattle.law_order.specs.Ordering.Changes.{GoingOnKeeps, GrowingKeeps, HeadsAreFree, LosingKeeps, SentIsAhead, TakingKeeps};
+ghost use Rattle.law_order.specs.Ordering.Example.{FirstIsAhead, HeldOrder, PassedOrder, PlacesAreTold};
+ghost use Rattle.law_order.specs.Ordering.Turns.{CuttingKeeps, NoticingKeeps, PassingByKeeps, TurningKeeps};
+ghost use Rattle.law_order.specs.Ordering.Worlds.{AddingGrows, BeginningChangesNoWay, ComingGrows, FirstIsTaken, IdleChangesNoWay, QueuesAreFree, SentMessagesAreAhead};
 
 /// Nothing is ahead of what stands first in a queue, and it is not doomed. So where each message that
 /// is to be taken before another, and is neither taken nor lost, is ahead of it, the other is taken
@@ -69,7 +69,7 @@ pub fn cutting_keeps()
 
 /// Which messages are before which in a run, by computing: two that are held for a promise, and one that is
 /// sent on the object that the first brings, to which the promise settled.
-#[tactic(auto, unfolding(crate::specs::Order::opened_order, crate::specs::Example::opened_example))]
+#[tactic(auto, unfolding(crate::specs::Ordering::Order::opened_order, crate::specs::Ordering::Example::opened_example))]
 pub fn held_messages_keep_order()
     ensures { HeldOrder }
 {}
@@ -77,7 +77,7 @@ pub fn held_messages_keep_order()
 /// Which messages are before which in a run, by computing: a reference passes to another vat, which sends
 /// on it what comes first to the host of the object, and is taken second. The history in which the two are
 /// exchanged is refused.
-#[tactic(auto, unfolding(crate::specs::Order::opened_order, crate::specs::Example::opened_example))]
+#[tactic(auto, unfolding(crate::specs::Ordering::Order::opened_order, crate::specs::Ordering::Example::opened_example))]
 pub fn passed_references_keep_order()
     ensures { PassedOrder }
 {}
@@ -134,7 +134,7 @@ pub fn noticing_keeps()
 
 /// The places in a world, by computing: a message waits at the host of a gift for the note that lets the
 /// gift go, which is under way behind another message.
-#[tactic(auto, unfolding(crate::specs::Example::opened_example))]
+#[tactic(auto, unfolding(crate::specs::Ordering::Example::opened_example))]
 pub fn places_are_told()
     ensures { PlacesAreTold }
 {}

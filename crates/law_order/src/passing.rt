@@ -1,6 +1,6 @@
 //! What is ahead of a reference is ahead of its passing.
 
-ghost use Rattle.law_order.specs.OrderSendPassing.{OpenNamesLeadHome, PassedGiftIsBehind, PassedHomeIsBehind, PassedNameIsBehind};
+ghost use Rattle.law_order.specs.Ordering.OrderSendPassing.{OpenNamesLeadHome, PassedGiftIsBehind, PassedHomeIsBehind, PassedNameIsBehind};
 
 /// Where a name passes to its host, what is ahead of all that would be sent there on it is ahead of the
 /// passing, which is behind all that stands on the link.

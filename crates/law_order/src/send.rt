@@ -1,6 +1,6 @@
 //! What sends and passings do to what is ahead of what, and what a whole turn does.
 
-ghost use Rattle.law_order.specs.Steps.{CoursesKeep, DeliveringGrows, GrownKeeps, PassingGrows, ReactingGrows, SendingGoesSo, SendingGrows, SendsAreAhead, TurnsGoSo};
+ghost use Rattle.law_order.specs.Ordering.Steps.{CoursesKeep, DeliveringGrows, GrownKeeps, PassingGrows, ReactingGrows, SendingGoesSo, SendingGrows, SendsAreAhead, TurnsGoSo};
 
 /// As a value passes to a vat the ways only grow, in the middle of a step, and each reference leads where
 /// it led: notes that let gifts go are put, and of those gifts nothing was said before.

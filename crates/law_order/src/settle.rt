@@ -1,8 +1,8 @@
 //! What is ahead stays ahead as names settle.
 
-ghost use Rattle.law_order.specs.Settle.{SendingOnKeeps, SettledIsPassed, SettlingHereKeeps, SettlingKeeps, SettlingToNothingKeeps};
-ghost use Rattle.law_order.specs.Settlings.{SettlingsKeep};
-ghost use Rattle.law_order.specs.Resolve.{ResolvingKeeps, SettledCoursesKeep, WaitOnKeeps, WaitingKeeps};
+ghost use Rattle.law_order.specs.Ordering.Settle.{SendingOnKeeps, SettledIsPassed, SettlingHereKeeps, SettlingKeeps, SettlingToNothingKeeps};
+ghost use Rattle.law_order.specs.Ordering.Settlings.{SettlingsKeep};
+ghost use Rattle.law_order.specs.Ordering.Resolve.{ResolvingKeeps, SettledCoursesKeep, WaitOnKeeps, WaitingKeeps};
 
 /// What is ahead stays ahead, and what is doomed stays doomed, where what a name held is sent on: each
 /// message that stood there is ahead of the place to which that lane leads.

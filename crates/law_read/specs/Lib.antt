@@ -2,3 +2,4 @@ pub mod ReadScripts
 pub mod ReadTexts
 pub mod ReadUses
 pub mod ReadOrder
+pub mod Generated

@@ -1,4 +1,4 @@
-//! Scripts that are read, and the texts of their runs, which are read again.
+//! What the texts of scripts and histories are read as, and that scripts which are generated are read.
 #![tactic(auto)]
 
 pub mod astray;
@@ -8,8 +8,11 @@ pub mod scripts;
 pub mod telling;
 pub mod texts;
 
+ghost use Rattle.law_read.specs.Generated.Accepted.{GeneratedScriptsAreLong, GeneratedScriptsAreRead};
 ghost use Rattle.law_read.specs.ReadOrder.Order.{OrderIsKeptAsRead, TextsKeepOrder};
 ghost use Rattle.law_read.specs.ReadUses.Uses.{TextsHoldUses, UsesAreJudgedAsRead};
+
+// Read.
 
 // Read uses.
 
@@ -40,4 +43,17 @@ pub fn order_is_kept_as_read()
 /// a run that stops, too.
 pub fn texts_keep_order()
     ensures { TextsKeepOrder }
+{}
+
+// Generated.
+
+/// The bytes of the script that is generated for a number of at most 3,000 break no rule, and what they are read to is told by the number:
+/// its key, three vats, and the chosen entries with so many rounds behind them.
+pub fn generated_scripts_are_read()
+    ensures { GeneratedScriptsAreRead }
+{}
+
+/// That script has three vats and, drains written out, 28 times the number and 90 entries.
+pub fn generated_scripts_are_long()
+    ensures { GeneratedScriptsAreLong }
 {}

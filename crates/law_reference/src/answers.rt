@@ -2,10 +2,10 @@
 //! after all of them and any entries of a schedule. No vat of the script may be told twice that it
 //! knows a vat, or that it knows itself, which the reading of scripts refuses.
 
-ghost use Rattle.law_reference.specs.Behind.{AnswersFollowMessages, NotesNameWhatIsKnown};
-ghost use Rattle.law_reference.specs.Bring.{NotesBringNewButGifts};
-ghost use Rattle.law_reference.specs.Once.{MessagesComeBeforeAnswers, MessagesGoOnBeforeAnswers, AnswersAreKnownOnce};
-ghost use Rattle.law_reference.specs.AnswerWhole.{NotesBringNewWhereGiftsDo};
+ghost use Rattle.law_reference.specs.Reference.Behind.{AnswersFollowMessages, NotesNameWhatIsKnown};
+ghost use Rattle.law_reference.specs.Reference.Bring.{NotesBringNewButGifts};
+ghost use Rattle.law_reference.specs.Reference.Once.{MessagesComeBeforeAnswers, MessagesGoOnBeforeAnswers, AnswersAreKnownOnce};
+ghost use Rattle.law_reference.specs.Reference.AnswerWhole.{NotesBringNewWhereGiftsDo};
 
 /// Each name in a note under way is known to the vat that put it, or is an object.
 pub fn notes_name_what_is_known()

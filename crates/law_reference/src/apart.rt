@@ -3,9 +3,9 @@
 //! the script may be told twice that it knows a vat, or that it knows itself, which the reading of
 //! scripts refuses. Nothing else is asked.
 
-ghost use Rattle.law_reference.specs.ApartAsking.{GiftsFollowAsks, OwnGiftsStand};
-ghost use Rattle.law_reference.specs.Hiding.{GiftsUnderWayAreHidden, KnownToTheirHostsAlone};
-ghost use Rattle.law_reference.specs.ApartWhole.{EachNameIsKnownOnce, EachVatHasItsTable, GiftsStandApart, NotesBringWhatIsNew, WaitsEndInEveryVat};
+ghost use Rattle.law_reference.specs.Reference.ApartAsking.{GiftsFollowAsks, OwnGiftsStand};
+ghost use Rattle.law_reference.specs.Reference.Hiding.{GiftsUnderWayAreHidden, KnownToTheirHostsAlone};
+ghost use Rattle.law_reference.specs.Reference.ApartWhole.{EachNameIsKnownOnce, EachVatHasItsTable, GiftsStandApart, NotesBringWhatIsNew, WaitsEndInEveryVat};
 
 /// As long as a gift of a draw is under way, no vat has a gift of that draw in hand, no vat but the
 /// host of one knows it, and no note names one but as a gift that passes. This asks nothing of notices.

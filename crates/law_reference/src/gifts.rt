@@ -5,11 +5,11 @@
 //! that is drawn for it; and a vat that is told that a name settled at another vat has a gift there as
 //! its view, under a word that it draws.
 
-ghost use Rattle.law_reference.specs.Apart.{NewWhereApart};
-ghost use Rattle.law_reference.specs.GiftAsking.{WhoLearnsAGiftAsks};
-ghost use Rattle.law_reference.specs.News.{GiftsApartComeNew};
-ghost use Rattle.law_reference.specs.GiftPassing.{GiftsPassOnce, EachDrawHasOneProvider};
-ghost use Rattle.law_reference.specs.Standing.{EachDrawStandsOnce, GiftsStay, WhatIsOpenedOrAskedForStands};
+ghost use Rattle.law_reference.specs.Reference.Apart.{NewWhereApart};
+ghost use Rattle.law_reference.specs.Reference.GiftAsking.{WhoLearnsAGiftAsks};
+ghost use Rattle.law_reference.specs.Reference.News.{GiftsApartComeNew};
+ghost use Rattle.law_reference.specs.Reference.GiftPassing.{GiftsPassOnce, EachDrawHasOneProvider};
+ghost use Rattle.law_reference.specs.Reference.Standing.{EachDrawStandsOnce, GiftsStay, WhatIsOpenedOrAskedForStands};
 
 /// Of each draw at most one gift was ever put, in all notes on all links together, and none of a draw
 /// that was not made; and so it is with the notes that are under way.

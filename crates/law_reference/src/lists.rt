@@ -1,8 +1,8 @@
 //! What lists are made of, and where their members lead.
 
-ghost use Rattle.law_reference.specs.ListRuns.{ListsEndInRuns};
-ghost use Rattle.law_reference.specs.ListRingless.{ArrivalsCloseNoRing, NoticeStepsCloseNoRing, TurnsCloseNoRing};
-ghost use Rattle.law_reference.specs.Lists.{ListsAreThere, MembersEndInRuns, ChangesCloseNoRing, NewListsCloseNoRing, NewNamesCloseNoRing, NoticesCloseNoRing, FollowingSuffices, RinglessListsEnd, ConditionsAreNeeded};
+ghost use Rattle.law_reference.specs.Reference.ListRuns.{ListsEndInRuns};
+ghost use Rattle.law_reference.specs.Reference.ListRingless.{ArrivalsCloseNoRing, NoticeStepsCloseNoRing, TurnsCloseNoRing};
+ghost use Rattle.law_reference.specs.Reference.Lists.{ListsAreThere, MembersEndInRuns, ChangesCloseNoRing, NewListsCloseNoRing, NewNamesCloseNoRing, NoticesCloseNoRing, FollowingSuffices, RinglessListsEnd, ConditionsAreNeeded};
 
 /// In each vat of every world of a run each list that stands in a value is there. A list that is a
 /// member of another was made before it.

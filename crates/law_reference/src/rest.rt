@@ -2,12 +2,12 @@
 //! after all of them and any entries of a schedule. No vat of the script may be told twice that it
 //! knows a vat, or that it knows itself, which the reading of scripts refuses.
 
-ghost use Rattle.law_reference.specs.AnswerNames.{AnswersAreNamed};
-ghost use Rattle.law_reference.specs.Cuts.{NoticedLinksAreCut};
-ghost use Rattle.law_reference.specs.Hosts.{BreaksStayBroken, HostsRestInRuns, VatsRestInRuns};
-ghost use Rattle.law_reference.specs.Notes.{NotesCarryTheirEnds, NotesNameNobodyNoticed, NotesNameTheirEnds};
-ghost use Rattle.law_reference.specs.Own.{WhatAVatHasIsItsOwn};
-ghost use Rattle.law_reference.specs.Rest.{FollowedBreaksStayBroken, ReferencesRestInRuns, ViewsWaitInRuns};
+ghost use Rattle.law_reference.specs.Reference.AnswerNames.{AnswersAreNamed};
+ghost use Rattle.law_reference.specs.Reference.Cuts.{NoticedLinksAreCut};
+ghost use Rattle.law_reference.specs.Reference.Hosts.{BreaksStayBroken, HostsRestInRuns, VatsRestInRuns};
+ghost use Rattle.law_reference.specs.Reference.Notes.{NotesCarryTheirEnds, NotesNameNobodyNoticed, NotesNameTheirEnds};
+ghost use Rattle.law_reference.specs.Reference.Own.{WhatAVatHasIsItsOwn};
+ghost use Rattle.law_reference.specs.Reference.Rest.{FollowedBreaksStayBroken, ReferencesRestInRuns, ViewsWaitInRuns};
 
 /// Each name that is viewed waits on its view: the view is known, it came to be known later than the
 /// name, it did not settle, and the name is among those that settle with it.

@@ -2,11 +2,11 @@
 //! run: after any of the opening turns of a script, and after all of them and any entries of a
 //! schedule; and what does not.
 
-ghost use Rattle.law_reference.specs.Exports.{ExportsAreDistinct, PositionsAreOfOneName};
-ghost use Rattle.law_reference.specs.Knowing.{StepsKnowOnce};
-ghost use Rattle.law_reference.specs.Returns.{AMessageReturns};
-ghost use Rattle.law_reference.specs.NameTableRuns.{NamesAreKnownOnce};
-ghost use Rattle.law_reference.specs.Tables.{TablesTellThingsApart};
+ghost use Rattle.law_reference.specs.Reference.Exports.{ExportsAreDistinct, PositionsAreOfOneName};
+ghost use Rattle.law_reference.specs.Reference.Knowing.{StepsKnowOnce};
+ghost use Rattle.law_reference.specs.Reference.Returns.{AMessageReturns};
+ghost use Rattle.law_reference.specs.Reference.NameTableRuns.{NamesAreKnownOnce};
+ghost use Rattle.law_reference.specs.Reference.Tables.{TablesTellThingsApart};
 
 /// The names that a vat exported to another, in the order of their positions, differ pairwise, and
 /// the exporter is the host of each.
@@ -24,7 +24,7 @@ pub fn exports_are_distinct()
 ///
 /// It was sent to a promise of another vat, which settled to an object of the sender.
 /// The two vats know the answers of it at both, each once.
-#[tactic(auto, unfolding(def_run::specs::World::opened_world, crate::specs::Returns::opened_returns))]
+#[tactic(auto, unfolding(def_run::specs::World::opened_world, crate::specs::Reference::Returns::opened_returns))]
 pub fn a_message_returns()
     ensures { AMessageReturns }
 {}

@@ -1,6 +1,6 @@
 //! Chains of waits and views.
 
-ghost use Rattle.law_reference.specs.Waits.{CycleTestsSuffice, ListTestsSuffice, WaitsEndInRuns, WaitsEndWhereNotesBringNew};
+ghost use Rattle.law_reference.specs.Reference.Waits.{CycleTestsSuffice, ListTestsSuffice, WaitsEndInRuns, WaitsEndWhereNotesBringNew};
 
 /// Waits and views end: from each name one comes, by no more waits and views than there are names
 /// known, to a name that neither waits on another nor is viewed. So no chain of them has a ring.

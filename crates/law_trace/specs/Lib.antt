@@ -1,2 +1,5 @@
 pub mod Trace
 pub mod UsesSeen
+pub mod Shown
+pub mod Told
+pub mod Seen

@@ -1,3 +1,4 @@
+pub mod Connectivity
 pub mod Uses
 pub mod Running
 pub mod ShownApart

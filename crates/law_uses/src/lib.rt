@@ -1,5 +1,9 @@
-//! That the lines of every run use only what is known by the lines, and show names apart.
+//! Only connectivity begets connectivity: what is known, and by what right each use of a history is made.
 #![tactic(auto)]
+
+pub mod connected;
+pub mod message;
+pub mod uses_in_runs;
 
 ghost use Rattle.law_uses.specs.KnownUses.KnownUses.{CallsGiveBackWhatIsKnown, HistoriesHoldUses, LinesUseWhatIsKnown, RunsHoldUses};
 ghost use Rattle.law_uses.specs.Running.Facts.{ActivationsBeginOnce, LinesTellWhatIsGiven, OpeningsAreTold};
@@ -12,10 +16,12 @@ ghost use Rattle.law_uses.specs.Uses.Messages.{LinesStandAtTheirVats, ListsAreTo
 
 // Uses.
 
+// Uses.
+
 /// In every run, also in one that stopped, each message is taken with the arguments that it was sent with, and what is
 /// carried was there in the line before of the message, or is what that leads to by the lines so far, or a gift.
 ///
-/// It is said of the events that its history shows, by the judge of texts of runs (`def_trace`), whatever words were
+/// It is said of the events that its history shows, by the judge of texts of runs (`def_event`), whatever words were
 /// drawn: of each take line, the names in its arguments, lists taken apart, are those of the last carry line of the
 /// message in the whole history, or else of the line that sends it; and of each carry line of a deliver note, each name
 /// is a gift, or is reached from what the line before of that message has, by list, settle and view lines.
@@ -125,7 +131,7 @@ pub fn settled_names_are_shown_apart()
 /// In every run, also in one that stopped, each line uses only what is known by the lines before it to the activation
 /// that uses it, or what the line itself makes.
 ///
-/// It is said of the events that its history shows, by the judge of texts of runs (`def_trace`). It asks that each vat of
+/// It is said of the events that its history shows, by the judge of texts of runs (`def_event`). It asks that each vat of
 /// the script knows each other once and that each notice stands behind its cut, as scripts that are read have it, and that
 /// names which settled at one vat are shown as different names.
 pub fn lines_use_what_is_known()

@@ -1,11 +1,11 @@
 -- The expansion of a text: its tokens, the surface tree that they spell, and what that expands to.
 use Rattle.std.specs.Prelude.{◌≡◌, ℕ, ◌-◌, List, [], ◌∷◌, ◌++◌, length, Result, Ok, Err}
 use Rattle.def_syntax.specs.declared.token.Token.{Token}
-use Rattle.def_grammar.specs.declared.syntax.Word.{Word}
-use Rattle.def_grammar.specs.declared.syntax.Shape.{Shape}
-use Rattle.def_grammar.specs.Grammar.{Tree, Trees, node, none, more, leaf}
-use Rattle.def_grammar.specs.Heights.{Answer, tree, no_spelling, too_nested, answer, answer_from, low_frames}
-use Rattle.def_grammar.specs.Machine.{begin, step, step_in, pop, finish, end_frames}
+use Rattle.def_syntax.specs.declared.syntax.Word.{Word}
+use Rattle.def_syntax.specs.declared.syntax.Shape.{Shape}
+use Rattle.def_syntax.specs.Grammar.{Tree, Trees, node, none, more, leaf}
+use Rattle.def_syntax.specs.Heights.{Answer, tree, no_spelling, too_nested, answer, answer_from, low_frames}
+use Rattle.def_syntax.specs.Machine.{begin, step, step_in, pop, finish, end_frames}
 use Rattle.ev_lexer.specs.Lexed.{lexed}
 use Rattle.ev_lexer.specs.Examples.{opened_lexer}
 use Rattle.ev_parser.specs.declared.draft.Part.{Part}
@@ -14,7 +14,7 @@ use Rattle.ev_parser.specs.Parsed.{numbered}
 use Rattle.ev_parser.specs.Surface.{surface}
 use Rattle.def_syntax.specs.declared.sugar.SugarNode.{SugarNode}
 use Rattle.def_kernel.specs.declared.node.Node.{Node}
-use Rattle.def_kernel_form.specs.Reading.{read, opened_reading}
+use Rattle.def_kernel.specs.Reading.{read, opened_reading}
 use Rattle.ev_expand.specs.declared.marks.Fault.{Fault}
 use Rattle.ev_expand.specs.declared.marks.FaultKind.{FaultKind}
 use Rattle.ev_expand.specs.declared.marks.FaultKind.TheVariants.{Name}

@@ -41,3 +41,5 @@ pub mod Rules
 pub mod Bounds
 pub mod Heavy
 pub mod RunsAlike
+pub mod Runs
+pub mod Rows

@@ -1,6 +1,6 @@
 -- References inside a vat.
 use Rattle.std.specs.Prelude.{◌≡◌, pos, List, [], ◌∷◌, None, Ok, codes}
-use Rattle.def_kernel_form.specs.Reading.{read}
+use Rattle.def_kernel.specs.Reading.{read}
 use Rattle.test_machine.specs.Endings.{ending_of}
 use Rattle.def_kernel.specs.declared.node.Literal.TheVariants as literal
 use Rattle.def_kernel.specs.declared.node.Node.{Node}

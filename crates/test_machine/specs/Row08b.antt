@@ -2,7 +2,7 @@
 use Rattle.std.specs.Prelude.{◌≡◌, pos, List, [], ◌∷◌, Ok, codes}
 use Rattle.def_run.specs.World.{Script, run}
 use Rattle.def_run.specs.Text.{text}
-use Rattle.def_kernel_form.specs.Reading.{read}
+use Rattle.def_kernel.specs.Reading.{read}
 use Rattle.test_machine.specs.Endings.{lines}
 use Rattle.def_kernel.specs.declared.node.Literal.TheVariants as literal
 use Rattle.def_kernel.specs.declared.node.Node.{Node}

@@ -3,8 +3,8 @@ use Rattle.std.specs.Prelude.{◌≡◌}
 use Rattle.def_run.specs.World as machine
 use Rattle.def_run.specs.World.{Script}
 use Rattle.def_run.specs.Text as theirs
-use Rattle.def_local.specs.Numbers.{run}
-use Rattle.def_local.specs.Text.{wire_text}
+use Rattle.def_run.specs.Numbers.{run}
+use Rattle.def_run.specs.LocalText.{wire_text}
 
 -- with its frames
 abbrev pub RunsAlike : Script → Type 0

@@ -8,18 +8,18 @@ use Rattle.def_machine.specs.Arrive.{Incoming, Old, New}
 use Rattle.def_run.specs.Draws.{draw_word}
 use Rattle.def_run.specs.World as world
 use Rattle.def_run.specs.World.{Script, Entry, Carry, Carried, Event, Link, World, Run, Goes as Going, Stopped, names, names_of, read_note, readied, put_at, link_at}
-use Rattle.law_name.specs.Names.{Once, names_in}
-use Rattle.law_name.proofs.Among.{get_put}
+use Rattle.law_fate.specs.Name.Names.{Once, names_in}
+use Rattle.law_fate.proofs.Name.Among.{get_put}
 use Rattle.def_machine.specs.Maps as maps
 use Rattle.def_machine.specs.Maps.{incoming}
-use Rattle.law_renaming.specs.Renaming.{Wire as Wired, EndsWith}
-use Rattle.law_renaming.specs.Stands.{Is, IsTable, StandsFor, found}
-use Rattle.law_renaming.proofs.Steps.{arrivals_stand}
-use Rattle.law_reference.specs.NameTableRuns.{BringsNew, EntryBringsNew, NotesBringNew}
-use Rattle.law_reference.specs.Tables.{table_of}
-use Rattle.law_reference.proofs.KnownRuns.{names_are_known_once}
-use Rattle.law_reference.proofs.VatTables.{tables_tell_things_apart}
-use Rattle.law_reference.proofs.Moves.{steps_end}
+use Rattle.law_machine.specs.Renamed.Renaming.{Wire as Wired, EndsWith}
+use Rattle.law_machine.specs.Renamed.Stands.{Is, IsTable, StandsFor, found}
+use Rattle.law_machine.proofs.Renamed.Steps.{arrivals_stand}
+use Rattle.law_reference.specs.Reference.NameTableRuns.{BringsNew, EntryBringsNew, NotesBringNew}
+use Rattle.law_reference.specs.Reference.Tables.{table_of}
+use Rattle.law_reference.proofs.Reference.KnownRuns.{names_are_known_once}
+use Rattle.law_reference.proofs.Reference.VatTables.{tables_tell_things_apart}
+use Rattle.law_reference.proofs.Reference.Moves.{steps_end}
 use Rattle.law_frame.specs.Frame.Tables.{import_numbers}
 use Rattle.law_frame.specs.Frame.Hearing.{Heard}
 use Rattle.law_frame.specs.Frame.Alike.{names_heard, as_told, from_peer, wire_name}

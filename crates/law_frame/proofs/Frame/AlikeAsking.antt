@@ -8,14 +8,14 @@ use Rattle.def_machine.specs.Arrive as arrive
 use Rattle.def_machine.specs.Arrive.{Incoming, Old, New}
 use Rattle.def_machine.specs.Eval as eval
 use Rattle.def_kernel.specs.declared.node.Node.{Node}
-use Rattle.law_machine.proofs.Walks.{IsOfName, InRefs, InRefsUnder, InSettling, InSending, walk_then}
-use Rattle.law_machine.proofs.RefsWalk.{settles_by_lines, walk_send_on, walk_inform, walk_settle, walk_resolve, walk_send, walk_send_only, walk_react}
-use Rattle.law_fate.proofs.Leads.{LeadsBy, leads_closed, leads_spend, Leads, Ends, IsLed, IsLedUnder, leads, leads_bind, leads_then, leads_activation}
-use Rattle.law_fate.proofs.TurnLeads.{good_evaluator, leads_turn_value, leads_closes, leads_opening}
-use Rattle.law_name.specs.Names.{AllOf, names_in}
-use Rattle.law_name.proofs.Facts.{all_append}
-use Rattle.law_name.proofs.Among.{names_end}
-use Rattle.law_name.proofs.Tracked.{names_change}
+use Rattle.law_machine.proofs.Machine.Walks.{IsOfName, InRefs, InRefsUnder, InSettling, InSending, walk_then}
+use Rattle.law_machine.proofs.Machine.RefsWalk.{settles_by_lines, walk_send_on, walk_inform, walk_settle, walk_resolve, walk_send, walk_send_only, walk_react}
+use Rattle.law_fate.proofs.Fates.Leads.{LeadsBy, leads_closed, leads_spend, Leads, Ends, IsLed, IsLedUnder, leads, leads_bind, leads_then, leads_activation}
+use Rattle.law_fate.proofs.Fates.TurnLeads.{good_evaluator, leads_turn_value, leads_closes, leads_opening}
+use Rattle.law_fate.specs.Name.Names.{AllOf, names_in}
+use Rattle.law_fate.proofs.Name.Facts.{all_append}
+use Rattle.law_fate.proofs.Name.Among.{names_end}
+use Rattle.law_fate.proofs.Name.Tracked.{names_change}
 use Rattle.law_frame.proofs.Frame.Ranks.{Starts}
 use Rattle.law_frame.proofs.Frame.Grow.{starts_on}
 

@@ -6,17 +6,17 @@ use Rattle.def_machine.specs.State.{Passed, Passeds, Note, Delivery, Deliver, Op
 use Rattle.def_machine.specs.Arrive.{Incoming}
 use Rattle.def_run.specs.World as world
 use Rattle.def_run.specs.World.{Script, Entry, Link, World, Goes, link_at}
-use Rattle.law_reference.specs.Logs as wire
+use Rattle.law_reference.specs.Reference.Logs as wire
 use Rattle.def_machine.proofs.Keys.{key_of}
-use Rattle.law_name.specs.Names.{IsAmong, IsKnownIn, names_in}
-use Rattle.law_name.specs.Runs.{KnowsOnce}
+use Rattle.law_fate.specs.Name.Names.{IsAmong, IsKnownIn, names_in}
+use Rattle.law_fate.specs.Name.Runs.{KnowsOnce}
 use Rattle.def_machine.specs.Maps as maps
 use Rattle.def_machine.specs.Maps.{incoming}
-use Rattle.law_renaming.specs.Renaming.{Wire as Wired}
-use Rattle.law_renaming.specs.Stands.{found}
-use Rattle.law_reference.specs.Cuts.{NoticesFollowCuts}
-use Rattle.law_reference.specs.Notes.{IsBetween}
-use Rattle.law_reference.specs.GiftPassing.{IsProvidedBy, Provides}
+use Rattle.law_machine.specs.Renamed.Renaming.{Wire as Wired}
+use Rattle.law_machine.specs.Renamed.Stands.{found}
+use Rattle.law_reference.specs.Reference.Cuts.{NoticesFollowCuts}
+use Rattle.law_reference.specs.Reference.Notes.{IsBetween}
+use Rattle.law_reference.specs.Reference.GiftPassing.{IsProvidedBy, Provides}
 use Rattle.law_frame.specs.Frame.Asked.{told_in}
 use Rattle.law_frame.specs.Frame.Tables.{arrived}
 use Rattle.law_frame.specs.Frame.Hearing.{Heard}

@@ -3,30 +3,30 @@ use Rattle.std.proofs.Common.{◌≡◌, ℕ, zero, ◌+◌, ◌≤◌, List, []
 use Rattle.std.specs.Prelude.{slice_get}
 use Rattle.def_machine.specs.Values.{Name, Answer, Sent, Msg, answer_of}
 use Rattle.def_machine.specs.State.{Note, Deliver, Ask, Put, Vat}
-use Rattle.law_machine.specs.Steps.{Step, Receives}
+use Rattle.law_machine.specs.Machine.Steps.{Step, Receives}
 use Rattle.def_run.specs.World as world
 use Rattle.def_run.specs.World.{Script, Program, Entry, Link, World, Goes as Going, names_of, read_note, link_at}
-use Rattle.law_reference.specs.Logs as wire
-use Rattle.law_fate.specs.Fate.{one as same_one, once as same_once, of_note, in_note, sent_in}
-use Rattle.law_fate.specs.Lasting.{Each, NoteWell, StepComes}
-use Rattle.law_fate.proofs.RunWell.{note_comes, found_link}
-use Rattle.law_fate.specs.Carry.{held_at, put_weight, load}
-use Rattle.law_fate.specs.Sound.{StepArrives}
-use Rattle.law_fate.specs.CarryLaws.{leaves}
-use Rattle.law_fate.proofs.WorldLight.{VatSound, note_arrives, note_pays}
-use Rattle.law_reference.specs.Knowing.{numbered_at}
-use Rattle.law_name.specs.Names.{IsMessageName, IsAmong, names_in}
-use Rattle.law_name.specs.Runs.{KnowsOnce}
-use Rattle.law_name.proofs.Run.{Stands}
-use Rattle.law_reference.proofs.Counts.{Counted, IsNew, step_weighs, step_age}
-use Rattle.law_reference.proofs.Legs.{ApartIn}
-use Rattle.law_reference.proofs.LegFacts.{new_nowhere}
-use Rattle.law_reference.proofs.LegRuns.{Before, self_none, stands_of}
-use Rattle.law_reference.proofs.LegMoves.{first_weight, sound_note_of, opened_before, stepped_before}
-use Rattle.law_reference.proofs.Moves.{Moved, Steps, Arrives, IsAlone, Does, get_mid, entry_moves, opening_moves, steps_end, opens_end}
-use Rattle.law_reference.proofs.Places.{note_most, note_least}
-use Rattle.law_reference.proofs.SingleRuns.{opened_both, stepped_both}
-use Rattle.law_name.proofs.SameNames.{same_self}
+use Rattle.law_reference.specs.Reference.Logs as wire
+use Rattle.law_fate.specs.Fates.Fate.{one as same_one, once as same_once, of_note, in_note, sent_in}
+use Rattle.law_fate.specs.Fates.Lasting.{Each, NoteWell, StepComes}
+use Rattle.law_fate.proofs.Fates.RunWell.{note_comes, found_link}
+use Rattle.law_fate.specs.Fates.Carry.{held_at, put_weight, load}
+use Rattle.law_fate.specs.Fates.Sound.{StepArrives}
+use Rattle.law_fate.specs.Fates.CarryLaws.{leaves}
+use Rattle.law_fate.proofs.Fates.WorldLight.{VatSound, note_arrives, note_pays}
+use Rattle.law_reference.specs.Reference.Knowing.{numbered_at}
+use Rattle.law_fate.specs.Name.Names.{IsMessageName, IsAmong, names_in}
+use Rattle.law_fate.specs.Name.Runs.{KnowsOnce}
+use Rattle.law_fate.proofs.Name.Run.{Stands}
+use Rattle.law_reference.proofs.Reference.Counts.{Counted, IsNew, step_weighs, step_age}
+use Rattle.law_reference.proofs.Reference.Legs.{ApartIn}
+use Rattle.law_reference.proofs.Reference.LegFacts.{new_nowhere}
+use Rattle.law_reference.proofs.Reference.LegRuns.{Before, self_none, stands_of}
+use Rattle.law_reference.proofs.Reference.LegMoves.{first_weight, sound_note_of, opened_before, stepped_before}
+use Rattle.law_reference.proofs.Reference.Moves.{Moved, Steps, Arrives, IsAlone, Does, get_mid, entry_moves, opening_moves, steps_end, opens_end}
+use Rattle.law_reference.proofs.Reference.Places.{note_most, note_least}
+use Rattle.law_reference.proofs.Reference.SingleRuns.{opened_both, stepped_both}
+use Rattle.law_fate.proofs.Name.SameNames.{same_self}
 use Rattle.law_frame.specs.Frame.Asked.{told_in}
 use Rattle.law_frame.proofs.Frame.WireRuns as wires
 use Rattle.law_frame.proofs.Frame.WireRuns.{Wire}

@@ -6,12 +6,12 @@ use Rattle.def_machine.specs.Refs as refs
 use Rattle.def_machine.specs.Arrive as arrive
 use Rattle.def_machine.specs.Arrive.{New}
 use Rattle.def_run.specs.World as world
-use Rattle.law_machine.specs.Steps.{After}
-use Rattle.law_machine.proofs.Keeps.{Keeps, IsKept, IsKeptUnder, keeps_bind, keeps_then, keeps_alter}
-use Rattle.law_machine.proofs.RefsKeeps.{keeps_settle, keeps_send_on}
-use Rattle.law_machine.proofs.ArriveKeeps.{keeps_learn_name, keeps_learn_all}
-use Rattle.law_name.specs.Names.{names_in}
-use Rattle.law_name.proofs.Among.{names_end}
+use Rattle.law_machine.specs.Machine.Steps.{After}
+use Rattle.law_machine.proofs.Machine.Keeps.{Keeps, IsKept, IsKeptUnder, keeps_bind, keeps_then, keeps_alter}
+use Rattle.law_machine.proofs.Machine.RefsKeeps.{keeps_settle, keeps_send_on}
+use Rattle.law_machine.proofs.Machine.ArriveKeeps.{keeps_learn_name, keeps_learn_all}
+use Rattle.law_fate.specs.Name.Names.{names_in}
+use Rattle.law_fate.proofs.Name.Among.{names_end}
 use Rattle.law_frame.specs.Frame.Alike.{names_heard}
 use Rattle.law_frame.proofs.Frame.Grow.{starts_same}
 use Rattle.law_frame.proofs.Frame.Learning.{Grows, kept, kept_under, Learns, all_learns, name_learns, Begins, begun_by, grows_begins, Answered, SentOn, sent_keeps}

@@ -8,10 +8,10 @@ use Rattle.def_machine.specs.Refs.{Place, Away, host_at}
 use Rattle.def_machine.specs.Arrive as arrive
 use Rattle.def_machine.specs.Arrive.{Incoming, Old, New, gift_at}
 use Rattle.def_run.specs.World as world
-use Rattle.law_fate.proofs.Leads.{Leads, Ends, leads, leads_bind, leads_then, leads_give, leads_look, leads_if}
-use Rattle.law_name.specs.Names.{AllOf, IsAmong, IsEventual, IsMessageName, names_in}
-use Rattle.law_name.proofs.SameNames.{reference_is}
-use Rattle.law_name.proofs.Among.{among_last, among_or, among_is}
+use Rattle.law_fate.proofs.Fates.Leads.{Leads, Ends, leads, leads_bind, leads_then, leads_give, leads_look, leads_if}
+use Rattle.law_fate.specs.Name.Names.{AllOf, IsAmong, IsEventual, IsMessageName, names_in}
+use Rattle.law_fate.proofs.Name.SameNames.{reference_is}
+use Rattle.law_fate.proofs.Name.Among.{among_last, among_or, among_is}
 use Rattle.law_frame.specs.Frame.Asked.{told_value, told_passed, told_all, told_in}
 use Rattle.law_frame.specs.Frame.Lines.{DueIn, carried_in}
 use Rattle.law_frame.specs.Frame.Alike.{names_heard}

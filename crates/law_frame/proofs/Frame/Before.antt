@@ -5,18 +5,18 @@ use Rattle.def_machine.specs.Values.{answer_of, Name}
 use Rattle.def_machine.specs.State.{Note, Deliver, Open, Ask, SettledTo, Elsewhere, Shorten, Put, Vat}
 use Rattle.def_run.specs.World as world
 use Rattle.def_run.specs.World.{Script, Program, Entry, Link, World, Goes as Going, link_at, pushed, with_notes, severed_link, with_link, push_all, put_at}
-use Rattle.law_reference.specs.Logs as wire
-use Rattle.law_name.specs.Names.{AllOf, IsAmong, IsKnownIn, names_in}
-use Rattle.law_name.specs.Runs.{KnowsOnce}
-use Rattle.law_name.proofs.Facts.{all_map}
-use Rattle.law_name.proofs.Among.{get_put}
-use Rattle.law_reference.proofs.NotesLift as lift
-use Rattle.law_reference.proofs.LinksCut.{fits_notes, fits_severed}
-use Rattle.law_reference.proofs.Follow.{eq_dec}
-use Rattle.law_reference.proofs.AnswerLinks.{AtLink, with_any, push_others, push_where}
-use Rattle.law_reference.proofs.LegRuns.{Before, stands_of}
-use Rattle.law_reference.proofs.LegMoves.{opened_before, stepped_before}
-use Rattle.law_reference.proofs.Moves.{Moved, Still, Severs, Drops, Steps, Arrives, opened_hold, stepped_hold}
+use Rattle.law_reference.specs.Reference.Logs as wire
+use Rattle.law_fate.specs.Name.Names.{AllOf, IsAmong, IsKnownIn, names_in}
+use Rattle.law_fate.specs.Name.Runs.{KnowsOnce}
+use Rattle.law_fate.proofs.Name.Facts.{all_map}
+use Rattle.law_fate.proofs.Name.Among.{get_put}
+use Rattle.law_reference.proofs.Reference.NotesLift as lift
+use Rattle.law_reference.proofs.Reference.LinksCut.{fits_notes, fits_severed}
+use Rattle.law_reference.proofs.Reference.Follow.{eq_dec}
+use Rattle.law_reference.proofs.Reference.AnswerLinks.{AtLink, with_any, push_others, push_where}
+use Rattle.law_reference.proofs.Reference.LegRuns.{Before, stands_of}
+use Rattle.law_reference.proofs.Reference.LegMoves.{opened_before, stepped_before}
+use Rattle.law_reference.proofs.Reference.Moves.{Moved, Still, Severs, Drops, Steps, Arrives, opened_hold, stepped_hold}
 use Rattle.law_frame.proofs.Frame.Questions.{asked_or, asked_first, asked_rest}
 use Rattle.law_frame.specs.Frame.Asked.{AsksOf, told_in}
 use Rattle.law_frame.proofs.Frame.LinksKnown.{AsksOwn, Sent, LinkKnown, at_link}

@@ -2,9 +2,9 @@
 use Rattle.std.proofs.Common.{◌≡◌, ℕ, [], Some, None, refl, ap, sym, subst, length}
 use Rattle.def_machine.specs.Values.{Name, Local}
 use Rattle.def_machine.specs.State.{Vat}
-use Rattle.law_renaming.specs.Stands.{Found, Table, StandsFor}
+use Rattle.law_machine.specs.Renamed.Stands.{Found, Table, StandsFor}
 use Rattle.def_run.specs.World.{World, readied}
-use Rattle.law_reference.specs.Tables.{table_of}
+use Rattle.law_reference.specs.Reference.Tables.{table_of}
 use Rattle.law_frame.specs.Frame.AlikeArrivals.{table_across}
 use Rattle.law_frame.specs.Frame.Steps.{OwnStep, EndsFor, entry_by_numbers, opening_by_numbers}
 use Rattle.law_frame.specs.Frame.Chain.{readied_by_numbers, LeavesFor, EntriesChainOn, OpeningTurnsChainOn}

@@ -6,24 +6,24 @@ use Rattle.def_machine.specs.State.{Message, Note, Vat, Gives}
 use Rattle.def_machine.specs.Arrive as arrive
 use Rattle.def_machine.specs.Arrive.{Incoming}
 use Rattle.def_machine.specs.Eval.{taking}
-use Rattle.law_machine.specs.Steps.{Step, Takes, Receives, Notices, does}
-use Rattle.law_machine.specs.Laws.{SameNames, SameMails}
-use Rattle.law_machine.proofs.StepLaws.{names_stays, mails_stays}
+use Rattle.law_machine.specs.Machine.Steps.{Step, Takes, Receives, Notices, does}
+use Rattle.law_machine.specs.Machine.Laws.{SameNames, SameMails}
+use Rattle.law_machine.proofs.Machine.StepLaws.{names_stays, mails_stays}
 use Rattle.def_run.specs.Draws.{draw_word}
 use Rattle.def_run.specs.World as world
 use Rattle.def_run.specs.World.{Script, Entry, Turn, Carry, CutLink, NoticeLink, Turned, Idle, Carried, NoticedAt, Link, World, Goes as Going, readied, names_of, read_note, link_at, put_at}
-use Rattle.law_name.specs.Runs.{KnowsOnce}
-use Rattle.law_reference.specs.Cuts.{NoticesFollowCuts}
+use Rattle.law_fate.specs.Name.Runs.{KnowsOnce}
+use Rattle.law_reference.specs.Reference.Cuts.{NoticesFollowCuts}
 use Rattle.def_machine.specs.Maps as maps
-use Rattle.law_renaming.specs.Renaming.{Wire as Wired}
-use Rattle.law_renaming.specs.Stands.{Found, Is, IsTable, StandsFor, found}
-use Rattle.law_renaming.proofs.Steps.{turns_stand, notices_stand}
-use Rattle.law_reference.specs.Tables.{table_of}
-use Rattle.law_reference.proofs.LegRuns.{self_none}
-use Rattle.law_reference.proofs.LegMoves.{stepped_before}
-use Rattle.law_reference.proofs.Moves.{steps_end}
-use Rattle.law_reference.proofs.AskHolds.{notices_front}
-use Rattle.law_reference.proofs.ApartWhole.{have_tables}
+use Rattle.law_machine.specs.Renamed.Renaming.{Wire as Wired}
+use Rattle.law_machine.specs.Renamed.Stands.{Found, Is, IsTable, StandsFor, found}
+use Rattle.law_machine.proofs.Renamed.Steps.{turns_stand, notices_stand}
+use Rattle.law_reference.specs.Reference.Tables.{table_of}
+use Rattle.law_reference.proofs.Reference.LegRuns.{self_none}
+use Rattle.law_reference.proofs.Reference.LegMoves.{stepped_before}
+use Rattle.law_reference.proofs.Reference.Moves.{steps_end}
+use Rattle.law_reference.proofs.Reference.AskHolds.{notices_front}
+use Rattle.law_reference.proofs.Reference.ApartWhole.{have_tables}
 use Rattle.law_frame.specs.Frame.Hearing.{Heard}
 use Rattle.law_frame.specs.Frame.AlikeArrivals.{frame_heard, table_across}
 use Rattle.law_frame.proofs.Frame.AlikeArrivals.{put_given, carried, tables_join}

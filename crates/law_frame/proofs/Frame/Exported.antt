@@ -4,10 +4,10 @@ use Rattle.std.proofs.lemmas.Bool.{eq-eqb}
 use Rattle.def_machine.specs.Values.{Value, Null, Flag, Number, Letter, Text, Prim, Broken, Items, Ref, Name, host_of}
 use Rattle.def_machine.specs.State.{Passed, Passeds, Plain, AGift, Many, NoMore, More, Note, Deliver, Open, Ask, SettledTo, Elsewhere, Shorten}
 use Rattle.def_run.specs.World.{has_name}
-use Rattle.law_reference.specs.Logs as wire
-use Rattle.law_name.specs.Names.{IsAmong}
-use Rattle.law_name.proofs.Among.{among_more, among_last}
-use Rattle.law_name.proofs.SameNames.{has_among}
+use Rattle.law_reference.specs.Reference.Logs as wire
+use Rattle.law_fate.specs.Name.Names.{IsAmong}
+use Rattle.law_fate.proofs.Name.Among.{among_more, among_last}
+use Rattle.law_fate.proofs.Name.SameNames.{has_among}
 use Rattle.law_frame.specs.Frame.Asked.{told_value, told_passed, told_all, told_in}
 
 true_false : (b : Bool) → b ≡ true → b ≡ false → ⊥

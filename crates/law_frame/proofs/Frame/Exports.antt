@@ -5,19 +5,19 @@ use Rattle.def_machine.specs.Values.{answer_of, Value, Ref, Name, host_of, Local
 use Rattle.def_machine.specs.State.{Passed, Passeds, Plain, AGift, Many, NoMore, More, Note, Deliver, Open, Ask, SettledTo, Elsewhere, Shorten, Vat}
 use Rattle.def_run.specs.World as world
 use Rattle.def_run.specs.World.{Script, Program, Entry, Link, World, Goes as Going, link_at, has_name, pushed, with_notes, severed_link, with_link, push_all}
-use Rattle.law_reference.specs.Logs as wire
-use Rattle.law_name.specs.Names.{AllOf, IsAmong}
-use Rattle.law_name.specs.Runs.{KnowsOnce}
-use Rattle.law_name.proofs.SameNames.{has_among, among_has}
-use Rattle.law_renaming.specs.Stands.{StandsFor}
-use Rattle.law_renaming.proofs.Stands.{both, still}
-use Rattle.law_reference.proofs.LinksCut.{fits_notes, fits_severed}
-use Rattle.law_reference.specs.Exports.{object_of, exported_at}
-use Rattle.law_reference.specs.Tables.{table_of}
-use Rattle.law_reference.proofs.AnswerLinks.{AtLink, with_any, push_keeps}
-use Rattle.law_reference.proofs.LegRuns.{stands_of}
-use Rattle.law_reference.proofs.LegMoves.{opened_before, stepped_before}
-use Rattle.law_reference.proofs.Moves.{Moved, Still, Severs, Drops, Steps, Arrives, get_mid, entry_moves, opening_moves}
+use Rattle.law_reference.specs.Reference.Logs as wire
+use Rattle.law_fate.specs.Name.Names.{AllOf, IsAmong}
+use Rattle.law_fate.specs.Name.Runs.{KnowsOnce}
+use Rattle.law_fate.proofs.Name.SameNames.{has_among, among_has}
+use Rattle.law_machine.specs.Renamed.Stands.{StandsFor}
+use Rattle.law_machine.proofs.Renamed.Stands.{both, still}
+use Rattle.law_reference.proofs.Reference.LinksCut.{fits_notes, fits_severed}
+use Rattle.law_reference.specs.Reference.Exports.{object_of, exported_at}
+use Rattle.law_reference.specs.Reference.Tables.{table_of}
+use Rattle.law_reference.proofs.Reference.AnswerLinks.{AtLink, with_any, push_keeps}
+use Rattle.law_reference.proofs.Reference.LegRuns.{stands_of}
+use Rattle.law_reference.proofs.Reference.LegMoves.{opened_before, stepped_before}
+use Rattle.law_reference.proofs.Reference.Moves.{Moved, Still, Severs, Drops, Steps, Arrives, get_mid, entry_moves, opening_moves}
 use Rattle.law_frame.proofs.Frame.Questions.{asked_or, asked_first, asked_rest}
 use Rattle.law_frame.specs.Frame.Asked.{told_value, told_passed, told_all, told_in}
 use Rattle.law_frame.proofs.Frame.Ranks.{Starts, exports_start, exports_twice}

@@ -6,12 +6,12 @@ use Rattle.def_machine.specs.Values.{Name, Object, host_of}
 use Rattle.def_machine.specs.State.{Note, Deliver, Open, Ask, SettledTo, Elsewhere, Shorten, Put, Vat}
 use Rattle.def_run.specs.World as world
 use Rattle.def_run.specs.World.{Link}
-use Rattle.law_name.specs.Names.{Named, AllOf, IsAmong, PutOk}
-use Rattle.law_name.proofs.Facts.{all_map, all_end}
-use Rattle.law_name.proofs.Among.{all_among}
-use Rattle.law_name.proofs.Care.{parts_up}
-use Rattle.law_reference.specs.Notes.{IsBetween, Carries}
-use Rattle.law_reference.proofs.LinksCut.{fits_notes}
+use Rattle.law_fate.specs.Name.Names.{Named, AllOf, IsAmong, PutOk}
+use Rattle.law_fate.proofs.Name.Facts.{all_map, all_end}
+use Rattle.law_fate.proofs.Name.Among.{all_among}
+use Rattle.law_fate.proofs.Name.Care.{parts_up}
+use Rattle.law_reference.specs.Reference.Notes.{IsBetween, Carries}
+use Rattle.law_reference.proofs.Reference.LinksCut.{fits_notes}
 use Rattle.law_frame.specs.Frame.Asked.{told_in}
 use Rattle.law_frame.proofs.Frame.WireAsking.{Proper}
 use Rattle.law_frame.proofs.Frame.Objects.{OwnOrTold, Handed, AllHanded, handed_up}

@@ -4,10 +4,10 @@ use Rattle.std.specs.Prelude.{slice_get}
 use Rattle.def_machine.specs.Values.{Name, Root, Object, Promise, Answer, Gift, Sent as Message_name, host_of}
 use Rattle.def_machine.specs.State.{Note, Vat, is_in}
 use Rattle.def_run.specs.World.{Script, Link, World, link_at, has_name}
-use Rattle.law_reference.specs.Logs as wire
-use Rattle.law_name.specs.Names.{AllOf, IsAmong, IsKnownIn, names_in}
-use Rattle.law_name.proofs.SameNames.{has_among}
-use Rattle.law_reference.proofs.NoticedRuns.{noticed_links_cut}
+use Rattle.law_reference.specs.Reference.Logs as wire
+use Rattle.law_fate.specs.Name.Names.{AllOf, IsAmong, IsKnownIn, names_in}
+use Rattle.law_fate.proofs.Name.SameNames.{has_among}
+use Rattle.law_reference.proofs.Reference.NoticedRuns.{noticed_links_cut}
 use Rattle.law_frame.specs.Frame.Asked.{told_in}
 use Rattle.law_frame.specs.Frame.Given.{NotesNameWhatWasGiven}
 use Rattle.law_frame.proofs.Frame.Exported.{exports_in}

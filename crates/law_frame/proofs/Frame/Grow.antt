@@ -6,10 +6,10 @@ use Rattle.def_machine.specs.Values.{Value, Ref, Name, Root, Object, Promise, An
 use Rattle.def_machine.specs.State.{Passed, Passeds, Plain, AGift, Many, NoMore, More, Note, Deliver, Open, Ask, SettledTo, Elsewhere, Shorten}
 use Rattle.def_run.specs.World as world
 use Rattle.def_run.specs.World.{has_name, is_old, known_after}
-use Rattle.law_reference.specs.Logs as wire
-use Rattle.law_name.specs.Names.{IsAmong, IsKnownIn}
-use Rattle.law_name.proofs.SameNames.{has_among, among_has, same_self}
-use Rattle.law_name.proofs.Among.{among_last, among_or}
+use Rattle.law_reference.specs.Reference.Logs as wire
+use Rattle.law_fate.specs.Name.Names.{IsAmong, IsKnownIn}
+use Rattle.law_fate.proofs.Name.SameNames.{has_among, among_has, same_self}
+use Rattle.law_fate.proofs.Name.Among.{among_last, among_or}
 use Rattle.law_frame.proofs.Frame.Ranks.{Starts}
 
 pub true_false : (b : Bool) → b ≡ true → b ≡ false → ⊥

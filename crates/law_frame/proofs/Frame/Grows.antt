@@ -11,8 +11,8 @@ use Rattle.def_run.specs.Wire as wire
 use Rattle.def_run.specs.Wire.{Connected, connected_at}
 use Rattle.def_run.specs.World as world
 use Rattle.def_run.specs.World.{Script, Event, Opens, Turned, Idle, Carried, CutAt, NoticedAt, Here, LostCut, LeftQueue, LeftHeld, LeftWait, LeftLink, Ends, World, Goes}
-use Rattle.law_machine.specs.Steps.{Step, does}
-use Rattle.law_run.proofs.RunKeeps.{IsKeptByRuns, run_keeps, opens_keep}
+use Rattle.law_machine.specs.Machine.Steps.{Step, does}
+use Rattle.law_machine.proofs.Run.RunKeeps.{IsKeptByRuns, run_keeps, opens_keep}
 use Rattle.law_frame.specs.Frame.Growing.{IsFront, TablesGrow, ConnectedGrows, AllGrow, NumbersStay}
 use Rattle.law_frame.proofs.Frame.Lists.{front_same, front_more, front_trans}
 use Rattle.law_frame.proofs.Frame.Hears.{Later, note_later}

@@ -7,16 +7,16 @@ use Rattle.def_machine.specs.Refs.{entry_of, host_at}
 use Rattle.def_machine.specs.Arrive as arrive
 use Rattle.def_machine.specs.Arrive.{Old, New}
 use Rattle.def_run.specs.World as world
-use Rattle.law_machine.specs.Steps.{After}
-use Rattle.law_machine.proofs.Keeps.{Keeps, IsKept, IsKeptUnder, keeps_bind, keeps_then, keeps_if, keeps_give, keeps_look, keeps_come, keeps_alter, keeps_open}
-use Rattle.law_machine.proofs.RefsKeeps.{keeps_settle, keeps_send_on, keeps_resolve}
-use Rattle.law_machine.proofs.ArriveKeeps.{keeps_learn_name, keeps_learn, keeps_learn_all, keeps_make_list, keeps_have_gift, keeps_view_there, keeps_shorten_to, keeps_arrive_ask}
-use Rattle.law_fate.proofs.Leads.{Leads, Ends, leads_bind}
-use Rattle.law_name.specs.Names.{AllOf, IsAmong, IsKnownIn, IsEventual, Once, names_in}
-use Rattle.law_name.proofs.Facts.{all_append, all_map}
-use Rattle.law_name.proofs.SameNames.{reference_is, reference_self}
-use Rattle.law_name.proofs.Among.{among_or, names_end}
-use Rattle.law_name.proofs.Tracked.{names_change}
+use Rattle.law_machine.specs.Machine.Steps.{After}
+use Rattle.law_machine.proofs.Machine.Keeps.{Keeps, IsKept, IsKeptUnder, keeps_bind, keeps_then, keeps_if, keeps_give, keeps_look, keeps_come, keeps_alter, keeps_open}
+use Rattle.law_machine.proofs.Machine.RefsKeeps.{keeps_settle, keeps_send_on, keeps_resolve}
+use Rattle.law_machine.proofs.Machine.ArriveKeeps.{keeps_learn_name, keeps_learn, keeps_learn_all, keeps_make_list, keeps_have_gift, keeps_view_there, keeps_shorten_to, keeps_arrive_ask}
+use Rattle.law_fate.proofs.Fates.Leads.{Leads, Ends, leads_bind}
+use Rattle.law_fate.specs.Name.Names.{AllOf, IsAmong, IsKnownIn, IsEventual, Once, names_in}
+use Rattle.law_fate.proofs.Name.Facts.{all_append, all_map}
+use Rattle.law_fate.proofs.Name.SameNames.{reference_is, reference_self}
+use Rattle.law_fate.proofs.Name.Among.{among_or, names_end}
+use Rattle.law_fate.proofs.Name.Tracked.{names_change}
 use Rattle.law_frame.specs.Frame.Asked.{told_in}
 use Rattle.law_frame.specs.Frame.Alike.{names_heard}
 use Rattle.law_frame.proofs.Frame.Ranks.{Starts}

@@ -4,8 +4,8 @@ use Rattle.def_machine.specs.Values.{Name}
 use Rattle.def_machine.specs.State.{Note}
 use Rattle.def_run.specs.World as world
 use Rattle.def_run.specs.World.{Link}
-use Rattle.law_name.specs.Names.{AllOf, IsAmong}
-use Rattle.law_name.proofs.Among.{among_more, among_last}
+use Rattle.law_fate.specs.Name.Names.{AllOf, IsAmong}
+use Rattle.law_fate.proofs.Name.Among.{among_more, among_last}
 use Rattle.law_frame.specs.Frame.Tables.{arrived}
 use Rattle.law_frame.proofs.Frame.WireArrivals.{arrived_is}
 

@@ -6,8 +6,8 @@ use Rattle.def_machine.specs.Values.{Name, Gift}
 use Rattle.def_machine.specs.State.{Note, Deliver, Ask, Put, Vat}
 use Rattle.def_run.specs.World as world
 use Rattle.def_run.specs.World.{Link}
-use Rattle.law_name.specs.Names.{AllOf, IsAmong, IsMessageName, IsKnownIn, names_in}
-use Rattle.law_name.proofs.Facts.{all_map, all_end}
+use Rattle.law_fate.specs.Name.Names.{AllOf, IsAmong, IsMessageName, IsKnownIn, names_in}
+use Rattle.law_fate.proofs.Name.Facts.{all_map, all_end}
 use Rattle.law_frame.specs.Frame.Asked.{AskFits, told_in}
 use Rattle.law_frame.proofs.Frame.WireAsking.{Proper, ask_up}
 use Rattle.law_frame.proofs.Frame.ArriveAsking.{Answered, MailFits, Has}

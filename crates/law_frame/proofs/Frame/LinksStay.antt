@@ -1,12 +1,12 @@
 -- From each vat of a script there is a link to each other one, in every world of a run.
 use Rattle.std.proofs.Common.{◌≡◌, ℕ, ◌<◌, zero, false, List, ◌++◌, sym, subst, length, ◌==◌, arith, Option, Some, refl}
 use Rattle.def_run.specs.World as world
-use Rattle.law_reference.specs.Logs as wire
+use Rattle.law_reference.specs.Reference.Logs as wire
 use Rattle.def_run.specs.World.{Script, Program, Entry, Link, World, Goes as Going}
-use Rattle.law_name.specs.Runs.{KnowsOnce}
-use Rattle.law_reference.proofs.LegRuns.{Before, stands_of}
-use Rattle.law_reference.proofs.LegMoves.{opened_before, stepped_before}
-use Rattle.law_reference.proofs.Moves.{Moved, Still, Severs, Drops, Steps, Arrives, opened_hold, stepped_hold}
+use Rattle.law_fate.specs.Name.Runs.{KnowsOnce}
+use Rattle.law_reference.proofs.Reference.LegRuns.{Before, stands_of}
+use Rattle.law_reference.proofs.Reference.LegMoves.{opened_before, stepped_before}
+use Rattle.law_reference.proofs.Reference.Moves.{Moved, Still, Severs, Drops, Steps, Arrives, opened_hold, stepped_hold}
 use Rattle.law_frame.proofs.Frame.LinksGo.{IsThere, Lasts, with_link_lasts}
 use Rattle.law_frame.proofs.Frame.LinksThere.{from_there}
 use Rattle.law_frame.proofs.Frame.Sources.{push_all_lasts, take_lasts, severed_stay}

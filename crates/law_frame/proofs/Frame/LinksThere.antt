@@ -3,8 +3,8 @@ use Rattle.std.proofs.Common.{◌≡◌, ℕ, ◌≤◌, ◌<◌, zero, suc, ◌
 use Rattle.std.proofs.lemmas.Bool.{eqb-true, eq-eqb}
 use Rattle.def_run.specs.World as world
 use Rattle.def_run.specs.World.{Script, Program, Link}
-use Rattle.law_name.specs.Names.{AllOf}
-use Rattle.law_name.proofs.Facts.{all_append}
+use Rattle.law_fate.specs.Name.Names.{AllOf}
+use Rattle.law_fate.proofs.Name.Facts.{all_append}
 use Rattle.law_frame.proofs.Frame.LinksKnown.{at_link}
 use Rattle.law_frame.proofs.Frame.LinksGo.{IsThere, Paired}
 

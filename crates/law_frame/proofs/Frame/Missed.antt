@@ -8,23 +8,23 @@ use Rattle.def_machine.specs.Refs.{Mine, Away, host_at}
 use Rattle.def_machine.specs.Arrive as arrive
 use Rattle.def_machine.specs.Arrive.{New}
 use Rattle.def_machine.proofs.Keys.{word_under_key}
-use Rattle.law_machine.specs.Steps.{Step, Opens as Starts, Takes, Receives, Notices, does}
+use Rattle.law_machine.specs.Machine.Steps.{Step, Opens as Starts, Takes, Receives, Notices, does}
 use Rattle.def_run.specs.Draws.{draw_word}
 use Rattle.def_run.specs.World as world
 use Rattle.def_run.specs.World.{Script, World, names, read_note, names_of, readied}
-use Rattle.law_name.specs.Names.{Bit, Gave, WasDrawn, AllOf, NameOk, ValueOk, ValuesOk, MessageOk, StandingOk, EntryOk, KnownOk, CellOk, FreedomOk, ViewOk, BoundOk, NounOk, ThingOk, GiftOk, NoteOk, PutOk, Parts}
-use Rattle.law_name.proofs.Facts.{PlaceOk, Fact, Nothing, Also, IsName, IsMail, IsGiven, IsVat, IsValue, nothing}
-use Rattle.law_name.proofs.Care.{Care, Under, Giving, Makes, Sound, Ends, Gets, Fine, fine_bind, fine_less, fine_then, fine_more, fine_give, fine_look, fine_tell, fine_out, fine_wait, come_gift, changes_ok, with_known}
-use Rattle.law_name.proofs.CareArrive.{Gifts, gifts_by, fine_ask_for, fine_gift_there}
-use Rattle.law_name.proofs.Among.{among_more, key_not_drawn}
-use Rattle.law_name.proofs.SameNames.{reference_is}
-use Rattle.law_reference.proofs.LegRuns.{MailBits}
-use Rattle.law_reference.proofs.Moves.{IsAlone, Does}
-use Rattle.law_reference.proofs.Arrivals.{PassedTells, PassedsTell, NoteTells, Brings, note_read}
+use Rattle.law_fate.specs.Name.Names.{Bit, Gave, WasDrawn, AllOf, NameOk, ValueOk, ValuesOk, MessageOk, StandingOk, EntryOk, KnownOk, CellOk, FreedomOk, ViewOk, BoundOk, NounOk, ThingOk, GiftOk, NoteOk, PutOk, Parts}
+use Rattle.law_fate.proofs.Name.Facts.{PlaceOk, Fact, Nothing, Also, IsName, IsMail, IsGiven, IsVat, IsValue, nothing}
+use Rattle.law_fate.proofs.Name.Care.{Care, Under, Giving, Makes, Sound, Ends, Gets, Fine, fine_bind, fine_less, fine_then, fine_more, fine_give, fine_look, fine_tell, fine_out, fine_wait, come_gift, changes_ok, with_known}
+use Rattle.law_fate.proofs.Name.CareArrive.{Gifts, gifts_by, fine_ask_for, fine_gift_there}
+use Rattle.law_fate.proofs.Name.Among.{among_more, key_not_drawn}
+use Rattle.law_fate.proofs.Name.SameNames.{reference_is}
+use Rattle.law_reference.proofs.Reference.LegRuns.{MailBits}
+use Rattle.law_reference.proofs.Reference.Moves.{IsAlone, Does}
+use Rattle.law_reference.proofs.Reference.Arrivals.{PassedTells, PassedsTell, NoteTells, Brings, note_read}
 use Rattle.law_frame.proofs.Frame.AlikeAsking.{Any, IsNoAsk, Quiet, quiet_taking, quiet_opening, quiet_notice, quiet_arrive_ask}
-use Rattle.law_fate.specs.Fate.{once}
-use Rattle.law_fate.proofs.Leads.{Leads, Ends as Led}
-use Rattle.law_reference.specs.GiftPassing.{gifts_in, gifts_in_all, gifts_in_note}
+use Rattle.law_fate.specs.Fates.Fate.{once}
+use Rattle.law_fate.proofs.Fates.Leads.{Leads, Ends as Led}
+use Rattle.law_reference.specs.Reference.GiftPassing.{gifts_in, gifts_in_all, gifts_in_note}
 
 module _ (i : ℕ) where
   -- it is no gift of draw i that is asked for

@@ -10,17 +10,17 @@ use Rattle.def_machine.specs.State.{Note, Elsewhere, Vat}
 use Rattle.def_machine.specs.Arrive.{Incoming, Old, New}
 use Rattle.def_run.specs.World as world
 use Rattle.def_run.specs.World.{Script, Link, World, link_at, has_name, is_old, read_name, known_after}
-use Rattle.law_reference.specs.Logs as wire
-use Rattle.law_name.specs.Names.{AllOf, IsAmong, IsKnownIn, names_in}
-use Rattle.law_name.proofs.SameNames.{has_among, among_has}
-use Rattle.law_name.proofs.Among.{all_among}
+use Rattle.law_reference.specs.Reference.Logs as wire
+use Rattle.law_fate.specs.Name.Names.{AllOf, IsAmong, IsKnownIn, names_in}
+use Rattle.law_fate.proofs.Name.SameNames.{has_among, among_has}
+use Rattle.law_fate.proofs.Name.Among.{all_among}
 use Rattle.def_machine.specs.Maps as maps
 use Rattle.def_machine.specs.Maps.{incoming}
-use Rattle.law_renaming.specs.Renaming.{Wire as Wired, Mine}
-use Rattle.law_renaming.specs.Stands.{Found, Is, found, prom_found, far_found}
-use Rattle.law_reference.specs.Exports.{object_of, exported_at}
-use Rattle.law_reference.specs.Notes.{IsBetween, LinkFits}
-use Rattle.law_reference.proofs.NotesRuns.{notes_name_ends}
+use Rattle.law_machine.specs.Renamed.Renaming.{Wire as Wired, Mine}
+use Rattle.law_machine.specs.Renamed.Stands.{Found, Is, found, prom_found, far_found}
+use Rattle.law_reference.specs.Reference.Exports.{object_of, exported_at}
+use Rattle.law_reference.specs.Reference.Notes.{IsBetween, LinkFits}
+use Rattle.law_reference.proofs.Reference.NotesRuns.{notes_name_ends}
 use Rattle.law_frame.specs.Frame.Tables.{Tables, known_number, import_number, import_numbers, tables_of, arrived}
 use Rattle.law_frame.specs.Frame.Hearing.{Heard, told, told_if, next, with_position, promise_heard, name_heard, outcome_heard, note_heard}
 use Rattle.law_frame.specs.Frame.Alike.{table_heard, names_heard, wire_name, as_told, by_numbers, by_names}

@@ -5,10 +5,10 @@ use Rattle.def_machine.specs.Values.{Name}
 use Rattle.def_machine.specs.State.{Note, Vat}
 use Rattle.def_run.specs.World as world
 use Rattle.def_run.specs.World.{Script, Entry, Turn, Carry, CutLink, NoticeLink, Link, World, Goes as Going, link_at}
-use Rattle.law_name.specs.Runs.{KnowsOnce}
-use Rattle.law_reference.specs.Cuts.{NoticesFollow, NoticesFollowCuts}
-use Rattle.law_reference.specs.NameTableRuns.{BringsNew}
-use Rattle.law_reference.proofs.ApartWhole.{bring_new}
+use Rattle.law_fate.specs.Name.Runs.{KnowsOnce}
+use Rattle.law_reference.specs.Reference.Cuts.{NoticesFollow, NoticesFollowCuts}
+use Rattle.law_reference.specs.Reference.NameTableRuns.{BringsNew}
+use Rattle.law_reference.proofs.Reference.ApartWhole.{bring_new}
 use Rattle.law_frame.proofs.Frame.AlikeLaws.{new_notes_alike}
 use Rattle.law_frame.proofs.Frame.AlikeArrivals.{new_last, arrivals_by_numbers, positions_kept_alike}
 use Rattle.law_frame.specs.Frame.Notes.{EveryNoteIsReadAlike, EveryPositionIsKeptAlike, EveryArrivalStands}

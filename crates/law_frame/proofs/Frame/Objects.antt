@@ -12,14 +12,14 @@ use Rattle.def_machine.specs.Eval as eval
 use Rattle.def_kernel.specs.declared.node.Node.{Node}
 use Rattle.def_run.specs.World as world
 use Rattle.def_run.specs.World.{Program}
-use Rattle.law_name.specs.Names.{Bit, Named, Mail, Entered, Owns, AllOf, IsAmong, IsMessageName, NounOk, KnownOk, Parts}
-use Rattle.law_name.proofs.Facts.{all_end, PlaceOk, Fact, Nothing, Also, IsName, IsMail, IsDraw, IsVat, IsValue, AreValues, AreNouns, IsMessage, nothing}
-use Rattle.law_name.proofs.Care.{Care, Under, Giving, Makes, Gets, Fine, Ends, fine_bind, fine_less, fine_then, fine_give, fine_look, fine_tell, fine_out, fine_draw, fine_wait, come_gift, changes_ok, begun_ok}
-use Rattle.law_name.proofs.SameNames.{reference_is}
-use Rattle.law_name.proofs.CareRefs.{fine_settle}
-use Rattle.law_name.proofs.Serves.{served_by, closing_by}
-use Rattle.law_name.proofs.CareEval.{fine_opening, fine_taking}
-use Rattle.law_name.proofs.CareArrive.{Gifts, gifts_by, fine_gift_there, fine_ask_for, fine_make_list, fine_arrive_ask, fine_delivered, fine_opened, fine_went, fine_shortened, fine_notice}
+use Rattle.law_fate.specs.Name.Names.{Bit, Named, Mail, Entered, Owns, AllOf, IsAmong, IsMessageName, NounOk, KnownOk, Parts}
+use Rattle.law_fate.proofs.Name.Facts.{all_end, PlaceOk, Fact, Nothing, Also, IsName, IsMail, IsDraw, IsVat, IsValue, AreValues, AreNouns, IsMessage, nothing}
+use Rattle.law_fate.proofs.Name.Care.{Care, Under, Giving, Makes, Gets, Fine, Ends, fine_bind, fine_less, fine_then, fine_give, fine_look, fine_tell, fine_out, fine_draw, fine_wait, come_gift, changes_ok, begun_ok}
+use Rattle.law_fate.proofs.Name.SameNames.{reference_is}
+use Rattle.law_fate.proofs.Name.CareRefs.{fine_settle}
+use Rattle.law_fate.proofs.Name.Serves.{served_by, closing_by}
+use Rattle.law_fate.proofs.Name.CareEval.{fine_opening, fine_taking}
+use Rattle.law_fate.proofs.Name.CareArrive.{Gifts, gifts_by, fine_gift_there, fine_ask_for, fine_make_list, fine_arrive_ask, fine_delivered, fine_opened, fine_went, fine_shortened, fine_notice}
 use Rattle.law_frame.specs.Frame.Asked.{told_value, told_passed, told_all, told_in}
 use Rattle.law_frame.proofs.Frame.ArriveAsking.{MailFits, among_front, among_back}
 

@@ -5,21 +5,21 @@ use Rattle.def_machine.specs.Values.{Name, Root, Local, Prom, naming, numbering}
 use Rattle.def_machine.specs.State.{Vat, Gives, begun}
 use Rattle.def_machine.specs.Scopes.{any_guard}
 use Rattle.def_machine.specs.Eval.{opening}
-use Rattle.law_machine.specs.Steps.{Opens as Starts, does}
-use Rattle.law_machine.specs.Laws.{SameNames, SameMails}
-use Rattle.law_machine.proofs.StepLaws.{names_stays, mails_stays}
+use Rattle.law_machine.specs.Machine.Steps.{Opens as Starts, does}
+use Rattle.law_machine.specs.Machine.Laws.{SameNames, SameMails}
+use Rattle.law_machine.proofs.Machine.StepLaws.{names_stays, mails_stays}
 use Rattle.def_run.specs.Draws.{draw_word}
 use Rattle.def_run.specs.World as world
 use Rattle.def_run.specs.World.{Script, Program, Opens, World, Run, Goes as Going, Stopped, readied, put_at}
-use Rattle.law_name.specs.Names.{names_in}
-use Rattle.law_name.specs.Runs.{KnowsOnce}
+use Rattle.law_fate.specs.Name.Names.{names_in}
+use Rattle.law_fate.specs.Name.Runs.{KnowsOnce}
 use Rattle.def_machine.specs.Maps as maps
-use Rattle.law_renaming.specs.Renaming.{Wire as Wired}
-use Rattle.law_renaming.specs.Stands.{Found, Is, IsTable, StandsFor, prom_found, found}
-use Rattle.law_renaming.proofs.Steps.{openings_stand as turns_open}
-use Rattle.law_reference.specs.Tables.{table_of}
-use Rattle.law_reference.proofs.Moves.{opens_end}
-use Rattle.law_reference.proofs.ApartWhole.{have_tables}
+use Rattle.law_machine.specs.Renamed.Renaming.{Wire as Wired}
+use Rattle.law_machine.specs.Renamed.Stands.{Found, Is, IsTable, StandsFor, prom_found, found}
+use Rattle.law_machine.proofs.Renamed.Steps.{openings_stand as turns_open}
+use Rattle.law_reference.specs.Reference.Tables.{table_of}
+use Rattle.law_reference.proofs.Reference.Moves.{opens_end}
+use Rattle.law_reference.proofs.Reference.ApartWhole.{have_tables}
 use Rattle.law_frame.specs.Frame.AlikeArrivals.{table_across}
 use Rattle.law_frame.proofs.Frame.AlikeArrivals.{some_same, put_given, tables_join}
 use Rattle.law_frame.specs.Frame.Steps.{given_by_numbers, opening_by_numbers, EndsFor, OpeningTurnsByNumbersStand}

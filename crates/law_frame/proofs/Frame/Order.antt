@@ -2,7 +2,7 @@
 use Rattle.std.proofs.Common.{◌≡◌, ℕ, List, [], ◌∷◌, ◌++◌, refl, sym, subst, ◌⊎◌, inl, inr, append-nil}
 use Rattle.def_machine.specs.Values.{Name, Root, Object, Promise, Answer, Gift, Sent}
 use Rattle.def_machine.specs.State.{Note, Ask, Put}
-use Rattle.law_name.specs.Names.{AllOf, IsAmong, IsKnownIn, IsEventual}
+use Rattle.law_fate.specs.Name.Names.{AllOf, IsAmong, IsKnownIn, IsEventual}
 use Rattle.law_frame.specs.Frame.Asked.{told_in}
 use Rattle.law_frame.proofs.Frame.Grow.{among_left, among_right}
 use Rattle.law_frame.proofs.Frame.AlikeAsking.{IsNoAsk}

@@ -4,20 +4,20 @@ use Rattle.std.specs.Prelude.{slice_get}
 use Rattle.std.proofs.lemmas.Bool.{eqb-true}
 use Rattle.def_machine.specs.Values.{Name, Naming, naming}
 use Rattle.def_machine.specs.State.{Note, Put, Vat}
-use Rattle.law_machine.specs.Steps.{Step, Opens as Starting, Takes, Receives, Notices, does}
+use Rattle.law_machine.specs.Machine.Steps.{Step, Opens as Starting, Takes, Receives, Notices, does}
 use Rattle.def_run.specs.Draws.{draw_word}
 use Rattle.def_run.specs.World as world
 use Rattle.def_run.specs.World.{Script, Program, Entry, Link, World, Run, Goes as Going, Stopped, names, names_of, readied, push_all, with_link, with_notes, severed_link}
-use Rattle.law_fate.proofs.Leads.{Leads, Ends}
-use Rattle.law_name.specs.Names.{AllOf, IsAmong, Once, names_in}
-use Rattle.law_name.specs.Runs.{KnowsOnce}
-use Rattle.law_name.proofs.Facts.{all_map}
-use Rattle.law_name.proofs.SameNames.{same_self}
-use Rattle.law_name.proofs.Among.{get_put, length_end}
-use Rattle.law_reference.proofs.NotesLift as lift
-use Rattle.law_reference.specs.NameTableRuns.{NotesBringNew, NamesDiffer}
-use Rattle.law_reference.proofs.KnownRuns.{names_are_known_once}
-use Rattle.law_reference.proofs.Moves.{Moved, Still, Severs, Drops, Steps, Arrives, IsAlone, entry_moves, opening_moves, steps_end}
+use Rattle.law_fate.proofs.Fates.Leads.{Leads, Ends}
+use Rattle.law_fate.specs.Name.Names.{AllOf, IsAmong, Once, names_in}
+use Rattle.law_fate.specs.Name.Runs.{KnowsOnce}
+use Rattle.law_fate.proofs.Name.Facts.{all_map}
+use Rattle.law_fate.proofs.Name.SameNames.{same_self}
+use Rattle.law_fate.proofs.Name.Among.{get_put, length_end}
+use Rattle.law_reference.proofs.Reference.NotesLift as lift
+use Rattle.law_reference.specs.Reference.NameTableRuns.{NotesBringNew, NamesDiffer}
+use Rattle.law_reference.proofs.Reference.KnownRuns.{names_are_known_once}
+use Rattle.law_reference.proofs.Reference.Moves.{Moved, Still, Severs, Drops, Steps, Arrives, IsAlone, entry_moves, opening_moves, steps_end}
 use Rattle.law_frame.specs.Frame.Asked.{told_in}
 use Rattle.law_frame.proofs.Frame.LinksKnown.{Sent, LinkKnown, ends_are, with_link_all}
 use Rattle.law_frame.proofs.Frame.WireRuns.{Wire, opened_both, stepped_both}

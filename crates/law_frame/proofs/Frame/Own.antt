@@ -4,17 +4,17 @@ use Rattle.std.specs.Prelude.{slice_get, option_map}
 use Rattle.std.proofs.lemmas.Bool.{eqb-true, eq-eqb}
 use Rattle.def_machine.specs.Values.{Name, Local}
 use Rattle.def_machine.specs.State.{Known, Vat, Done, Gives}
-use Rattle.law_machine.specs.Steps.{After}
-use Rattle.law_machine.specs.Laws.{SameNames, SameMails}
+use Rattle.law_machine.specs.Machine.Steps.{After}
+use Rattle.law_machine.specs.Machine.Laws.{SameNames, SameMails}
 use Rattle.def_run.specs.World.{World, put_at}
-use Rattle.law_name.specs.Names.{names_in}
-use Rattle.law_name.proofs.Among.{get_put}
+use Rattle.law_fate.specs.Name.Names.{names_in}
+use Rattle.law_fate.proofs.Name.Among.{get_put}
 use Rattle.def_machine.specs.Maps as maps
-use Rattle.law_renaming.specs.Stands.{Found, Is, Table, StandsFor, found}
-use Rattle.law_renaming.specs.Renaming.{EndsWith}
-use Rattle.law_renaming.proofs.Sim.{map_get}
-use Rattle.law_renaming.proofs.Stands.{Extends, still}
-use Rattle.law_reference.specs.Tables.{table_of}
+use Rattle.law_machine.specs.Renamed.Stands.{Found, Is, Table, StandsFor, found}
+use Rattle.law_machine.specs.Renamed.Renaming.{EndsWith}
+use Rattle.law_machine.proofs.Renamed.Sim.{map_get}
+use Rattle.law_machine.proofs.Renamed.Stands.{Extends, still}
+use Rattle.law_reference.specs.Reference.Tables.{table_of}
 use Rattle.law_frame.specs.Frame.AlikeArrivals.{table_across}
 use Rattle.law_frame.proofs.Frame.AlikeArrivals.{some_same}
 use Rattle.law_frame.specs.Frame.Steps.{OwnStep, where_own, EndsFor}

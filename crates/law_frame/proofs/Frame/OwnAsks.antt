@@ -7,10 +7,10 @@ use Rattle.def_machine.specs.Arrive as arrive
 use Rattle.def_machine.specs.Eval.{opening, taking}
 use Rattle.def_run.specs.World as world
 use Rattle.def_run.specs.World.{Script, Opens, Entry, Turn, Carry, CutLink, NoticeLink, Event, Turned, Idle, Carried, NoticedAt, Link, World, Goes as Going, readied, names_of, read_note, link_at, put_at, push_all, with_link, with_notes, severed_link}
-use Rattle.law_reference.specs.Logs as wire
-use Rattle.law_name.specs.Names.{IsAmong}
-use Rattle.law_reference.proofs.LinksCut.{fits_notes, fits_severed}
-use Rattle.law_reference.proofs.AnswerLinks.{AtLink, with_any, push_others}
+use Rattle.law_reference.specs.Reference.Logs as wire
+use Rattle.law_fate.specs.Name.Names.{IsAmong}
+use Rattle.law_reference.proofs.Reference.LinksCut.{fits_notes, fits_severed}
+use Rattle.law_reference.proofs.Reference.AnswerLinks.{AtLink, with_any, push_others}
 use Rattle.law_frame.proofs.Frame.SourceLaws.{log_is}
 use Rattle.law_frame.specs.Frame.Exports.{AsksForNothingTold, IsStepOf, OnlyOwnStepsAsk}
 

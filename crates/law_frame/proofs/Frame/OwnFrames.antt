@@ -5,8 +5,8 @@ use Rattle.def_machine.specs.State.{Note, Deliver}
 use Rattle.def_run.specs.Connections.{Sight, frame_now, put_on}
 use Rattle.def_run.specs.Wire.{sight, is_object}
 use Rattle.def_machine.specs.Maps as maps
-use Rattle.law_renaming.specs.Stands.{Table, Found, Is, Nothing, found, found_same, found_answer, prom_found, mess_found, far_found, IsTable}
-use Rattle.law_renaming.proofs.Stands.{sames}
+use Rattle.law_machine.specs.Renamed.Stands.{Table, Found, Is, Nothing, found, found_same, found_answer, prom_found, mess_found, far_found, IsTable}
+use Rattle.law_machine.proofs.Renamed.Stands.{sames}
 use Rattle.law_frame.specs.Frame.Together.{SeesAlike, AsksAlike, changed_tables}
 use Rattle.law_frame.specs.Frame.OwnFrames.{refers, refers_here, SeesBy, AsksFor, FramesAreWrittenByNumbers}
 use Rattle.law_frame.proofs.Frame.Writes.{write_together}

@@ -1,8 +1,8 @@
 -- What a message asks for, if it asks for an answer.
 use Rattle.std.proofs.Common.{◌≡◌, Bool, true, false, List, refl, ◌⊎◌, inl, inr}
 use Rattle.def_machine.specs.Values.{Name}
-use Rattle.law_reference.specs.Logs.{asked_if}
-use Rattle.law_name.specs.Names.{AllOf, IsAmong}
+use Rattle.law_reference.specs.Reference.Logs.{asked_if}
+use Rattle.law_fate.specs.Name.Names.{AllOf, IsAmong}
 
 pub asked_or : (b : Bool) (x n : Name) (ns : List Name) → IsAmong n (asked_if b x ns) → ((b ≡ true) × (n ≡ x)) ⊎ IsAmong n ns
 unfolding asked_if

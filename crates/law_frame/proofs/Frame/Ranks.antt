@@ -4,9 +4,9 @@ use Rattle.std.specs.Prelude.{slice_get}
 use Rattle.def_machine.specs.Values.{Value, Ref, Name, same_name, host_of}
 use Rattle.def_machine.specs.State.{Passed, Passeds, Plain, AGift, Many, NoMore, More, Note, Deliver, Open, Ask, SettledTo, Elsewhere, Shorten}
 use Rattle.def_run.specs.World.{has_name}
-use Rattle.law_reference.specs.Logs as wire
-use Rattle.law_name.specs.Names.{IsAmong}
-use Rattle.law_name.proofs.SameNames.{same_is, same_self}
+use Rattle.law_reference.specs.Reference.Logs as wire
+use Rattle.law_fate.specs.Name.Names.{IsAmong}
+use Rattle.law_fate.proofs.Name.SameNames.{same_is, same_self}
 
 true_false : (b : Bool) → b ≡ true → b ≡ false → ⊥
 true_false b e f = cc

@@ -10,21 +10,21 @@ use Rattle.def_machine.specs.State.{Known, Passed, Passeds, Plain, AGift, Many, 
 use Rattle.def_machine.specs.Arrive.{Incoming, Old, New, gift_at}
 use Rattle.def_run.specs.World as world
 use Rattle.def_run.specs.World.{Script, World, link_at, has_name, is_old, read_name, known_after}
-use Rattle.law_reference.specs.Logs as wire
-use Rattle.law_name.specs.Names.{IsAmong, IsKnownIn, names_in}
+use Rattle.law_reference.specs.Reference.Logs as wire
+use Rattle.law_fate.specs.Name.Names.{IsAmong, IsKnownIn, names_in}
 use Rattle.def_machine.proofs.Keys.{key_of}
-use Rattle.law_name.proofs.SameNames.{has_among, among_has}
-use Rattle.law_name.proofs.Among.{among_or, length_end}
+use Rattle.law_fate.proofs.Name.SameNames.{has_among, among_has}
+use Rattle.law_fate.proofs.Name.Among.{among_or, length_end}
 use Rattle.def_machine.specs.Maps as maps
 use Rattle.def_machine.specs.Maps.{incoming}
-use Rattle.law_renaming.specs.Renaming.{Wire as Wired, Mine, Carried}
-use Rattle.law_renaming.specs.Stands.{Table, Found, Is, found, prom_found, far_found}
-use Rattle.law_reference.specs.Exports.{object_of, exported_at}
+use Rattle.law_machine.specs.Renamed.Renaming.{Wire as Wired, Mine, Carried}
+use Rattle.law_machine.specs.Renamed.Stands.{Table, Found, Is, found, prom_found, far_found}
+use Rattle.law_reference.specs.Reference.Exports.{object_of, exported_at}
 use Rattle.law_frame.specs.Frame.Tables.{Tables, known_number, own_number, import_number, import_numbers, tables_of, arrived}
 use Rattle.law_frame.specs.Frame.Hearing.{Heard, Hearing, told, told_if, next, with_position, promise_heard, name_heard, fact_heard, reference_heard, passed_heard, all_heard, gift_heard, outcome_heard, message_heard, note_heard}
 use Rattle.law_frame.specs.Frame.Alike.{wire_name, numbered_gift, names_heard, as_told, from_peer, message_of}
 use Rattle.law_frame.specs.Frame.Asked.{told_value, told_passed, told_all, ListlessValue, Listless, AllListless}
-use Rattle.law_reference.specs.GiftPassing.{PassesFrom, AllPassFrom}
+use Rattle.law_reference.specs.Reference.GiftPassing.{PassesFrom, AllPassFrom}
 use Rattle.law_frame.proofs.Frame.Told.{known_up}
 use Rattle.law_frame.proofs.Frame.Ranks.{Starts, get_rank, rank_end, rank_front}
 use Rattle.law_frame.proofs.Frame.Grow.{true_false, on_bool, get_front, rank_less, starts_end, starts_on, starts_among, among_left, among_right, passed_starts, all_starts, passed_known, all_known, export_starts, export_or, export_itself, export_other, export_asked, export_again, export_new, known_old, among_known, after_old, after_new, after_starts, after_or, after_itself}

@@ -7,12 +7,12 @@ use Rattle.def_machine.specs.Refs as refs
 use Rattle.def_machine.specs.Refs.{Place, Near, Mine, Away, Gone, answer_host}
 use Rattle.def_machine.specs.Eval as eval
 use Rattle.def_kernel.specs.declared.node.Node.{Node}
-use Rattle.law_machine.specs.Steps.{IsQuiet}
-use Rattle.law_machine.proofs.RefsQuiet.{quiet_pass_all}
-use Rattle.law_fate.proofs.Leads.{Leads, Ends, IsLedUnder, leads, widen, leads_bind, leads_then, leads_give, leads_look, leads_activation}
-use Rattle.law_fate.proofs.TurnLeads.{good_evaluator, leads_turn_value, leads_closes, leads_opening}
-use Rattle.law_name.specs.Names.{IsAmong, IsMessageName, names_in}
-use Rattle.law_name.proofs.Among.{among_last, names_end}
+use Rattle.law_machine.specs.Machine.Steps.{IsQuiet}
+use Rattle.law_machine.proofs.Machine.RefsQuiet.{quiet_pass_all}
+use Rattle.law_fate.proofs.Fates.Leads.{Leads, Ends, IsLedUnder, leads, widen, leads_bind, leads_then, leads_give, leads_look, leads_activation}
+use Rattle.law_fate.proofs.Fates.TurnLeads.{good_evaluator, leads_turn_value, leads_closes, leads_opening}
+use Rattle.law_fate.specs.Name.Names.{IsAmong, IsMessageName, names_in}
+use Rattle.law_fate.proofs.Name.Among.{among_last, names_end}
 use Rattle.law_frame.specs.Frame.Asked.{Listless, AllListless}
 use Rattle.law_frame.proofs.Frame.Results.{Result, pass_listless, pass_all_listless}
 use Rattle.law_frame.proofs.Frame.WireAsking.{Any, Telling, Asking, Steady, Comes, Or, Owed, base, here, asking, asking_tell, asking_lost, asking_settled, steady_on, told_on, put_on, grown, messaged, messaged_lone, names_on, asked_then}

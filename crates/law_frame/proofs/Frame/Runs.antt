@@ -3,16 +3,16 @@ use Rattle.std.proofs.Common.{◌≡◌, ℕ, zero, suc, ◌+◌, List, [], ◌�
 use Rattle.std.specs.Prelude.{slice_get}
 use Rattle.def_machine.specs.Values.{Name, Local}
 use Rattle.def_machine.specs.State.{Vat}
-use Rattle.law_name.specs.Runs.{KnowsOnce}
-use Rattle.law_name.proofs.Among.{get_put, length_end}
-use Rattle.law_renaming.specs.Stands.{StandsFor}
+use Rattle.law_fate.specs.Name.Runs.{KnowsOnce}
+use Rattle.law_fate.proofs.Name.Among.{get_put, length_end}
+use Rattle.law_machine.specs.Renamed.Stands.{StandsFor}
 use Rattle.def_run.specs.World as world
 use Rattle.def_run.specs.World.{Script, Entry, World, Run, Goes as Going, Stopped, put_at, readied}
-use Rattle.law_reference.specs.Cuts.{NoticesFollowCuts}
-use Rattle.law_reference.specs.Tables.{table_of}
-use Rattle.law_reference.proofs.Follow.{eq_dec}
-use Rattle.law_reference.proofs.Moves.{Moved, Still, Severs, Drops, Steps, Arrives, steps_end, going_is}
-use Rattle.law_reference.proofs.AskHolds.{notices_front}
+use Rattle.law_reference.specs.Reference.Cuts.{NoticesFollowCuts}
+use Rattle.law_reference.specs.Reference.Tables.{table_of}
+use Rattle.law_reference.proofs.Reference.Follow.{eq_dec}
+use Rattle.law_reference.proofs.Reference.Moves.{Moved, Still, Severs, Drops, Steps, Arrives, steps_end, going_is}
+use Rattle.law_reference.proofs.Reference.AskHolds.{notices_front}
 use Rattle.law_frame.proofs.Frame.AlikeArrivals.{some_same}
 use Rattle.law_frame.specs.Frame.Steps.{OwnStep, entry_by_numbers}
 use Rattle.law_frame.specs.Frame.Chain.{readied_by_numbers, LeavesFor, left_by, where_goes, where_is, run_by_numbers, RunsByNumbersStand, RunsAreTakenInNumbers}

@@ -2,7 +2,7 @@
 use Rattle.std.proofs.Common.{◌≡◌, ℕ, List, [], ◌∷◌, Option, Some, None, refl, ap, map, option_map}
 use Rattle.def_machine.specs.Values.{Value, Ref}
 use Rattle.def_machine.specs.State.{Bound, Fixed, Slot, Binding, Cell, Freedom, IsFinal, FreeName, View, Thing, Made, Ejector, Audition, Resolver, Message, Standing, Unsettled, WaitsOn, Viewed, Settled, Known, Put, GiftEntry, Vat, WhereSome}
-use Rattle.law_name.specs.Names.{Bit, Named, Mail, Entered, Owns, AllOf, NameOk, ValueOk, ValuesOk, MessageOk, StandingOk, EntryOk, KnownOk, CellOk, FreedomOk, ViewOk, BoundOk, NounOk, ThingOk, GiftOk, Parts}
+use Rattle.law_fate.specs.Name.Names.{Bit, Named, Mail, Entered, Owns, AllOf, NameOk, ValueOk, ValuesOk, MessageOk, StandingOk, EntryOk, KnownOk, CellOk, FreedomOk, ViewOk, BoundOk, NounOk, ThingOk, GiftOk, Parts}
 use Rattle.def_machine.specs.Maps as maps
 
 pub all_same : {A B : Type 0} (h l : A → B) (Q R : A → Type 0) → ((a : A) → Q a → R a → h a ≡ l a) → (xs : List A) → AllOf Q xs → AllOf R xs → map h xs ≡ map l xs

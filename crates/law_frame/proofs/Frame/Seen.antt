@@ -10,8 +10,8 @@ use Rattle.def_machine.specs.Arrive.{Incoming, Old, New}
 use Rattle.def_run.specs.Connections as read
 use Rattle.def_run.specs.Connections.{Connection, Stage, Newcomers, Heard, Hearing, stands_in, place_in}
 use Rattle.def_run.specs.Wire.{sight, is_object}
-use Rattle.law_machine.proofs.StepLaws.{get_append}
-use Rattle.law_name.proofs.SameNames.{same_is, same_self}
+use Rattle.law_machine.proofs.Machine.StepLaws.{get_append}
+use Rattle.law_fate.proofs.Name.SameNames.{same_is, same_self}
 use Rattle.law_frame.specs.Frame.Growing.{IsFront}
 use Rattle.law_frame.specs.Frame.Reads as seen
 use Rattle.law_frame.specs.Frame.Reads.{found, after_that, IsNumbered, IsRead, ValueFits, PassedFits, AllFit, NoteFits, Brings, WhatIsWrittenIsRead}

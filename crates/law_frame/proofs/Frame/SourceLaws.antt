@@ -3,10 +3,10 @@ use Rattle.std.proofs.Common.{◌≡◌, ℕ, Bool, true, false, List, [], ◌�
 use Rattle.def_machine.specs.Values.{answer_of, Name, host_of}
 use Rattle.def_machine.specs.State.{Note, Deliver, Open, Ask, SettledTo, Elsewhere, Shorten}
 use Rattle.def_run.specs.World.{Link, World, link_at, has_name}
-use Rattle.law_reference.specs.Logs as wire
-use Rattle.law_name.specs.Names.{IsAmong}
-use Rattle.law_name.proofs.SameNames.{has_among}
-use Rattle.law_reference.proofs.NoticedRuns.{noticed_links_cut}
+use Rattle.law_reference.specs.Reference.Logs as wire
+use Rattle.law_fate.specs.Name.Names.{IsAmong}
+use Rattle.law_fate.proofs.Name.SameNames.{has_among}
+use Rattle.law_reference.proofs.Reference.NoticedRuns.{noticed_links_cut}
 use Rattle.law_frame.proofs.Frame.Questions.{asked_first, asked_rest}
 use Rattle.law_frame.specs.Frame.Asked.{AsksOf}
 use Rattle.law_frame.specs.Frame.Tables.{arrived}

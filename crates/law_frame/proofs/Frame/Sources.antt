@@ -4,10 +4,10 @@ use Rattle.def_machine.specs.Values.{Value, Ref, Name, Gift, Sent as Message_nam
 use Rattle.def_machine.specs.State.{Passed, Passeds, Plain, AGift, Many, NoMore, More, Note, Deliver, Open, Ask, SettledTo, Elsewhere, Shorten, Put, Vat, is_in}
 use Rattle.def_run.specs.World as world
 use Rattle.def_run.specs.World.{Link}
-use Rattle.law_name.specs.Names.{AllOf, IsAmong, IsMessageName, IsEventual, names_in}
-use Rattle.law_name.proofs.Facts.{all_map}
-use Rattle.law_reference.specs.Notes.{IsBetween, IsOfEither, PassesBetween, AllPassBetween, Carries}
-use Rattle.law_reference.proofs.LinksCut.{fits_pushed, fits_notes, fits_severed}
+use Rattle.law_fate.specs.Name.Names.{AllOf, IsAmong, IsMessageName, IsEventual, names_in}
+use Rattle.law_fate.proofs.Name.Facts.{all_map}
+use Rattle.law_reference.specs.Reference.Notes.{IsBetween, IsOfEither, PassesBetween, AllPassBetween, Carries}
+use Rattle.law_reference.proofs.Reference.LinksCut.{fits_pushed, fits_notes, fits_severed}
 use Rattle.law_frame.specs.Frame.Asked.{AsksOf, told_value, told_passed, told_all, told_in}
 use Rattle.law_frame.specs.Frame.Tables.{arrived}
 use Rattle.law_frame.proofs.Frame.ArriveAsking.{MailFits}

@@ -5,17 +5,17 @@ use Rattle.std.proofs.lemmas.Bool.{eqb-true, eq-eqb}
 use Rattle.def_machine.specs.Values.{Name, Root, Object, Promise, Answer, Gift, Sent, host_of, Obj, Prom, Far, Mess}
 use Rattle.def_machine.specs.State.{Vat}
 use Rattle.def_run.specs.World.{Script, World, link_at, has_name, readied}
-use Rattle.law_reference.specs.Logs as wire
-use Rattle.law_name.specs.Names.{AllOf, IsAmong, IsKnownIn, IsEventual, IsMessageName, IsMessageMade, names_in}
-use Rattle.law_name.proofs.Facts.{all_map}
-use Rattle.law_name.proofs.Among.{all_among}
-use Rattle.law_name.proofs.SameNames.{has_among}
-use Rattle.law_name.proofs.Run.{VatStands, Had}
-use Rattle.law_renaming.specs.Stands.{Found, Is, prom_found, mess_found, far_found, found, StandsFor}
-use Rattle.law_renaming.proofs.MapMaps.{vat_twice}
-use Rattle.law_reference.specs.Exports.{object_of, exported_at}
-use Rattle.law_reference.specs.Tables.{table_of}
-use Rattle.law_fate.specs.WholeFateRuns.{KnowsVats}
+use Rattle.law_reference.specs.Reference.Logs as wire
+use Rattle.law_fate.specs.Name.Names.{AllOf, IsAmong, IsKnownIn, IsEventual, IsMessageName, IsMessageMade, names_in}
+use Rattle.law_fate.proofs.Name.Facts.{all_map}
+use Rattle.law_fate.proofs.Name.Among.{all_among}
+use Rattle.law_fate.proofs.Name.SameNames.{has_among}
+use Rattle.law_fate.proofs.Name.Run.{VatStands, Had}
+use Rattle.law_machine.specs.Renamed.Stands.{Found, Is, prom_found, mess_found, far_found, found, StandsFor}
+use Rattle.law_machine.proofs.Renamed.MapMaps.{vat_twice}
+use Rattle.law_reference.specs.Reference.Exports.{object_of, exported_at}
+use Rattle.law_reference.specs.Reference.Tables.{table_of}
+use Rattle.law_fate.specs.Fates.WholeFateRuns.{KnowsVats}
 use Rattle.law_frame.specs.Frame.Known.{KnowsEach}
 use Rattle.law_frame.proofs.Frame.Exported.{exports_in}
 use Rattle.law_frame.proofs.Frame.SourceLaws.{log_is}

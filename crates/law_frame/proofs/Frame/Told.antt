@@ -3,12 +3,12 @@ use Rattle.std.proofs.Common.{◌≡◌, ℕ, Bool, true, false, List, [], ◌�
 use Rattle.def_machine.specs.Values.{Value, Ref, Name, Root, Object, Promise, Answer, Gift, Sent, host_of}
 use Rattle.def_machine.specs.State.{Passed, Passeds, Plain, AGift, Many, NoMore, More, Note, Deliver, Open, Ask, SettledTo, Elsewhere, Shorten}
 use Rattle.def_run.specs.World.{has_name, is_old, known_after, read_value, read_passed, read_all, plain_read, many_read, more_read}
-use Rattle.law_reference.specs.Logs as wire
-use Rattle.law_name.specs.Names.{Bit, Named, AllOf, IsAmong, IsKnownIn, ValueOk, PassedOk, PassedsOk, NoteOk}
-use Rattle.law_name.proofs.Facts.{all_map, all_end, all_append}
-use Rattle.law_name.proofs.Among.{among_more, among_last}
-use Rattle.law_name.proofs.SameNames.{old_known}
-use Rattle.law_name.proofs.Tracked.{known_among}
+use Rattle.law_reference.specs.Reference.Logs as wire
+use Rattle.law_fate.specs.Name.Names.{Bit, Named, AllOf, IsAmong, IsKnownIn, ValueOk, PassedOk, PassedsOk, NoteOk}
+use Rattle.law_fate.proofs.Name.Facts.{all_map, all_end, all_append}
+use Rattle.law_fate.proofs.Name.Among.{among_more, among_last}
+use Rattle.law_fate.proofs.Name.SameNames.{old_known}
+use Rattle.law_fate.proofs.Name.Tracked.{known_among}
 use Rattle.law_frame.specs.Frame.Asked.{told_value, told_passed, told_all, told_in}
 use Rattle.law_frame.specs.Frame.Alike.{names_heard}
 

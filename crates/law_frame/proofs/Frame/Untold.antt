@@ -5,24 +5,24 @@ use Rattle.def_machine.specs.Values.{Name, Gift}
 use Rattle.def_machine.specs.State.{Note, Vat}
 use Rattle.def_run.specs.World as world
 use Rattle.def_run.specs.World.{Script, Program, Link, World, Entry, Goes as Going, put_at, push_all, pushed, with_link, with_notes, severed_link, link_at}
-use Rattle.law_fate.specs.Lasting.{Each}
-use Rattle.law_name.specs.Names.{AllOf, IsAmong, IsKnownIn, PutOk, WasDrawn, names_in}
-use Rattle.law_name.specs.Runs.{KnowsOnce}
-use Rattle.law_name.proofs.Facts.{all_map, all_end}
-use Rattle.law_name.proofs.Among.{get_put}
-use Rattle.law_name.proofs.Run.{Stands, Had, name_had}
-use Rattle.law_reference.proofs.LinksCut.{fits_notes, fits_severed}
-use Rattle.law_reference.proofs.AnswerLinks.{AtLink, with_any, push_of}
-use Rattle.law_reference.proofs.LegRuns.{stands_of}
-use Rattle.law_reference.proofs.Moves.{Moved, Still, Severs, Drops, Steps, Arrives, opened_hold, stepped_hold}
-use Rattle.law_reference.specs.GiftPassing.{gifts_under_way, drawn_of, Provides}
-use Rattle.law_reference.proofs.Puts.{gifts_out}
-use Rattle.law_reference.proofs.GiftLinks.{pushed_notes, push_all_gifts, with_link_less, severed_less, found_tells, links_from_none}
-use Rattle.law_reference.specs.Hiding.{IsNotOf, Shuns}
-use Rattle.law_reference.proofs.AskRuns.{Past}
-use Rattle.law_reference.proofs.AskHolds.{opened_past, stepped_past}
-use Rattle.law_reference.proofs.HideMoves.{taken_sum, under_drawn, early, late, alone_out, note_out}
-use Rattle.law_reference.proofs.HideRuns.{HiddenIn, opened_hidden, stepped_hidden}
+use Rattle.law_fate.specs.Fates.Lasting.{Each}
+use Rattle.law_fate.specs.Name.Names.{AllOf, IsAmong, IsKnownIn, PutOk, WasDrawn, names_in}
+use Rattle.law_fate.specs.Name.Runs.{KnowsOnce}
+use Rattle.law_fate.proofs.Name.Facts.{all_map, all_end}
+use Rattle.law_fate.proofs.Name.Among.{get_put}
+use Rattle.law_fate.proofs.Name.Run.{Stands, Had, name_had}
+use Rattle.law_reference.proofs.Reference.LinksCut.{fits_notes, fits_severed}
+use Rattle.law_reference.proofs.Reference.AnswerLinks.{AtLink, with_any, push_of}
+use Rattle.law_reference.proofs.Reference.LegRuns.{stands_of}
+use Rattle.law_reference.proofs.Reference.Moves.{Moved, Still, Severs, Drops, Steps, Arrives, opened_hold, stepped_hold}
+use Rattle.law_reference.specs.Reference.GiftPassing.{gifts_under_way, drawn_of, Provides}
+use Rattle.law_reference.proofs.Reference.Puts.{gifts_out}
+use Rattle.law_reference.proofs.Reference.GiftLinks.{pushed_notes, push_all_gifts, with_link_less, severed_less, found_tells, links_from_none}
+use Rattle.law_reference.specs.Reference.Hiding.{IsNotOf, Shuns}
+use Rattle.law_reference.proofs.Reference.AskRuns.{Past}
+use Rattle.law_reference.proofs.Reference.AskHolds.{opened_past, stepped_past}
+use Rattle.law_reference.proofs.Reference.HideMoves.{taken_sum, under_drawn, early, late, alone_out, note_out}
+use Rattle.law_reference.proofs.Reference.HideRuns.{HiddenIn, opened_hidden, stepped_hidden}
 use Rattle.law_frame.specs.Frame.Asked.{told_in}
 use Rattle.law_frame.proofs.Frame.Told.{note_told}
 use Rattle.law_frame.proofs.Frame.WireRuns as wires

@@ -2,21 +2,21 @@
 use Rattle.std.proofs.Common.{◌≡◌, ℕ, zero, suc, ◌+◌, ◌≤◌, List, [], ◌∷◌, ◌++◌, Some, refl, sym, subst, ◌∙◌, ◌⊎◌, inl, inr, length, append_assoc, arith}
 use Rattle.def_machine.specs.Values.{Name, Answer, Gift, Sent, Msg, answer_of}
 use Rattle.def_machine.specs.State.{Note, Deliver, Ask, Put, Vat}
-use Rattle.law_machine.specs.Steps.{Receives}
+use Rattle.law_machine.specs.Machine.Steps.{Receives}
 use Rattle.def_run.specs.World as world
 use Rattle.def_run.specs.World.{Script, Program, Entry, Link, World, Goes as Going, names_of, read_note, link_at}
-use Rattle.law_reference.specs.Logs as wire
-use Rattle.law_name.specs.Names.{IsMessageName, AllOf, IsAmong, WasDrawn}
-use Rattle.law_name.specs.Runs.{KnowsOnce}
-use Rattle.law_name.proofs.Run.{Had, name_had}
-use Rattle.law_reference.proofs.Legs.{ApartIn}
-use Rattle.law_reference.proofs.LegRuns.{Before, stands_of, first_mails}
-use Rattle.law_reference.proofs.LegMoves.{opened_before, stepped_before}
-use Rattle.law_reference.proofs.Moves.{Moved, Steps, Arrives, Does, steps_end}
-use Rattle.law_reference.proofs.SingleRuns.{opened_both, stepped_both}
-use Rattle.law_reference.specs.GiftPassing.{gifts_in_note, gifts_under_way}
-use Rattle.law_reference.specs.Hiding.{IsNotOf}
-use Rattle.law_reference.proofs.HideMoves.{taken_sum}
+use Rattle.law_reference.specs.Reference.Logs as wire
+use Rattle.law_fate.specs.Name.Names.{IsMessageName, AllOf, IsAmong, WasDrawn}
+use Rattle.law_fate.specs.Name.Runs.{KnowsOnce}
+use Rattle.law_fate.proofs.Name.Run.{Had, name_had}
+use Rattle.law_reference.proofs.Reference.Legs.{ApartIn}
+use Rattle.law_reference.proofs.Reference.LegRuns.{Before, stands_of, first_mails}
+use Rattle.law_reference.proofs.Reference.LegMoves.{opened_before, stepped_before}
+use Rattle.law_reference.proofs.Reference.Moves.{Moved, Steps, Arrives, Does, steps_end}
+use Rattle.law_reference.proofs.Reference.SingleRuns.{opened_both, stepped_both}
+use Rattle.law_reference.specs.Reference.GiftPassing.{gifts_in_note, gifts_under_way}
+use Rattle.law_reference.specs.Reference.Hiding.{IsNotOf}
+use Rattle.law_reference.proofs.Reference.HideMoves.{taken_sum}
 use Rattle.law_frame.specs.Frame.Asked.{told_in}
 use Rattle.law_frame.proofs.Frame.WireRuns as wires
 use Rattle.law_frame.proofs.Frame.WireRuns.{Wire}

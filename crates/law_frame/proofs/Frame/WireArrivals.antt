@@ -5,7 +5,7 @@ use Rattle.def_machine.specs.Values.{Name}
 use Rattle.def_machine.specs.State.{Note}
 use Rattle.def_machine.specs.Native.{part_of}
 use Rattle.def_run.specs.World.{Link}
-use Rattle.law_reference.specs.Logs as wire
+use Rattle.law_reference.specs.Reference.Logs as wire
 use Rattle.law_frame.specs.Frame.Tables.{waiting_on, arrived}
 
 front_part : {A : Type 0} (front rest : List A) (n : ℕ) → n ≡ length front → part_of zero n (front ++ rest) ≡ front

@@ -3,14 +3,14 @@ use Rattle.std.proofs.Common.{◌≡◌, ℕ, zero, suc, ◌-◌, Bool, true, fa
 use Rattle.std.specs.Prelude.{slice_get}
 use Rattle.std.proofs.lemmas.Bool.{eq-eqb}
 use Rattle.def_machine.specs.Values.{Value, Name, Promise, Gift, Sent, Naming, naming, host_of}
-use Rattle.def_local.specs.Names.{own_mails}
+use Rattle.def_run.specs.Names.{own_mails}
 use Rattle.def_machine.specs.State.{Message, Change, Passed, Note, Deliver, Open, Ask, SettledTo, Elsewhere, Shorten, Put, GiftEntry, Happened, Vat, Done, Gives, Throws, Ejects, Stops, Act, and_then, tell, change, dead, holding, with_change, enqueue, send_out, with_opened, is_gift, open_gift, mark, drawn_at, draws, draw, alter, is_in, Sends, Reacts, Lost, Posted, Settles, Waits, Views, ListCame}
-use Rattle.law_fate.proofs.Leads.{Leads, Ends, IsLed}
-use Rattle.law_fate.proofs.Spares.{TellsOfNone}
-use Rattle.law_name.specs.Names.{AllOf, IsAmong, IsEventual, Once, names_in}
-use Rattle.law_name.proofs.Facts.{all_map, all_end, all_append}
-use Rattle.law_name.proofs.Among.{all_among, among_more, among_or}
-use Rattle.law_name.proofs.Tracked.{names_change}
+use Rattle.law_fate.proofs.Fates.Leads.{Leads, Ends, IsLed}
+use Rattle.law_fate.proofs.Fates.Spares.{TellsOfNone}
+use Rattle.law_fate.specs.Name.Names.{AllOf, IsAmong, IsEventual, Once, names_in}
+use Rattle.law_fate.proofs.Name.Facts.{all_map, all_end, all_append}
+use Rattle.law_fate.proofs.Name.Among.{all_among, among_more, among_or}
+use Rattle.law_fate.proofs.Name.Tracked.{names_change}
 use Rattle.law_frame.specs.Frame.Asked.{AsksOf, AskFits, Listless, AllListless}
 use Rattle.law_frame.specs.Frame.Lines.{MessageFits, LineFits, AnswersIn}
 use Rattle.law_frame.proofs.Frame.Grow.{among_left, among_right}

@@ -4,9 +4,9 @@ use Rattle.std.specs.Prelude.{slice_get}
 use Rattle.def_machine.specs.Values.{answer_of, Name, host_of}
 use Rattle.def_machine.specs.State.{Note, Deliver, Open, Ask, SettledTo, Elsewhere, Shorten, Vat}
 use Rattle.def_run.specs.World.{Script, Link, World, link_at}
-use Rattle.law_reference.specs.Logs as wire
-use Rattle.law_name.specs.Names.{AllOf, IsAmong, IsKnownIn, names_in}
-use Rattle.law_name.proofs.Facts.{all_map}
+use Rattle.law_reference.specs.Reference.Logs as wire
+use Rattle.law_fate.specs.Name.Names.{AllOf, IsAmong, IsKnownIn, names_in}
+use Rattle.law_fate.proofs.Name.Facts.{all_map}
 use Rattle.law_frame.proofs.Frame.Questions.{all_asked}
 use Rattle.law_frame.specs.Frame.Asked.{AskFits, HoldsNoList}
 use Rattle.law_frame.specs.Frame.Tables.{arrived}

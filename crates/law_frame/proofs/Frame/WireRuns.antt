@@ -9,16 +9,16 @@ use Rattle.def_machine.specs.Arrive.{arrive, notice}
 use Rattle.def_run.specs.Draws.{draw_word}
 use Rattle.def_run.specs.World as world
 use Rattle.def_run.specs.World.{Script, Program, Opens, Entry, Turn, Carry, CutLink, NoticeLink, Event, Turned, Idle, Carried, NoticedAt, Link, World, Run, Goes as Going, Stopped, names, names_of, read_note, put_at, readied}
-use Rattle.law_fate.proofs.Leads.{Leads}
-use Rattle.law_name.specs.Names.{AllOf, IsAmong, IsKnownIn, IsMessageName, IsMessageMade, IsEventual, WasMade, MessageOk, KnownOk, Bit, Named, Mail, NoteOk, PutOk, names_in, Once}
-use Rattle.law_name.specs.Runs.{InRuns}
-use Rattle.law_name.proofs.Facts.{all_map, all_append, all_so, nothing}
-use Rattle.law_name.proofs.Among.{all_among, get_put, length_end}
-use Rattle.law_name.proofs.Run.{Stands, Told, Had, open_stands, begins_stands}
-use Rattle.law_reference.proofs.OwnRuns.{Any as Anyhow}
-use Rattle.law_reference.proofs.RunLift.{IsAllowed, all_allowed}
-use Rattle.law_reference.proofs.NotesLift as lift
-use Rattle.law_reference.proofs.NotesRuns.{Its, OfNotes, Ever, its_keep, links_of, opened_all}
+use Rattle.law_fate.proofs.Fates.Leads.{Leads}
+use Rattle.law_fate.specs.Name.Names.{AllOf, IsAmong, IsKnownIn, IsMessageName, IsMessageMade, IsEventual, WasMade, MessageOk, KnownOk, Bit, Named, Mail, NoteOk, PutOk, names_in, Once}
+use Rattle.law_fate.specs.Name.Runs.{InRuns}
+use Rattle.law_fate.proofs.Name.Facts.{all_map, all_append, all_so, nothing}
+use Rattle.law_fate.proofs.Name.Among.{all_among, get_put, length_end}
+use Rattle.law_fate.proofs.Name.Run.{Stands, Told, Had, open_stands, begins_stands}
+use Rattle.law_reference.proofs.Reference.OwnRuns.{Any as Anyhow}
+use Rattle.law_reference.proofs.Reference.RunLift.{IsAllowed, all_allowed}
+use Rattle.law_reference.proofs.Reference.NotesLift as lift
+use Rattle.law_reference.proofs.Reference.NotesRuns.{Its, OfNotes, Ever, its_keep, links_of, opened_all}
 use Rattle.law_frame.specs.Frame.Asked.{AsksOf, told_in}
 use Rattle.law_frame.specs.Frame.Lines.{LineFits, carried_in}
 use Rattle.law_frame.specs.Frame.Alike.{names_heard}
@@ -30,7 +30,7 @@ use Rattle.law_frame.proofs.Frame.LinksGo.{Splits, LinkGoes, LinksGo, Paired, li
 use Rattle.law_frame.proofs.Frame.LinksThere.{begins_paired}
 use Rattle.law_frame.proofs.Frame.Objects.{Handed, AllHanded, Hands, GivesHanded, ends_handed, nouns_handed, arrive_handed, notice_handed, taking_handed, opening_handed}
 use Rattle.law_frame.proofs.Frame.Given.{ToldAlong, NoteHanded, LogHanded, VatsHanded, vat_on, vats_on, logs_on, push_all_handed, take_handed, sever_handed, puts_handed, given_here}
-use Rattle.law_name.proofs.Care.{Sound}
+use Rattle.law_fate.proofs.Name.Care.{Sound}
 use Rattle.law_frame.proofs.Frame.Sources.{Source, Sourced, source_on, source_asked, source_told, push_all_goes, push_all_lasts, take_goes, take_lasts, take_splits, severed_stay, told_either, waiting_logged}
 use Rattle.law_frame.proofs.Frame.LinksKnown.{Knowing, SentBy, HeardBy, Sent, Heard, LinkKnown, Grows, asks_own, link_up, with_link_all, with_found_all, at_link, push_all_stands, severed_stands, taken_stands}
 

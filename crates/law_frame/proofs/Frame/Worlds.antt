@@ -7,29 +7,29 @@ use Rattle.def_machine.specs.State.{Passeds, Note, Deliver, Open, Ask, SettledTo
 use Rattle.def_machine.specs.Arrive.{gift_at}
 use Rattle.def_run.specs.World as world
 use Rattle.def_run.specs.World.{Script, Entry, Link, World, Goes, link_at, has_name, is_old}
-use Rattle.law_reference.specs.Logs as wire
-use Rattle.law_fate.specs.Fate.{once, one, total, in_note, of_note, on_link}
-use Rattle.law_fate.specs.Lasting.{Each}
-use Rattle.law_fate.specs.FateRuns.{Reached}
-use Rattle.law_name.specs.Names.{Named, AllOf, IsAmong, IsKnownIn, IsMessageName, names_in}
-use Rattle.law_name.specs.Runs.{KnowsOnce}
-use Rattle.law_name.proofs.SameNames.{has_among, same_self}
-use Rattle.law_name.proofs.Among.{all_among}
-use Rattle.law_reference.specs.Cuts.{NoticesFollowCuts}
-use Rattle.law_reference.specs.Notes.{IsBetween, Carries, LinkFits, LinkCarries}
-use Rattle.law_reference.proofs.NotesRuns.{notes_name_ends, notes_carry_ends}
-use Rattle.law_reference.specs.Knowing.{new_gift_here, brings}
-use Rattle.law_reference.specs.NameTableRuns.{brings_here, BringsNew, NotesBringNew}
-use Rattle.law_reference.proofs.Bounds.{allowed_once}
-use Rattle.law_reference.proofs.Onward.{self_one, claims_known}
-use Rattle.law_reference.specs.Behind.{Avoids, NamesNot}
-use Rattle.law_reference.proofs.First.{among_dec}
-use Rattle.law_reference.proofs.LegRuns.{sender_of, unknown_not}
-use Rattle.law_reference.proofs.LegMoves.{stepped_before}
-use Rattle.law_reference.proofs.SingleRuns.{stepped_both as answers_stepped}
-use Rattle.law_reference.specs.Standing.{IsEntered}
-use Rattle.law_reference.specs.GiftPassing.{Provides, IsProvided, IsProvidedBy, LinkProvides, HasProviders}
-use Rattle.law_reference.proofs.GiftLaws.{one_provider}
+use Rattle.law_reference.specs.Reference.Logs as wire
+use Rattle.law_fate.specs.Fates.Fate.{once, one, total, in_note, of_note, on_link}
+use Rattle.law_fate.specs.Fates.Lasting.{Each}
+use Rattle.law_fate.specs.Fates.FateRuns.{Reached}
+use Rattle.law_fate.specs.Name.Names.{Named, AllOf, IsAmong, IsKnownIn, IsMessageName, names_in}
+use Rattle.law_fate.specs.Name.Runs.{KnowsOnce}
+use Rattle.law_fate.proofs.Name.SameNames.{has_among, same_self}
+use Rattle.law_fate.proofs.Name.Among.{all_among}
+use Rattle.law_reference.specs.Reference.Cuts.{NoticesFollowCuts}
+use Rattle.law_reference.specs.Reference.Notes.{IsBetween, Carries, LinkFits, LinkCarries}
+use Rattle.law_reference.proofs.Reference.NotesRuns.{notes_name_ends, notes_carry_ends}
+use Rattle.law_reference.specs.Reference.Knowing.{new_gift_here, brings}
+use Rattle.law_reference.specs.Reference.NameTableRuns.{brings_here, BringsNew, NotesBringNew}
+use Rattle.law_reference.proofs.Reference.Bounds.{allowed_once}
+use Rattle.law_reference.proofs.Reference.Onward.{self_one, claims_known}
+use Rattle.law_reference.specs.Reference.Behind.{Avoids, NamesNot}
+use Rattle.law_reference.proofs.Reference.First.{among_dec}
+use Rattle.law_reference.proofs.Reference.LegRuns.{sender_of, unknown_not}
+use Rattle.law_reference.proofs.Reference.LegMoves.{stepped_before}
+use Rattle.law_reference.proofs.Reference.SingleRuns.{stepped_both as answers_stepped}
+use Rattle.law_reference.specs.Reference.Standing.{IsEntered}
+use Rattle.law_reference.specs.Reference.GiftPassing.{Provides, IsProvided, IsProvidedBy, LinkProvides, HasProviders}
+use Rattle.law_reference.proofs.Reference.GiftLaws.{one_provider}
 use Rattle.law_frame.specs.Frame.Asked.{AsksOf, told_in}
 use Rattle.law_frame.specs.Frame.Tables.{arrived}
 use Rattle.law_frame.proofs.Frame.WireAsking.{GiftFits, Proper}

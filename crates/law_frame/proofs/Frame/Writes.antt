@@ -4,7 +4,7 @@ use Rattle.def_op.specs.Frames as op
 use Rattle.def_op.specs.Frames.{Described, Members}
 use Rattle.def_machine.specs.Values.{Value, Ref, word_of}
 use Rattle.def_machine.specs.State.{Passed, Passeds, Plain, AGift, Many, NoMore, More, Note, Deliver, Open, Ask, SettledTo, Elsewhere, Shorten}
-use Rattle.law_name.specs.Names.{AllOf}
+use Rattle.law_fate.specs.Name.Names.{AllOf}
 use Rattle.def_run.specs.Connections as write
 use Rattle.def_run.specs.Connections.{Connection, Sight}
 use Rattle.def_machine.specs.Maps as maps

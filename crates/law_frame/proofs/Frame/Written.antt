@@ -10,9 +10,9 @@ use Rattle.def_run.specs.Wire as wire
 use Rattle.def_run.specs.Wire.{Connected, connected_at, with_connected, sight}
 use Rattle.def_run.specs.World as world
 use Rattle.def_run.specs.World.{Script, Program, Entry, Event, CutLink, Carried, Link, World, Goes, link_at, with_link, with_notes, pushed, severed_link, put_at, readied}
-use Rattle.law_run.specs.Moves.{Deed, Moved, Still, Severs, Drops, Steps, Arrives, Hears, Tells, went, without}
-use Rattle.law_run.proofs.Told.{moves_told}
-use Rattle.law_run.proofs.Honest.{lifted, honest_reached}
+use Rattle.law_machine.specs.Run.Moves.{Deed, Moved, Still, Severs, Drops, Steps, Arrives, Hears, Tells, went, without}
+use Rattle.law_machine.proofs.Run.Told.{moves_told}
+use Rattle.law_machine.proofs.Run.Honest.{lifted, honest_reached}
 use Rattle.law_frame.specs.Frame.Growing.{TablesGrow}
 use Rattle.law_frame.specs.Frame.Written.{AreWritten, HaveTheirFrames, NotesHaveTheirFrames, NextFramesAreWritten}
 use Rattle.law_frame.proofs.Frame.Grows.{tables_trans, wrote_grows, received_grows}

@@ -7,11 +7,11 @@ use Rattle.def_machine.specs.Arrive.{gift_at}
 use Rattle.def_machine.specs.Receive as receive
 use Rattle.def_machine.specs.Receive.{Sight}
 use Rattle.def_machine.proofs.Keys.{word_key}
-use Rattle.law_machine.proofs.ReceivingLaws.{it_arrives}
+use Rattle.law_machine.proofs.Machine.ReceivingLaws.{it_arrives}
 use Rattle.def_run.specs.Draws.{draw_word}
 use Rattle.def_run.specs.World.{Script, World, names, names_of, read_note, readied}
-use Rattle.law_name.specs.Names.{AllOf, IsAmong, GiftOk, names_in}
-use Rattle.law_name.proofs.Run.{Had}
+use Rattle.law_fate.specs.Name.Names.{AllOf, IsAmong, GiftOk, names_in}
+use Rattle.law_fate.proofs.Name.Run.{Had}
 use Rattle.law_frame.proofs.Frame.WireAsking.{GiftFits}
 use Rattle.law_frame.specs.Heard.Received.{AsksAnew, TellsOfGood, NextNotesAreReceived}
 use Rattle.law_frame.proofs.Heard.Bare.{found_number}

@@ -9,14 +9,14 @@ use Rattle.def_machine.specs.Arrive as arrive
 use Rattle.def_machine.specs.Arrive.{New}
 use Rattle.def_machine.proofs.Keys.{word_under_key}
 use Rattle.def_run.specs.World as world
-use Rattle.law_name.specs.Names.{Bit, Named, Mail, Entered, Owns, Gave, WasDrawn, IsMessageName, GiftOk}
-use Rattle.law_name.proofs.Facts.{MayBe, all_end, PlaceOk, Fact, Nothing, Also, IsName, IsMail, IsOwned, IsGiven, IsEntry, IsValue, nothing}
-use Rattle.law_name.proofs.Care.{Care, Under, Makes, Sound, Ends, Gets, Fine, fine_bind, fine_less, fine_then, fine_more, fine_with, fine_if, fine_give, fine_look, fine_tell, fine_out, fine_wait, changes_ok, with_known, with_entry}
-use Rattle.law_name.proofs.CareArrive.{Gifts, fine_ask_for}
-use Rattle.law_name.proofs.Looks.{gift_at_ok}
-use Rattle.law_name.proofs.Among.{among_more, key_not_drawn}
-use Rattle.law_name.proofs.SameNames.{reference_is}
-use Rattle.law_reference.proofs.Arrivals.{NoteTells, note_read}
+use Rattle.law_fate.specs.Name.Names.{Bit, Named, Mail, Entered, Owns, Gave, WasDrawn, IsMessageName, GiftOk}
+use Rattle.law_fate.proofs.Name.Facts.{MayBe, all_end, PlaceOk, Fact, Nothing, Also, IsName, IsMail, IsOwned, IsGiven, IsEntry, IsValue, nothing}
+use Rattle.law_fate.proofs.Name.Care.{Care, Under, Makes, Sound, Ends, Gets, Fine, fine_bind, fine_less, fine_then, fine_more, fine_with, fine_if, fine_give, fine_look, fine_tell, fine_out, fine_wait, changes_ok, with_known, with_entry}
+use Rattle.law_fate.proofs.Name.CareArrive.{Gifts, fine_ask_for}
+use Rattle.law_fate.proofs.Name.Looks.{gift_at_ok}
+use Rattle.law_fate.proofs.Name.Among.{among_more, key_not_drawn}
+use Rattle.law_fate.proofs.Name.SameNames.{reference_is}
+use Rattle.law_reference.proofs.Reference.Arrivals.{NoteTells, note_read}
 
 -- ---- a gift that is found
 

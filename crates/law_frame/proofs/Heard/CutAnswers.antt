@@ -3,34 +3,34 @@ use Rattle.std.proofs.Common.{◌≡◌, ℕ, ◌+◌, ◌≤◌, ◌<◌, Bool,
 use Rattle.std.specs.Prelude.{slice_get}
 use Rattle.def_machine.specs.Values.{Name, Answer, Sent, Msg}
 use Rattle.def_machine.specs.State.{Note, Put, Vat}
-use Rattle.law_machine.specs.Steps.{Step, Receives}
+use Rattle.law_machine.specs.Machine.Steps.{Step, Receives}
 use Rattle.def_run.specs.Wire.{connected_at}
 use Rattle.def_run.specs.World as world
 use Rattle.def_run.specs.World.{Script, Link, World, link_at, with_link, with_notes, severed_link, put_at, push_all, names_of, read_note, cut_in}
-use Rattle.law_fate.specs.Fate.{total, of_note, on_link, at_vat, sent_in, put_out}
-use Rattle.law_fate.specs.FateLaws.{brought as fate_brought}
-use Rattle.law_fate.specs.CarryLaws.{leaves}
-use Rattle.law_fate.specs.Lasting.{StepComes}
-use Rattle.law_fate.specs.Sound.{StepArrives}
-use Rattle.law_fate.proofs.WorldLight.{VatSound, note_arrives, note_pays}
-use Rattle.law_fate.proofs.RunCounts.{with_link_changes}
-use Rattle.law_fate.proofs.RunWell.{note_comes, found_link}
-use Rattle.law_fate.specs.Lasting.{NoteWell}
-use Rattle.law_name.specs.Names.{IsAmong, names_in}
-use Rattle.law_name.proofs.Among.{all_among}
-use Rattle.law_reference.specs.Knowing.{brought, numbered_at}
-use Rattle.law_reference.specs.Logs as wire
-use Rattle.law_reference.proofs.AnswerLinks.{AtLink}
-use Rattle.law_reference.proofs.Counts.{Counted, world_one, world_none, numbered_most, IsNew, step_weighs, step_sends, step_knows, step_age}
-use Rattle.law_reference.proofs.First.{among_dec}
-use Rattle.law_reference.proofs.Fresh.{made_or}
-use Rattle.law_reference.proofs.Follow.{eq_dec, put_cases}
-use Rattle.law_reference.proofs.LegFacts.{mailed_at, new_nowhere}
-use Rattle.law_reference.proofs.LegMoves.{LegsOf, head_of, came_of, first_weight, sound_note_of}
-use Rattle.law_reference.proofs.LegRuns.{Before, first_mails, unknown_not, brings_mail, alone_brings, self_none, alone_leaves, alone_came, alone_comes, alone_arrives}
-use Rattle.law_reference.proofs.Moves.{Moved, Still, Severs, Drops, Steps, Arrives, Does, waiting}
-use Rattle.law_reference.proofs.Onward.{claims_known, claims_own}
-use Rattle.law_reference.proofs.Places.{note_most}
+use Rattle.law_fate.specs.Fates.Fate.{total, of_note, on_link, at_vat, sent_in, put_out}
+use Rattle.law_fate.specs.Fates.FateLaws.{brought as fate_brought}
+use Rattle.law_fate.specs.Fates.CarryLaws.{leaves}
+use Rattle.law_fate.specs.Fates.Lasting.{StepComes}
+use Rattle.law_fate.specs.Fates.Sound.{StepArrives}
+use Rattle.law_fate.proofs.Fates.WorldLight.{VatSound, note_arrives, note_pays}
+use Rattle.law_fate.proofs.Fates.RunCounts.{with_link_changes}
+use Rattle.law_fate.proofs.Fates.RunWell.{note_comes, found_link}
+use Rattle.law_fate.specs.Fates.Lasting.{NoteWell}
+use Rattle.law_fate.specs.Name.Names.{IsAmong, names_in}
+use Rattle.law_fate.proofs.Name.Among.{all_among}
+use Rattle.law_reference.specs.Reference.Knowing.{brought, numbered_at}
+use Rattle.law_reference.specs.Reference.Logs as wire
+use Rattle.law_reference.proofs.Reference.AnswerLinks.{AtLink}
+use Rattle.law_reference.proofs.Reference.Counts.{Counted, world_one, world_none, numbered_most, IsNew, step_weighs, step_sends, step_knows, step_age}
+use Rattle.law_reference.proofs.Reference.First.{among_dec}
+use Rattle.law_reference.proofs.Reference.Fresh.{made_or}
+use Rattle.law_reference.proofs.Reference.Follow.{eq_dec, put_cases}
+use Rattle.law_reference.proofs.Reference.LegFacts.{mailed_at, new_nowhere}
+use Rattle.law_reference.proofs.Reference.LegMoves.{LegsOf, head_of, came_of, first_weight, sound_note_of}
+use Rattle.law_reference.proofs.Reference.LegRuns.{Before, first_mails, unknown_not, brings_mail, alone_brings, self_none, alone_leaves, alone_came, alone_comes, alone_arrives}
+use Rattle.law_reference.proofs.Reference.Moves.{Moved, Still, Severs, Drops, Steps, Arrives, Does, waiting}
+use Rattle.law_reference.proofs.Reference.Onward.{claims_known, claims_own}
+use Rattle.law_reference.proofs.Reference.Places.{note_most}
 use Rattle.law_frame.specs.Frame.Asked.{AsksOf}
 use Rattle.law_frame.proofs.Frame.Before.{MovePutsNot, PutsNot, asked_before}
 use Rattle.law_frame.proofs.Frame.Exported.{among_split}

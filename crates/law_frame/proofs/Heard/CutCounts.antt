@@ -2,21 +2,21 @@
 use Rattle.std.proofs.Common.{◌≡◌, ℕ, ◌+◌, ◌≤◌, Bool, true, false, List, [], ◌∷◌, Some, refl, sym, ap, subst, ◌∙◌, arith}
 use Rattle.def_machine.specs.Values.{Name, Answer, Gift, Sent, Msg, answer_of}
 use Rattle.def_machine.specs.State.{Note, Deliver, Ask, Put, Vat}
-use Rattle.law_machine.specs.Steps.{Step}
+use Rattle.law_machine.specs.Machine.Steps.{Step}
 use Rattle.def_run.specs.Draws.{draw_word}
 use Rattle.def_run.specs.World as world
 use Rattle.def_run.specs.World.{Script, Link, World, is_link, link_at, with_link, severed_link, put_at, push_all, names, readied}
-use Rattle.law_fate.specs.Fate.{total, of_note, in_note, on_link, at_vat, sent_in, put_out, where_cut, account, gone, one as same_one}
-use Rattle.law_fate.specs.FateLaws.{Accounted, brought as fate_brought}
-use Rattle.law_fate.specs.Carry.{load, put_weight}
-use Rattle.law_fate.proofs.RunCounts.{total_put, push_all_adds, with_link_changes}
-use Rattle.law_fate.proofs.TurnAccount.{steps_double_none}
-use Rattle.law_name.specs.Names.{IsMessageName}
-use Rattle.law_reference.proofs.Counts.{put_total}
-use Rattle.law_reference.proofs.FollowRuns.{after_gives}
-use Rattle.law_reference.proofs.Legs.{self_least}
-use Rattle.law_reference.proofs.Moves.{Does, waiting}
-use Rattle.law_reference.proofs.Places.{note_least}
+use Rattle.law_fate.specs.Fates.Fate.{total, of_note, in_note, on_link, at_vat, sent_in, put_out, where_cut, account, gone, one as same_one}
+use Rattle.law_fate.specs.Fates.FateLaws.{Accounted, brought as fate_brought}
+use Rattle.law_fate.specs.Fates.Carry.{load, put_weight}
+use Rattle.law_fate.proofs.Fates.RunCounts.{total_put, push_all_adds, with_link_changes}
+use Rattle.law_fate.proofs.Fates.TurnAccount.{steps_double_none}
+use Rattle.law_fate.specs.Name.Names.{IsMessageName}
+use Rattle.law_reference.proofs.Reference.Counts.{put_total}
+use Rattle.law_reference.proofs.Reference.FollowRuns.{after_gives}
+use Rattle.law_reference.proofs.Reference.Legs.{self_least}
+use Rattle.law_reference.proofs.Reference.Moves.{Does, waiting}
+use Rattle.law_reference.proofs.Reference.Places.{note_least}
 use Rattle.law_frame.specs.Frame.Asked.{AsksOf}
 use Rattle.law_frame.proofs.Frame.Before.{AsksNot, PutsNot}
 use Rattle.law_frame.proofs.Frame.LinksKnown.{AsksOwn}

@@ -4,13 +4,13 @@ use Rattle.std.specs.Prelude.{slice_get}
 use Rattle.def_machine.specs.Values.{Name, Answer, Gift, Sent, Msg, answer_of}
 use Rattle.def_machine.specs.State.{Note, Deliver, Ask, Put, Vat}
 use Rattle.def_run.specs.World.{Script, Link, World, link_at}
-use Rattle.law_name.specs.Names.{Named, IsAmong, IsKnownIn, IsMessageName, PutOk, names_in}
-use Rattle.law_name.proofs.Among.{all_among}
-use Rattle.law_name.proofs.Run.{Had}
-use Rattle.law_reference.specs.Logs as wire
-use Rattle.law_reference.proofs.First.{among_dec}
-use Rattle.law_reference.proofs.Follow.{put_cases}
-use Rattle.law_reference.proofs.Moves.{Moved, Still, Severs, Drops, Steps, Arrives}
+use Rattle.law_fate.specs.Name.Names.{Named, IsAmong, IsKnownIn, IsMessageName, PutOk, names_in}
+use Rattle.law_fate.proofs.Name.Among.{all_among}
+use Rattle.law_fate.proofs.Name.Run.{Had}
+use Rattle.law_reference.specs.Reference.Logs as wire
+use Rattle.law_reference.proofs.Reference.First.{among_dec}
+use Rattle.law_reference.proofs.Reference.Follow.{put_cases}
+use Rattle.law_reference.proofs.Reference.Moves.{Moved, Still, Severs, Drops, Steps, Arrives}
 use Rattle.law_frame.specs.Frame.Asked.{AsksOf, told_in}
 use Rattle.law_frame.proofs.Frame.LinksGo.{FoundFrom}
 use Rattle.law_frame.proofs.Frame.LinksKnown.{AsksOwn}

@@ -7,12 +7,12 @@ use Rattle.def_run.specs.Wire as conn
 use Rattle.def_run.specs.Wire.{Connected, connected_at, with_connected, sight}
 use Rattle.def_run.specs.World as world
 use Rattle.def_run.specs.World.{Script, Program, Opens, Entry, CutLink, Event, Carried, Link, World, Goes as Going, link_at, with_link, with_notes}
-use Rattle.law_run.specs.Moves as run
-use Rattle.law_run.specs.Moves.{Stepped, Nobody, AnyNotice, went}
-use Rattle.law_run.proofs.Honest.{NoDeed, NoWord}
-use Rattle.law_run.proofs.Told.{moves_told}
-use Rattle.law_name.specs.Names.{IsAmong}
-use Rattle.law_reference.specs.Logs as wire
+use Rattle.law_machine.specs.Run.Moves as run
+use Rattle.law_machine.specs.Run.Moves.{Stepped, Nobody, AnyNotice, went}
+use Rattle.law_machine.proofs.Run.Honest.{NoDeed, NoWord}
+use Rattle.law_machine.proofs.Run.Told.{moves_told}
+use Rattle.law_fate.specs.Name.Names.{IsAmong}
+use Rattle.law_reference.specs.Reference.Logs as wire
 use Rattle.law_frame.proofs.Frame.Exported.{among_split}
 use Rattle.law_frame.proofs.Frame.Exports.{asked_on}
 use Rattle.law_frame.proofs.Frame.LinksGo.{Splits}

@@ -8,10 +8,10 @@ use Rattle.def_run.specs.Wire as conn
 use Rattle.def_run.specs.Wire.{Connected, connected_at, with_connected, sight}
 use Rattle.def_run.specs.World as world
 use Rattle.def_run.specs.World.{Link, with_link, with_notes, pushed, severed_link}
-use Rattle.law_name.specs.Names.{AllOf, IsAmong}
-use Rattle.law_reference.specs.Logs as wire
-use Rattle.law_reference.proofs.LinksCut.{fits_notes, fits_severed}
-use Rattle.law_reference.proofs.AnswerLinks.{AtLink, with_any}
+use Rattle.law_fate.specs.Name.Names.{AllOf, IsAmong}
+use Rattle.law_reference.specs.Reference.Logs as wire
+use Rattle.law_reference.proofs.Reference.LinksCut.{fits_notes, fits_severed}
+use Rattle.law_reference.proofs.Reference.AnswerLinks.{AtLink, with_any}
 use Rattle.law_frame.specs.Frame.Asked.{told_in}
 use Rattle.law_frame.proofs.Frame.Grow.{among_left}
 use Rattle.law_frame.proofs.Frame.LinksGo.{with_link_here}

@@ -6,12 +6,12 @@ use Rattle.def_run.specs.Wire as conn
 use Rattle.def_run.specs.Wire.{Connected, connected_at, connects}
 use Rattle.def_run.specs.World as world
 use Rattle.def_run.specs.World.{Script, Program, Entry, World, Goes as Going, link_at}
-use Rattle.law_name.specs.Names.{AllOf, IsAmong}
-use Rattle.law_name.specs.Runs.{KnowsOnce}
-use Rattle.law_name.proofs.Facts.{all_append}
-use Rattle.law_reference.specs.Logs as wire
-use Rattle.law_reference.specs.Cuts.{NoticesFollowCuts}
-use Rattle.law_reference.proofs.SingleRuns as answers
+use Rattle.law_fate.specs.Name.Names.{AllOf, IsAmong}
+use Rattle.law_fate.specs.Name.Runs.{KnowsOnce}
+use Rattle.law_fate.proofs.Name.Facts.{all_append}
+use Rattle.law_reference.specs.Reference.Logs as wire
+use Rattle.law_reference.specs.Reference.Cuts.{NoticesFollowCuts}
+use Rattle.law_reference.proofs.Reference.SingleRuns as answers
 use Rattle.law_frame.proofs.Frame.LinksStay.{AllLinked, opened_linked, stepped_linked, roots_is}
 use Rattle.law_frame.proofs.Frame.SourceLaws.{log_is}
 use Rattle.law_frame.specs.Heard.Exported.{ExportsLogged, ExportsAreAsLogged}

@@ -7,16 +7,16 @@ use Rattle.def_run.specs.Wire as conn
 use Rattle.def_run.specs.Wire.{Connected, connected_at, with_connected}
 use Rattle.def_run.specs.World as world
 use Rattle.def_run.specs.World.{Script, Program, Opens, Entry, CutLink, Event, Carried, Link, World, Goes as Going, link_at, with_link, with_notes, severed_link, put_at, has_name}
-use Rattle.law_run.specs.Moves as run
-use Rattle.law_run.specs.Moves.{Stepped, Nobody, AnyNotice, went}
-use Rattle.law_run.proofs.Honest.{NoDeed, NoWord}
-use Rattle.law_run.proofs.Told.{moves_told}
-use Rattle.law_name.specs.Names.{IsAmong}
-use Rattle.law_name.proofs.Among.{get_put}
-use Rattle.law_name.proofs.SameNames.{has_among, among_has}
-use Rattle.law_renaming.proofs.Stands.{both}
-use Rattle.law_reference.specs.Logs as wire
-use Rattle.law_reference.proofs.Follow.{put_cases}
+use Rattle.law_machine.specs.Run.Moves as run
+use Rattle.law_machine.specs.Run.Moves.{Stepped, Nobody, AnyNotice, went}
+use Rattle.law_machine.proofs.Run.Honest.{NoDeed, NoWord}
+use Rattle.law_machine.proofs.Run.Told.{moves_told}
+use Rattle.law_fate.specs.Name.Names.{IsAmong}
+use Rattle.law_fate.proofs.Name.Among.{get_put}
+use Rattle.law_fate.proofs.Name.SameNames.{has_among, among_has}
+use Rattle.law_machine.proofs.Renamed.Stands.{both}
+use Rattle.law_reference.specs.Reference.Logs as wire
+use Rattle.law_reference.proofs.Reference.Follow.{put_cases}
 use Rattle.law_frame.specs.Frame.Asked.{told_in}
 use Rattle.law_frame.proofs.Frame.Exports as exports
 use Rattle.law_frame.proofs.Frame.Exports.{log_same, each_so}

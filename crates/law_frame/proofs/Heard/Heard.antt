@@ -8,11 +8,11 @@ use Rattle.def_run.specs.Connections.{Learnt, Stage, Heard, stands_in, learnt_at
 use Rattle.def_run.specs.Wire.{sight, is_object}
 use Rattle.def_run.specs.World as world
 use Rattle.def_run.specs.World.{is_old, read_name, known_after}
-use Rattle.law_fate.specs.Fate.{once}
-use Rattle.law_name.specs.Names.{IsAmong, IsKnownIn}
-use Rattle.law_name.proofs.SameNames.{has_among, among_has, old_known}
-use Rattle.law_reference.specs.News.{IsPassed, IsPassedIn, Passes}
-use Rattle.law_reference.specs.GiftPassing.{gifts_in, gifts_in_all, gifts_in_note, PassesFrom, AllPassFrom, Provides}
+use Rattle.law_fate.specs.Fates.Fate.{once}
+use Rattle.law_fate.specs.Name.Names.{IsAmong, IsKnownIn}
+use Rattle.law_fate.proofs.Name.SameNames.{has_among, among_has, old_known}
+use Rattle.law_reference.specs.Reference.News.{IsPassed, IsPassedIn, Passes}
+use Rattle.law_reference.specs.Reference.GiftPassing.{gifts_in, gifts_in_all, gifts_in_note, PassesFrom, AllPassFrom, Provides}
 use Rattle.law_frame.specs.Frame.Asked.{told_value, told_passed, told_all, told_in}
 use Rattle.law_frame.specs.Frame.Reads as seen
 use Rattle.law_frame.proofs.Frame.ArriveAsking.{among_front, among_back}
@@ -20,7 +20,7 @@ use Rattle.law_frame.proofs.Frame.Exported.{among_split}
 use Rattle.law_frame.proofs.Frame.Grow.{known_old, among_left}
 use Rattle.law_frame.specs.Frame.Alike.{names_heard, from_peer, as_told}
 use Rattle.law_frame.proofs.Heard.Pairs.{true_false}
-use Rattle.law_reference.specs.Notes.{IsBetween}
+use Rattle.law_reference.specs.Reference.Notes.{IsBetween}
 use Rattle.law_frame.specs.Heard.Hearing.{named, as_heard}
 use Rattle.law_frame.proofs.Heard.Kept.{in_has}
 

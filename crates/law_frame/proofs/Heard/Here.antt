@@ -3,16 +3,16 @@ use Rattle.std.proofs.Common.{◌≡◌, ℕ, zero, suc, map, List, [], ◌∷�
 use Rattle.std.specs.Prelude.{slice_get}
 use Rattle.def_machine.specs.Values.{Name, Root, Object, host_of}
 use Rattle.def_machine.specs.State.{Note, Deliver, Vat, begun}
-use Rattle.law_machine.specs.Steps.{Step, Receives}
+use Rattle.law_machine.specs.Machine.Steps.{Step, Receives}
 use Rattle.def_run.specs.Draws.{draw_word}
 use Rattle.def_run.specs.World as world
 use Rattle.def_run.specs.World.{Script, Program, Link, World, names_of, read_note, put_at, push_all, with_link, with_notes, link_at}
-use Rattle.law_name.specs.Names.{Named, AllOf, IsAmong, NounOk, KnownOk}
-use Rattle.law_name.proofs.Facts.{Nothing}
-use Rattle.law_name.proofs.Care.{parts_up}
-use Rattle.law_reference.proofs.Follow.{put_cases}
-use Rattle.law_reference.proofs.Moves.{Moved, Still, Severs, Drops, Steps, Arrives, IsAlone, Does}
-use Rattle.law_reference.proofs.ApartSteps.{does_sound, arrives_sound}
+use Rattle.law_fate.specs.Name.Names.{Named, AllOf, IsAmong, NounOk, KnownOk}
+use Rattle.law_fate.proofs.Name.Facts.{Nothing}
+use Rattle.law_fate.proofs.Name.Care.{parts_up}
+use Rattle.law_reference.proofs.Reference.Follow.{put_cases}
+use Rattle.law_reference.proofs.Reference.Moves.{Moved, Still, Severs, Drops, Steps, Arrives, IsAlone, Does}
+use Rattle.law_reference.proofs.Reference.ApartSteps.{does_sound, arrives_sound}
 use Rattle.law_frame.specs.Frame.Asked.{told_in}
 use Rattle.law_frame.specs.Frame.Tables.{arrived}
 use Rattle.law_frame.proofs.Frame.ArriveAsking.{MailFits}
@@ -20,7 +20,7 @@ use Rattle.law_frame.proofs.Frame.LinksKnown.{AsksOwn, at_link}
 use Rattle.law_frame.proofs.Frame.LinksGo.{Splits, LinksGo, Stays, with_link_here, taken_arrived}
 use Rattle.law_frame.proofs.Frame.Objects.{OwnOrTold, Handed, AllHanded, Hands, handed_up, under, makes, nouns_handed, arrive_handed}
 use Rattle.law_frame.proofs.Frame.Sources.{OfEither, push_all_goes, take_goes, take_splits, waiting_logged}
-use Rattle.law_reference.proofs.LinksCut.{fits_notes}
+use Rattle.law_reference.proofs.Reference.LinksCut.{fits_notes}
 use Rattle.law_frame.proofs.Heard.Moves.{goes_of}
 use Rattle.law_frame.proofs.Heard.Pending.{Facts, splits, sent, told_of}
 

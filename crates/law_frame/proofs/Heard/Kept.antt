@@ -9,8 +9,8 @@ use Rattle.def_run.specs.Connections.{Connection, stands_in, asked_in, exported_
 use Rattle.def_run.specs.Wire as conn
 use Rattle.def_run.specs.Wire.{Connected, sight}
 use Rattle.def_run.specs.World.{has_name}
-use Rattle.law_name.specs.Names.{AllOf, IsAmong}
-use Rattle.law_reference.specs.Logs as wire
+use Rattle.law_fate.specs.Name.Names.{AllOf, IsAmong}
+use Rattle.law_reference.specs.Reference.Logs as wire
 use Rattle.law_frame.specs.Frame.Asked.{told_value, told_passed, told_all, told_in}
 use Rattle.law_frame.specs.Frame.Growing.{TablesGrow}
 use Rattle.law_frame.proofs.Frame.ArriveAsking.{among_front, among_back}

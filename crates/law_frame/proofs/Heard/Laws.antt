@@ -9,16 +9,16 @@ use Rattle.def_run.specs.Wire as conn
 use Rattle.def_run.specs.Wire.{Connected, connected_at}
 use Rattle.def_run.specs.World as world
 use Rattle.def_run.specs.World.{Script, Entry, Link, World, Goes as Going, link_at, names_of}
-use Rattle.law_name.specs.Names.{AllOf, IsAmong, IsKnownIn, names_in}
-use Rattle.law_name.specs.Runs.{KnowsOnce}
-use Rattle.law_name.proofs.Among.{all_among}
-use Rattle.law_name.proofs.SameNames.{has_among, among_has}
-use Rattle.law_reference.specs.Logs as wire
-use Rattle.law_reference.specs.Cuts.{NoticesFollowCuts}
-use Rattle.law_reference.specs.News.{Passes}
-use Rattle.law_reference.specs.GiftPassing.{gifts_in_note}
-use Rattle.law_reference.proofs.HideMoves.{taken_sum, under_drawn}
-use Rattle.law_reference.proofs.ApartWhole.{stand_apart}
+use Rattle.law_fate.specs.Name.Names.{AllOf, IsAmong, IsKnownIn, names_in}
+use Rattle.law_fate.specs.Name.Runs.{KnowsOnce}
+use Rattle.law_fate.proofs.Name.Among.{all_among}
+use Rattle.law_fate.proofs.Name.SameNames.{has_among, among_has}
+use Rattle.law_reference.specs.Reference.Logs as wire
+use Rattle.law_reference.specs.Reference.Cuts.{NoticesFollowCuts}
+use Rattle.law_reference.specs.Reference.News.{Passes}
+use Rattle.law_reference.specs.Reference.GiftPassing.{gifts_in_note}
+use Rattle.law_reference.proofs.Reference.HideMoves.{taken_sum, under_drawn}
+use Rattle.law_reference.proofs.Reference.ApartWhole.{stand_apart}
 use Rattle.std.proofs.lemmas.Bool.{eqb-true}
 use Rattle.law_frame.specs.Frame.Asked.{told_in}
 use Rattle.law_frame.specs.Frame.Growing.{IsFront, TablesGrow}

@@ -4,14 +4,14 @@ use Rattle.std.specs.Prelude.{slice_get}
 use Rattle.def_machine.specs.Values.{Name, Root}
 use Rattle.def_machine.specs.State.{Vat, Done, Gives}
 use Rattle.def_machine.specs.Eval.{opening}
-use Rattle.law_machine.specs.Steps.{Opens as Starts, does}
+use Rattle.law_machine.specs.Machine.Steps.{Opens as Starts, does}
 use Rattle.def_run.specs.World as world
 use Rattle.def_run.specs.World.{Script, Program, Opens, Entry, World, Run, Goes as Going, Stopped, names, readied}
-use Rattle.law_run.specs.Moves.{went}
-use Rattle.law_name.proofs.Among.{length_end}
-use Rattle.law_reference.specs.Cuts.{NoticesFollowCuts}
-use Rattle.law_reference.proofs.AskHolds.{notices_front}
-use Rattle.law_reference.proofs.Moves.{Does, waiting, get_mid, going_is, opens_end, steps_end}
+use Rattle.law_machine.specs.Run.Moves.{went}
+use Rattle.law_fate.proofs.Name.Among.{length_end}
+use Rattle.law_reference.specs.Reference.Cuts.{NoticesFollowCuts}
+use Rattle.law_reference.proofs.Reference.AskHolds.{notices_front}
+use Rattle.law_reference.proofs.Reference.Moves.{Does, waiting, get_mid, going_is, opens_end, steps_end}
 
 -- ---- an opening turn
 

@@ -9,13 +9,13 @@ use Rattle.def_run.specs.Wire as conn
 use Rattle.def_run.specs.Wire.{Connected, connected_at, with_connected}
 use Rattle.def_run.specs.World as world
 use Rattle.def_run.specs.World.{Link, link_at, with_link, with_notes, pushed, severed_link, put_at}
-use Rattle.law_name.specs.Names.{AllOf}
-use Rattle.law_reference.proofs.LinksCut.{fits_pushed, fits_notes, fits_severed}
+use Rattle.law_fate.specs.Name.Names.{AllOf}
+use Rattle.law_reference.proofs.Reference.LinksCut.{fits_pushed, fits_notes, fits_severed}
 use Rattle.law_frame.proofs.Frame.LinksGo.{Stays, with_link_here}
 use Rattle.law_frame.proofs.Frame.Places.{same_or, link_other, connected_same, connected_other, connected_ends}
 use Rattle.law_frame.proofs.Frame.Ranks.{exports_start}
 use Rattle.law_frame.proofs.Frame.Written.{pushed_from, pushed_to, wrote_from, wrote_to, received_from, received_to, notes_from, notes_to, severed_from, severed_to, get_or}
-use Rattle.law_reference.specs.Logs as wire
+use Rattle.law_reference.specs.Reference.Logs as wire
 use Rattle.law_frame.proofs.Heard.Pairs.{true_false, pushed_cut}
 use Rattle.law_frame.proofs.Heard.Kept.{Noted, Kept, kept_put, kept_reader, kept_writer, kept_exports, kept_questions}
 use Rattle.law_frame.proofs.Heard.Read.{Fits, kept_read}

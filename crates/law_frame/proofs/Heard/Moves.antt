@@ -2,8 +2,8 @@
 use Rattle.std.proofs.Common.{List, [], ◌∷◌, sym, subst}
 use Rattle.def_run.specs.World as world
 use Rattle.def_run.specs.World.{Script, Link, World, with_link, with_notes, severed_link}
-use Rattle.law_name.specs.Names.{AllOf}
-use Rattle.law_reference.proofs.Moves.{Moved, Still, Severs, Drops, Steps, Arrives}
+use Rattle.law_fate.specs.Name.Names.{AllOf}
+use Rattle.law_reference.proofs.Reference.Moves.{Moved, Still, Severs, Drops, Steps, Arrives}
 use Rattle.law_frame.proofs.Frame.LinksGo.{Splits, LinkGoes, LinksGo, links_same, links_on, with_link_goes, severed_goes}
 use Rattle.law_frame.proofs.Frame.Sources.{severed_stay, push_all_goes, take_goes, take_splits}
 

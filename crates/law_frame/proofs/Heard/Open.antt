@@ -3,8 +3,8 @@ use Rattle.std.proofs.Common.{◌≡◌, ℕ, false, List, Some, ◌∙◌}
 use Rattle.def_machine.specs.Values.{Name}
 use Rattle.def_machine.specs.State.{Note, Put}
 use Rattle.def_run.specs.World.{Link, with_link, with_notes, push_all}
-use Rattle.law_reference.proofs.AnswerLinks.{AtLink, push_keeps, with_any}
-use Rattle.law_reference.proofs.LinksCut.{fits_notes}
+use Rattle.law_reference.proofs.Reference.AnswerLinks.{AtLink, push_keeps, with_any}
+use Rattle.law_reference.proofs.Reference.LinksCut.{fits_notes}
 use Rattle.law_frame.proofs.Heard.Pairs.{pushed_cut}
 
 abbrev pub IsOpen : Link → Type 0

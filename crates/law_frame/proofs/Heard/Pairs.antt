@@ -5,16 +5,16 @@ use Rattle.def_machine.specs.Values.{Name}
 use Rattle.def_machine.specs.State.{Note, Put}
 use Rattle.def_run.specs.World as world
 use Rattle.def_run.specs.World.{Script, Program, Entry, Link, World, Goes as Going, link_at, with_link, with_notes, severed_link, pushed, push_all}
-use Rattle.law_name.specs.Names.{AllOf}
-use Rattle.law_name.specs.Runs.{KnowsOnce}
-use Rattle.law_name.proofs.Facts.{all_append}
-use Rattle.law_reference.proofs.LinksCut.{fits_notes, fits_severed, stays_cut, now_cut}
-use Rattle.law_reference.proofs.AnswerLinks.{AtLink, found_ends, with_any, push_keeps}
+use Rattle.law_fate.specs.Name.Names.{AllOf}
+use Rattle.law_fate.specs.Name.Runs.{KnowsOnce}
+use Rattle.law_fate.proofs.Name.Facts.{all_append}
+use Rattle.law_reference.proofs.Reference.LinksCut.{fits_notes, fits_severed, stays_cut, now_cut}
+use Rattle.law_reference.proofs.Reference.AnswerLinks.{AtLink, found_ends, with_any, push_keeps}
 use Rattle.law_frame.proofs.Frame.OrderRuns.{found_all}
 use Rattle.law_frame.proofs.Frame.Places.{same_or}
-use Rattle.law_reference.proofs.LegRuns.{Before, stands_of}
-use Rattle.law_reference.proofs.LegMoves.{opened_before, stepped_before}
-use Rattle.law_reference.proofs.Moves.{Moved, Still, Severs, Drops, Steps, Arrives, opened_hold, stepped_hold}
+use Rattle.law_reference.proofs.Reference.LegRuns.{Before, stands_of}
+use Rattle.law_reference.proofs.Reference.LegMoves.{opened_before, stepped_before}
+use Rattle.law_reference.proofs.Reference.Moves.{Moved, Still, Severs, Drops, Steps, Arrives, opened_hold, stepped_hold}
 
 pub true_false : {b : Bool} → b ≡ true → b ≡ false → ⊥
 true_false {b = b} e f = clash b e f

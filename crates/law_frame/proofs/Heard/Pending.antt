@@ -5,32 +5,32 @@ use Rattle.std.proofs.lemmas.Bool.{eq-eqb}
 use Rattle.def_machine.specs.Values.{Value, Ref, Name, Root, Answer, Gift, Msg, host_of}
 use Rattle.def_machine.specs.State.{Message, Passed, Passeds, Plain, AGift, Many, NoMore, More, Note, Deliver, Open, Ask, SettledTo, Elsewhere, Shorten, Put, Vat}
 use Rattle.def_machine.specs.Scopes.{any_guard}
-use Rattle.law_machine.specs.Steps.{Step, Receives}
+use Rattle.law_machine.specs.Machine.Steps.{Step, Receives}
 use Rattle.def_run.specs.Draws.{draw_word}
 use Rattle.def_run.specs.World as world
 use Rattle.def_run.specs.World.{Script, Program, Link, World, names_of, read_note, readied, put_at, push_all, pushed, with_link, with_notes, severed_link, link_at}
-use Rattle.law_fate.specs.Fate.{once}
-use Rattle.law_name.specs.Names.{Bit, Named, Mail, Entered, Owns, Gave, AllOf, IsAmong, WasDrawn, NounOk, NoteOk, PutOk, Everywhere, names_in}
-use Rattle.law_name.proofs.Facts.{all_map, Nothing}
-use Rattle.law_name.proofs.Among.{all_among}
-use Rattle.law_name.proofs.Care.{parts_up}
-use Rattle.law_name.proofs.Run.{Had, Stands, name_had}
-use Rattle.law_reference.specs.Logs as wire
-use Rattle.law_reference.specs.Notes.{IsBetween, Carries, LinkFits, LinkCarries}
-use Rattle.law_reference.specs.Hiding.{IsNotOf, IsOfNoOther, Shuns, Spares}
-use Rattle.law_reference.specs.GiftPassing.{gifts_in, gifts_in_all, gifts_in_note, gifts_under_way, drawn_of}
-use Rattle.law_reference.proofs.NotesLift as lift
-use Rattle.law_reference.proofs.Puts.{gifts_out}
-use Rattle.law_reference.proofs.GiftLinks.{pushed_notes, push_all_gifts, with_link_less, severed_less}
-use Rattle.law_reference.proofs.First.{among_dec}
-use Rattle.law_reference.proofs.Follow.{put_cases, eq_dec}
-use Rattle.law_reference.proofs.AnswerLinks.{AtLink, with_any, push_of, push_others, pushed_all}
-use Rattle.law_reference.proofs.LinksCut.{fits_notes, fits_severed}
-use Rattle.law_reference.proofs.LegRuns.{MailBits, stands_of, first_mails}
-use Rattle.law_reference.proofs.Moves.{Moved, Still, Severs, Drops, Steps, Arrives, IsAlone, Does}
-use Rattle.law_reference.proofs.Arrivals.{ValueTells, PassedTells, PassedsTell}
-use Rattle.law_reference.proofs.ApartSteps.{does_sound, arrives_sound}
-use Rattle.law_reference.proofs.HideMoves.{HiddenAt, taken_sum, under_drawn, early, new_hidden, note_new, alone_out, note_out}
+use Rattle.law_fate.specs.Fates.Fate.{once}
+use Rattle.law_fate.specs.Name.Names.{Bit, Named, Mail, Entered, Owns, Gave, AllOf, IsAmong, WasDrawn, NounOk, NoteOk, PutOk, Everywhere, names_in}
+use Rattle.law_fate.proofs.Name.Facts.{all_map, Nothing}
+use Rattle.law_fate.proofs.Name.Among.{all_among}
+use Rattle.law_fate.proofs.Name.Care.{parts_up}
+use Rattle.law_fate.proofs.Name.Run.{Had, Stands, name_had}
+use Rattle.law_reference.specs.Reference.Logs as wire
+use Rattle.law_reference.specs.Reference.Notes.{IsBetween, Carries, LinkFits, LinkCarries}
+use Rattle.law_reference.specs.Reference.Hiding.{IsNotOf, IsOfNoOther, Shuns, Spares}
+use Rattle.law_reference.specs.Reference.GiftPassing.{gifts_in, gifts_in_all, gifts_in_note, gifts_under_way, drawn_of}
+use Rattle.law_reference.proofs.Reference.NotesLift as lift
+use Rattle.law_reference.proofs.Reference.Puts.{gifts_out}
+use Rattle.law_reference.proofs.Reference.GiftLinks.{pushed_notes, push_all_gifts, with_link_less, severed_less}
+use Rattle.law_reference.proofs.Reference.First.{among_dec}
+use Rattle.law_reference.proofs.Reference.Follow.{put_cases, eq_dec}
+use Rattle.law_reference.proofs.Reference.AnswerLinks.{AtLink, with_any, push_of, push_others, pushed_all}
+use Rattle.law_reference.proofs.Reference.LinksCut.{fits_notes, fits_severed}
+use Rattle.law_reference.proofs.Reference.LegRuns.{MailBits, stands_of, first_mails}
+use Rattle.law_reference.proofs.Reference.Moves.{Moved, Still, Severs, Drops, Steps, Arrives, IsAlone, Does}
+use Rattle.law_reference.proofs.Reference.Arrivals.{ValueTells, PassedTells, PassedsTell}
+use Rattle.law_reference.proofs.Reference.ApartSteps.{does_sound, arrives_sound}
+use Rattle.law_reference.proofs.Reference.HideMoves.{HiddenAt, taken_sum, under_drawn, early, new_hidden, note_new, alone_out, note_out}
 use Rattle.law_frame.specs.Frame.Asked.{AsksOf, told_value, told_passed, told_all, told_in}
 use Rattle.law_frame.specs.Frame.Known.{KnowsEach}
 use Rattle.law_frame.specs.Frame.Tables.{arrived}

@@ -4,14 +4,14 @@ use Rattle.std.specs.Prelude.{slice_get}
 use Rattle.def_machine.specs.Values.{Name, Root, Object, Promise, Answer, Gift, Sent as Message_name, Msg, host_of, answer_of}
 use Rattle.def_machine.specs.State.{Passeds, Note, Deliver, Ask, Vat}
 use Rattle.def_run.specs.World.{Script, Link, World, link_at, has_name}
-use Rattle.law_fate.specs.Fate.{on_link}
-use Rattle.law_name.specs.Names.{Named, IsAmong, IsKnownIn, IsMessageName, PutOk, names_in}
-use Rattle.law_name.proofs.Among.{all_among}
-use Rattle.law_name.proofs.SameNames.{has_among}
-use Rattle.law_name.proofs.Run.{Had}
-use Rattle.law_reference.specs.Logs as wire
-use Rattle.law_reference.proofs.AskRuns.{NoticedCut}
-use Rattle.law_reference.proofs.First.{among_dec}
+use Rattle.law_fate.specs.Fates.Fate.{on_link}
+use Rattle.law_fate.specs.Name.Names.{Named, IsAmong, IsKnownIn, IsMessageName, PutOk, names_in}
+use Rattle.law_fate.proofs.Name.Among.{all_among}
+use Rattle.law_fate.proofs.Name.SameNames.{has_among}
+use Rattle.law_fate.proofs.Name.Run.{Had}
+use Rattle.law_reference.specs.Reference.Logs as wire
+use Rattle.law_reference.proofs.Reference.AskRuns.{NoticedCut}
+use Rattle.law_reference.proofs.Reference.First.{among_dec}
 use Rattle.law_frame.specs.Frame.Asked.{AsksOf, told_in}
 use Rattle.law_frame.specs.Frame.Tables.{arrived}
 use Rattle.law_frame.proofs.Frame.Exported.{among_split, exports_in}

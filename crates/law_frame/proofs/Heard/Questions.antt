@@ -8,12 +8,12 @@ use Rattle.def_run.specs.Wire as conn
 use Rattle.def_run.specs.Wire.{Connected, connected_at, with_connected, sight}
 use Rattle.def_run.specs.World as world
 use Rattle.def_run.specs.World.{Script, Event, CutLink, Carried, Link, World, Goes, link_at, with_link, with_notes, pushed, severed_link}
-use Rattle.law_run.specs.Moves.{Deed, Moved, Still, Severs, Drops, Steps, Arrives, Hears, Tells, went, without}
-use Rattle.law_run.proofs.Told.{moves_told}
-use Rattle.law_run.proofs.Honest.{lifted}
-use Rattle.law_reference.specs.Logs as wire
-use Rattle.law_reference.proofs.LinksCut.{fits_pushed, fits_notes, fits_severed}
-use Rattle.law_reference.proofs.AnswerLinks.{AtLink, with_any}
+use Rattle.law_machine.specs.Run.Moves.{Deed, Moved, Still, Severs, Drops, Steps, Arrives, Hears, Tells, went, without}
+use Rattle.law_machine.proofs.Run.Told.{moves_told}
+use Rattle.law_machine.proofs.Run.Honest.{lifted}
+use Rattle.law_reference.specs.Reference.Logs as wire
+use Rattle.law_reference.proofs.Reference.LinksCut.{fits_pushed, fits_notes, fits_severed}
+use Rattle.law_reference.proofs.Reference.AnswerLinks.{AtLink, with_any}
 use Rattle.law_frame.proofs.Frame.LinksGo.{Stays, with_link_here}
 use Rattle.law_frame.proofs.Frame.Places.{same_or, link_other, connected_same, connected_other, connected_ends}
 use Rattle.law_frame.proofs.Frame.SourceLaws.{log_is}

@@ -11,11 +11,11 @@ use Rattle.def_run.specs.Connections as tables
 use Rattle.def_run.specs.Connections.{Connection, Stage, Heard, stands_in, asked_in, exported_note, frame_now, note_heard}
 use Rattle.def_run.specs.Wire as conn
 use Rattle.def_run.specs.Wire.{Connected, sight, is_object, newcomers, numbered, read_frame, frame_due}
-use Rattle.law_machine.proofs.StepLaws.{get_append}
-use Rattle.law_name.specs.Names.{IsAmong}
-use Rattle.law_name.proofs.SameNames.{among_has}
-use Rattle.law_reference.specs.Logs as wire
-use Rattle.law_reference.specs.GiftPassing.{PassesFrom, AllPassFrom, Provides}
+use Rattle.law_machine.proofs.Machine.StepLaws.{get_append}
+use Rattle.law_fate.specs.Name.Names.{IsAmong}
+use Rattle.law_fate.proofs.Name.SameNames.{among_has}
+use Rattle.law_reference.specs.Reference.Logs as wire
+use Rattle.law_reference.specs.Reference.GiftPassing.{PassesFrom, AllPassFrom, Provides}
 use Rattle.law_frame.specs.Frame.Asked.{ListlessValue, Listless, AllListless, HoldsNoList, told_value, told_passed, told_all, told_in}
 use Rattle.law_frame.specs.Frame.Growing.{IsFront, TablesGrow}
 use Rattle.law_frame.specs.Frame.Reads.{IsNumbered, ValueFits, PassedFits, AllFit, NoteFits, Brings, seen_note}

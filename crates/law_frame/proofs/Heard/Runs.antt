@@ -2,20 +2,20 @@
 use Rattle.std.proofs.Common.{◌≡◌, ℕ, zero, ◌+◌, List, [], ◌∷◌, ◌++◌, refl, sym, subst, length}
 use Rattle.def_run.specs.World as world
 use Rattle.def_run.specs.World.{Script, Program, Entry, Link, World, Goes as Going}
-use Rattle.law_name.specs.Names.{AllOf, IsAmong}
-use Rattle.law_name.specs.Runs.{KnowsOnce}
-use Rattle.law_name.proofs.Among.{all_among}
-use Rattle.law_name.proofs.Run.{begins_stands}
-use Rattle.law_reference.specs.Logs as wire
-use Rattle.law_reference.specs.Cuts.{NoticesFollowCuts}
-use Rattle.law_reference.proofs.NotesRuns.{notes_name_ends, notes_carry_ends}
-use Rattle.law_reference.proofs.SingleRuns as answers
-use Rattle.law_reference.proofs.RunLift.{opens_keep}
-use Rattle.law_reference.proofs.NoticedRuns.{AllSure, noticed_sure, Never, begins_noticed}
-use Rattle.law_reference.proofs.AskRuns.{NoticedCut}
-use Rattle.law_reference.proofs.AskHolds.{cuts_noticed}
-use Rattle.law_reference.proofs.ApartWhole.{bring_new}
-use Rattle.law_reference.proofs.Moves.{Moved}
+use Rattle.law_fate.specs.Name.Names.{AllOf, IsAmong}
+use Rattle.law_fate.specs.Name.Runs.{KnowsOnce}
+use Rattle.law_fate.proofs.Name.Among.{all_among}
+use Rattle.law_fate.proofs.Name.Run.{begins_stands}
+use Rattle.law_reference.specs.Reference.Logs as wire
+use Rattle.law_reference.specs.Reference.Cuts.{NoticesFollowCuts}
+use Rattle.law_reference.proofs.Reference.NotesRuns.{notes_name_ends, notes_carry_ends}
+use Rattle.law_reference.proofs.Reference.SingleRuns as answers
+use Rattle.law_reference.proofs.Reference.RunLift.{opens_keep}
+use Rattle.law_reference.proofs.Reference.NoticedRuns.{AllSure, noticed_sure, Never, begins_noticed}
+use Rattle.law_reference.proofs.Reference.AskRuns.{NoticedCut}
+use Rattle.law_reference.proofs.Reference.AskHolds.{cuts_noticed}
+use Rattle.law_reference.proofs.Reference.ApartWhole.{bring_new}
+use Rattle.law_reference.proofs.Reference.Moves.{Moved}
 use Rattle.law_frame.specs.Frame.Asked.{HoldsNoList}
 use Rattle.law_frame.specs.Frame.Tables.{arrived}
 use Rattle.law_frame.proofs.Frame.WireLaws.{asked_for_known, notes_listless}

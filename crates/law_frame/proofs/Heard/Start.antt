@@ -5,9 +5,9 @@ use Rattle.def_machine.specs.Values.{Name}
 use Rattle.def_run.specs.Wire.{Connected, connected_at, connects}
 use Rattle.def_run.specs.World as world
 use Rattle.def_run.specs.World.{Script, Program, Link, link_at, is_link}
-use Rattle.law_name.proofs.Among.{length_end}
-use Rattle.law_reference.specs.Logs as wire
-use Rattle.law_reference.proofs.Moves.{get_mid}
+use Rattle.law_fate.proofs.Name.Among.{length_end}
+use Rattle.law_reference.specs.Reference.Logs as wire
+use Rattle.law_reference.proofs.Reference.Moves.{get_mid}
 use Rattle.law_frame.proofs.Frame.Places.{connected_ends}
 use Rattle.law_frame.proofs.Heard.Kept.{AreKept, Kept}
 use Rattle.law_frame.proofs.Heard.Steps.{Asked, AllKept}

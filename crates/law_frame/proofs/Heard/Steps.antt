@@ -8,18 +8,18 @@ use Rattle.def_run.specs.Wire as conn
 use Rattle.def_run.specs.Wire.{Connected, connected_at, with_connected}
 use Rattle.def_run.specs.World as world
 use Rattle.def_run.specs.World.{Script, Program, Opens, Entry, CutLink, NoticeLink, Event, Carried, Link, World, Goes as Going, link_at, with_link, with_notes, pushed, severed_link, put_at, push_all, has_name}
-use Rattle.law_run.specs.Moves as run
-use Rattle.law_run.specs.Moves.{Stepped, IsHonest, Nobody, AnyNotice, went}
-use Rattle.law_run.proofs.Honest.{NoDeed, NoWord}
-use Rattle.law_run.proofs.Told.{moves_told}
-use Rattle.law_name.specs.Names.{IsAmong, PutOk}
-use Rattle.law_name.proofs.Among.{all_among, get_put}
-use Rattle.law_name.proofs.Run.{Had}
-use Rattle.law_name.proofs.SameNames.{has_among, among_has}
-use Rattle.law_renaming.proofs.Stands.{both}
-use Rattle.law_reference.specs.Logs as wire
-use Rattle.law_reference.proofs.AskRuns.{NoticedCut}
-use Rattle.law_reference.proofs.Moves.{Moved}
+use Rattle.law_machine.specs.Run.Moves as run
+use Rattle.law_machine.specs.Run.Moves.{Stepped, IsHonest, Nobody, AnyNotice, went}
+use Rattle.law_machine.proofs.Run.Honest.{NoDeed, NoWord}
+use Rattle.law_machine.proofs.Run.Told.{moves_told}
+use Rattle.law_fate.specs.Name.Names.{IsAmong, PutOk}
+use Rattle.law_fate.proofs.Name.Among.{all_among, get_put}
+use Rattle.law_fate.proofs.Name.Run.{Had}
+use Rattle.law_fate.proofs.Name.SameNames.{has_among, among_has}
+use Rattle.law_machine.proofs.Renamed.Stands.{both}
+use Rattle.law_reference.specs.Reference.Logs as wire
+use Rattle.law_reference.proofs.Reference.AskRuns.{NoticedCut}
+use Rattle.law_reference.proofs.Reference.Moves.{Moved}
 use Rattle.law_frame.specs.Frame.Asked.{told_in}
 use Rattle.law_frame.specs.Frame.Tables.{arrived}
 use Rattle.law_frame.specs.Frame.Exports.{AsksForNothingTold}

@@ -6,8 +6,8 @@ use Rattle.def_machine.specs.State.{Note, Vat, Stop, Astray, Done, Gives, Stops}
 use Rattle.def_machine.specs.Arrive.{notice}
 use Rattle.def_run.specs.World as world
 use Rattle.def_run.specs.World.{Script, Entry, Turn, Carry, CutLink, NoticeLink, Link, World, Run, Goes as Going, Stopped, NoticedAt}
-use Rattle.law_reference.proofs.AskHolds.{notices_front}
-use Rattle.law_reference.proofs.Follow.{eq_dec}
+use Rattle.law_reference.proofs.Reference.AskHolds.{notices_front}
+use Rattle.law_reference.proofs.Reference.Follow.{eq_dec}
 use Rattle.law_frame.specs.Frame.Steps.{OwnStep, EndsFor, entry_by_numbers, opening_by_numbers}
 use Rattle.law_frame.proofs.Frame.Entries.{entries_stand}
 use Rattle.law_frame.proofs.Frame.Answered.{entry_move, opening_move}

@@ -3,13 +3,13 @@ use Rattle.std.proofs.Common.{◌≡◌, ℕ, Bool, true, false, List, [], ◌�
 use Rattle.def_machine.specs.Values.{Name, Root, Object, Gift, Sent, same_reference, spot_of, Naming, Coming, IsRoot, Mailing, IsSent, IsCarried, mail_of, name_of, naming, word_of}
 use Rattle.def_machine.specs.State.{Known, Vat, Done, Gives, Act, is_in}
 use Rattle.def_run.specs.World.{World, readied}
-use Rattle.law_name.specs.Names.{AllOf, IsAmong, IsMessageName, IsMessageMade, WasMade, IsMade, KnownOk, Parts}
+use Rattle.law_fate.specs.Name.Names.{AllOf, IsAmong, IsMessageName, IsMessageMade, WasMade, IsMade, KnownOk, Parts}
 use Rattle.def_machine.specs.Maps as maps
 use Rattle.def_machine.specs.Maps.{coming, mailing}
-use Rattle.law_renaming.proofs.Sim.{Books, Renames, Sim, FitsAfter, IsBefore, names, id}
-use Rattle.law_renaming.proofs.MapMaps.{vat_twice}
-use Rattle.law_renaming.proofs.Same.{vat_same}
-use Rattle.law_reference.proofs.Puts.{among_in}
+use Rattle.law_machine.proofs.Renamed.Sim.{Books, Renames, Sim, FitsAfter, IsBefore, names, id}
+use Rattle.law_machine.proofs.Renamed.MapMaps.{vat_twice}
+use Rattle.law_machine.proofs.Renamed.Same.{vat_same}
+use Rattle.law_reference.proofs.Reference.Puts.{among_in}
 use Rattle.law_frame.proofs.Frame.Same.{vat_same as marked_same}
 
 -- a name, and whether it is no gift or one whose word was drawn

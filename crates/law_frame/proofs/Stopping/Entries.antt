@@ -7,35 +7,35 @@ use Rattle.def_machine.specs.State.{Message, Note, Vat, Stop, Done, Gives, Stops
 use Rattle.def_machine.specs.Arrive as arrive
 use Rattle.def_machine.specs.Arrive.{Incoming}
 use Rattle.def_machine.specs.Eval.{taking}
-use Rattle.law_machine.specs.Steps.{Step, Takes, Receives, Notices, IsQuiet, does}
-use Rattle.law_machine.specs.Laws.{SameNames, SameMails}
-use Rattle.law_machine.proofs.StepLaws.{names_stays, mails_stays}
-use Rattle.law_machine.proofs.StepEnds.{step_ends}
+use Rattle.law_machine.specs.Machine.Steps.{Step, Takes, Receives, Notices, IsQuiet, does}
+use Rattle.law_machine.specs.Machine.Laws.{SameNames, SameMails}
+use Rattle.law_machine.proofs.Machine.StepLaws.{names_stays, mails_stays}
+use Rattle.law_machine.proofs.Machine.StepEnds.{step_ends}
 use Rattle.def_run.specs.Draws.{draw_word}
 use Rattle.def_run.specs.World as world
 use Rattle.def_run.specs.World.{Script, Entry, Turn, Carry, CutLink, NoticeLink, Event, Turned, Carried, NoticedAt, Link, World, Goes as Going, Stopped, readied, names_of, read_note, link_at}
-use Rattle.law_name.specs.Names.{AllOf, IsEventual, IsMessageName, IsMade, NoteOk, names_in}
-use Rattle.law_name.specs.Runs.{KnowsOnce}
-use Rattle.law_name.proofs.Facts.{MayBe, note_up}
-use Rattle.law_name.proofs.Laws.{names_apart, notes_made}
-use Rattle.law_name.proofs.Run.{link_holds}
+use Rattle.law_fate.specs.Name.Names.{AllOf, IsEventual, IsMessageName, IsMade, NoteOk, names_in}
+use Rattle.law_fate.specs.Name.Runs.{KnowsOnce}
+use Rattle.law_fate.proofs.Name.Facts.{MayBe, note_up}
+use Rattle.law_fate.proofs.Name.Laws.{names_apart, notes_made}
+use Rattle.law_fate.proofs.Name.Run.{link_holds}
 use Rattle.def_machine.specs.Maps as maps
 use Rattle.def_machine.specs.Maps.{incoming}
-use Rattle.law_renaming.specs.Renaming.{Wire as Wired, EndsWith}
-use Rattle.law_renaming.specs.Stands.{Found, Is, Table, IsTable, StandsFor, found}
-use Rattle.law_renaming.proofs.Steps.{turns_stand, notices_stand, arrivals_stand}
-use Rattle.law_reference.specs.Cuts.{NoticesFollowCuts}
-use Rattle.law_reference.specs.Knowing.{claims, brought}
-use Rattle.law_reference.specs.NameTableRuns.{allowed, brings_here, BringsNew}
-use Rattle.law_reference.specs.Tables.{table_of}
-use Rattle.law_reference.proofs.Bounds.{Bounded}
-use Rattle.law_reference.proofs.KnownRuns.{steps_hold, opens_hold, begins_bounded}
-use Rattle.law_reference.proofs.NameTableLaws.{exports_are_distinct}
-use Rattle.law_reference.proofs.NameTableSteps.{steps_know_once}
-use Rattle.law_reference.proofs.OwnTargets.{news_after}
-use Rattle.law_reference.proofs.LegRuns.{self_none}
-use Rattle.law_reference.proofs.LegMoves.{stepped_before}
-use Rattle.law_reference.proofs.ApartWhole.{bring_new}
+use Rattle.law_machine.specs.Renamed.Renaming.{Wire as Wired, EndsWith}
+use Rattle.law_machine.specs.Renamed.Stands.{Found, Is, Table, IsTable, StandsFor, found}
+use Rattle.law_machine.proofs.Renamed.Steps.{turns_stand, notices_stand, arrivals_stand}
+use Rattle.law_reference.specs.Reference.Cuts.{NoticesFollowCuts}
+use Rattle.law_reference.specs.Reference.Knowing.{claims, brought}
+use Rattle.law_reference.specs.Reference.NameTableRuns.{allowed, brings_here, BringsNew}
+use Rattle.law_reference.specs.Reference.Tables.{table_of}
+use Rattle.law_reference.proofs.Reference.Bounds.{Bounded}
+use Rattle.law_reference.proofs.Reference.KnownRuns.{steps_hold, opens_hold, begins_bounded}
+use Rattle.law_reference.proofs.Reference.NameTableLaws.{exports_are_distinct}
+use Rattle.law_reference.proofs.Reference.NameTableSteps.{steps_know_once}
+use Rattle.law_reference.proofs.Reference.OwnTargets.{news_after}
+use Rattle.law_reference.proofs.Reference.LegRuns.{self_none}
+use Rattle.law_reference.proofs.Reference.LegMoves.{stepped_before}
+use Rattle.law_reference.proofs.Reference.ApartWhole.{bring_new}
 use Rattle.law_frame.specs.Frame.Hearing.{Heard}
 use Rattle.law_frame.specs.Frame.Alike.{names_heard, as_told, wire_name}
 use Rattle.law_frame.specs.Frame.AlikeArrivals.{frame_heard, table_across}

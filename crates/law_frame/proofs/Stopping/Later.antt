@@ -3,9 +3,9 @@ use Rattle.std.proofs.Common.{◌≡◌, ℕ, zero, suc, Bool, true, false, List
 use Rattle.std.specs.Prelude.{slice_get}
 use Rattle.def_machine.specs.Values.{Name, Root, Naming}
 use Rattle.def_machine.specs.State.{Message, Note, Vat, Done, Gives, Stops}
-use Rattle.law_machine.specs.Steps.{Step, Opens as Starts, Takes, Receives, Notices, After, does}
-use Rattle.law_machine.specs.Laws.{SameDraws}
-use Rattle.law_machine.proofs.StepLaws.{draws_stays}
+use Rattle.law_machine.specs.Machine.Steps.{Step, Opens as Starts, Takes, Receives, Notices, After, does}
+use Rattle.law_machine.specs.Machine.Laws.{SameDraws}
+use Rattle.law_machine.proofs.Machine.StepLaws.{draws_stays}
 use Rattle.def_run.specs.Text.{draws_of, history_of}
 use Rattle.def_run.specs.World as world
 use Rattle.def_run.specs.World.{Script, Program, Opens, Entry, Turn, Carry, CutLink, NoticeLink, Event, Turned, Idle, Carried, NoticedAt, Ends, Link, World, Run, Goes as Going, Stopped, names, names_of, read_note, events_of}

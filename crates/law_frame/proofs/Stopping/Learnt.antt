@@ -6,9 +6,9 @@ use Rattle.def_machine.specs.Refs as refs
 use Rattle.def_machine.specs.Arrive as arrive
 use Rattle.def_machine.specs.Arrive.{Old, New}
 use Rattle.def_run.specs.World as world
-use Rattle.law_machine.proofs.Keeps.{Keeps, keeps_bind, keeps_then, keeps_if, keeps_give, keeps_look, keeps_list, keeps_tell, keeps_out}
-use Rattle.law_name.specs.Names.{Bit, Named, Mail, IsMessageName, IsMessageMade, WasMade, IsMade, ValueOk, PassedOk, PassedsOk, NoteOk}
-use Rattle.law_name.proofs.Tracked.{names_change}
+use Rattle.law_machine.proofs.Machine.Keeps.{Keeps, keeps_bind, keeps_then, keeps_if, keeps_give, keeps_look, keeps_list, keeps_tell, keeps_out}
+use Rattle.law_fate.specs.Name.Names.{Bit, Named, Mail, IsMessageName, IsMessageMade, WasMade, IsMade, ValueOk, PassedOk, PassedsOk, NoteOk}
+use Rattle.law_fate.proofs.Name.Tracked.{names_change}
 use Rattle.law_frame.proofs.Stopping.Parted.{IsNoMessage, Parted, stays, grown, posted, base, answered, settles, sends, arrives_closed}
 
 -- what a name, and the name of a message, is

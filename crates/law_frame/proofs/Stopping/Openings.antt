@@ -4,25 +4,25 @@ use Rattle.std.specs.Prelude.{slice_get}
 use Rattle.def_machine.specs.Values.{Name, Root, Local, Prom, naming, numbering}
 use Rattle.def_machine.specs.State.{Vat, Stop, Stops}
 use Rattle.def_machine.specs.Eval.{opening}
-use Rattle.law_machine.specs.Steps.{Step, Opens as Starts, does}
-use Rattle.law_machine.specs.Laws.{SameNames, SameMails}
-use Rattle.law_machine.proofs.StepLaws.{names_stays, mails_stays}
-use Rattle.law_machine.proofs.StepEnds.{step_ends}
+use Rattle.law_machine.specs.Machine.Steps.{Step, Opens as Starts, does}
+use Rattle.law_machine.specs.Machine.Laws.{SameNames, SameMails}
+use Rattle.law_machine.proofs.Machine.StepLaws.{names_stays, mails_stays}
+use Rattle.law_machine.proofs.Machine.StepEnds.{step_ends}
 use Rattle.def_run.specs.Draws.{draw_word}
 use Rattle.def_run.specs.World as world
 use Rattle.def_run.specs.World.{Script, Program, Opens, World, Goes as Going, Stopped, readied}
-use Rattle.law_name.specs.Names.{names_in}
-use Rattle.law_name.specs.Runs.{KnowsOnce}
-use Rattle.law_name.proofs.Laws.{names_apart}
+use Rattle.law_fate.specs.Name.Names.{names_in}
+use Rattle.law_fate.specs.Name.Runs.{KnowsOnce}
+use Rattle.law_fate.proofs.Name.Laws.{names_apart}
 use Rattle.def_machine.specs.Maps as maps
-use Rattle.law_renaming.specs.Renaming.{Wire as Wired}
-use Rattle.law_renaming.specs.Stands.{Is, StandsFor, found}
-use Rattle.law_renaming.proofs.Steps.{openings_stand as turns_open}
-use Rattle.law_reference.specs.Knowing.{brought}
-use Rattle.law_reference.specs.Tables.{table_of}
-use Rattle.law_reference.proofs.KnownRuns.{opens_hold, begins_bounded}
-use Rattle.law_reference.proofs.NameTableLaws.{exports_are_distinct}
-use Rattle.law_reference.proofs.NameTableSteps.{steps_know_once}
+use Rattle.law_machine.specs.Renamed.Renaming.{Wire as Wired}
+use Rattle.law_machine.specs.Renamed.Stands.{Is, StandsFor, found}
+use Rattle.law_machine.proofs.Renamed.Steps.{openings_stand as turns_open}
+use Rattle.law_reference.specs.Reference.Knowing.{brought}
+use Rattle.law_reference.specs.Reference.Tables.{table_of}
+use Rattle.law_reference.proofs.Reference.KnownRuns.{opens_hold, begins_bounded}
+use Rattle.law_reference.proofs.Reference.NameTableLaws.{exports_are_distinct}
+use Rattle.law_reference.proofs.Reference.NameTableSteps.{steps_know_once}
 use Rattle.law_frame.specs.Frame.AlikeArrivals.{table_across}
 use Rattle.law_frame.specs.Frame.Steps.{given_by_numbers, opening_by_numbers}
 use Rattle.law_frame.proofs.Frame.AlikeArrivals.{some_same}

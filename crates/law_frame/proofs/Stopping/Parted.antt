@@ -7,25 +7,25 @@ use Rattle.def_machine.specs.Arrive as arrive
 use Rattle.def_machine.specs.Arrive.{Incoming}
 use Rattle.def_machine.specs.Eval as eval
 use Rattle.def_kernel.specs.declared.node.Node.{Node}
-use Rattle.law_machine.specs.Steps.{After}
-use Rattle.law_machine.proofs.Walks.{IsClosed, InRefs, InRefsUnder, InSettling, where_some}
-use Rattle.law_machine.proofs.Blocks.{Singles, SinglesUnder, refs_under_of, settling_of, arrive_of, arrive_under_of, eval_of, eval_under_of}
-use Rattle.law_machine.proofs.RefsWalk.{walk_settle, walk_send_on, walk_resolve}
-use Rattle.law_machine.proofs.ArriveWalk.{walk_arrive, walk_notice}
-use Rattle.law_machine.proofs.EvalWalk.{walk_taking, walk_opening}
-use Rattle.law_machine.proofs.Keeps.{Keeps, KeepsBy, IsKept, keeps_closed, keeps_ends, keeps_singles, keeps_draw, keeps_bind, keeps_then, keeps_activation, keeps_tell}
-use Rattle.law_machine.proofs.RefsKeeps.{keeps_in_refs, keeps_settle}
-use Rattle.law_name.specs.Names.{AllOf, IsMessageName, names_in}
-use Rattle.law_name.proofs.Facts.{all_end}
-use Rattle.law_name.proofs.Among.{names_end}
-use Rattle.law_name.proofs.Tracked.{names_change}
+use Rattle.law_machine.specs.Machine.Steps.{After}
+use Rattle.law_machine.proofs.Machine.Walks.{IsClosed, InRefs, InRefsUnder, InSettling, where_some}
+use Rattle.law_machine.proofs.Machine.Blocks.{Singles, SinglesUnder, refs_under_of, settling_of, arrive_of, arrive_under_of, eval_of, eval_under_of}
+use Rattle.law_machine.proofs.Machine.RefsWalk.{walk_settle, walk_send_on, walk_resolve}
+use Rattle.law_machine.proofs.Machine.ArriveWalk.{walk_arrive, walk_notice}
+use Rattle.law_machine.proofs.Machine.EvalWalk.{walk_taking, walk_opening}
+use Rattle.law_machine.proofs.Machine.Keeps.{Keeps, KeepsBy, IsKept, keeps_closed, keeps_ends, keeps_singles, keeps_draw, keeps_bind, keeps_then, keeps_activation, keeps_tell}
+use Rattle.law_machine.proofs.Machine.RefsKeeps.{keeps_in_refs, keeps_settle}
+use Rattle.law_fate.specs.Name.Names.{AllOf, IsMessageName, names_in}
+use Rattle.law_fate.proofs.Name.Facts.{all_end}
+use Rattle.law_fate.proofs.Name.Among.{names_end}
+use Rattle.law_fate.proofs.Name.Tracked.{names_change}
 use Rattle.def_machine.specs.Maps as maps
 use Rattle.def_machine.specs.Maps.{coming, mailing, incoming}
-use Rattle.law_renaming.proofs.Sim.{Books, Renames, Sim, FitsAfter, Grows, grows, grows_under, id}
-use Rattle.law_renaming.proofs.SimRefs.{sim_settle, sim_send_on}
-use Rattle.law_renaming.proofs.SimArrive.{sim_arrive, sim_notice}
-use Rattle.law_renaming.proofs.SimEval.{sim_taking, sim_opening}
-use Rattle.law_renaming.proofs.Same.{value_same, vat_same}
+use Rattle.law_machine.proofs.Renamed.Sim.{Books, Renames, Sim, FitsAfter, Grows, grows, grows_under, id}
+use Rattle.law_machine.proofs.Renamed.SimRefs.{sim_settle, sim_send_on}
+use Rattle.law_machine.proofs.Renamed.SimArrive.{sim_arrive, sim_notice}
+use Rattle.law_machine.proofs.Renamed.SimEval.{sim_taking, sim_opening}
+use Rattle.law_machine.proofs.Renamed.Same.{value_same, vat_same}
 
 abbrev pub IsNoMessage : Name → Type 0
 IsNoMessage (Sent m) = ⊥

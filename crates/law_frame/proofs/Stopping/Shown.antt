@@ -10,10 +10,10 @@ use Rattle.def_machine.specs.State.{Bound, Fixed, Slot, Message, Passed, Passeds
 use Rattle.def_run.specs.Shown.{place_of, shown_gift, shown_name, shown_msg, shown_value, shown_values, shown_slot, shown_capture, shown_passed, shown_all, shown_delivery, shown_note, shown_send, shown_reaction, shown_happened, shown_event}
 use Rattle.def_run.specs.Text.{shown_events}
 use Rattle.def_run.specs.World.{Event, LostCut, Link, is_cut, event_of, events_of}
-use Rattle.law_name.specs.Names.{AllOf, IsAmong, WasDrawn, WasMade, IsMade, ValueOk, PassedOk, PassedsOk, NoteOk}
-use Rattle.law_name.proofs.Facts.{all_append}
+use Rattle.law_fate.specs.Name.Names.{AllOf, IsAmong, WasDrawn, WasMade, IsMade, ValueOk, PassedOk, PassedsOk, NoteOk}
+use Rattle.law_fate.proofs.Name.Facts.{all_append}
 use Rattle.def_machine.specs.Maps as maps
-use Rattle.law_reference.proofs.Puts.{in_among}
+use Rattle.law_reference.proofs.Reference.Puts.{in_among}
 use Rattle.law_frame.proofs.Stopping.Drawn.{is_drawn, kept, keep}
 
 -- ---- names

@@ -8,9 +8,9 @@ use Rattle.def_event.specs.Lines.{render, render_run}
 use Rattle.def_run.specs.Text.{vat_names, shown_events, draws_of, stop_text, text, wire_text}
 use Rattle.def_run.specs.World as world
 use Rattle.def_run.specs.World.{Script, Program, Entry, World, Run, Goes as Going, Stopped}
-use Rattle.law_name.specs.Runs.{KnowsOnce}
-use Rattle.law_name.proofs.Among.{length_end}
-use Rattle.law_name.proofs.Run.{Stands, step_stands, opens_stand, begins_stands}
+use Rattle.law_fate.specs.Name.Runs.{KnowsOnce}
+use Rattle.law_fate.proofs.Name.Among.{length_end}
+use Rattle.law_fate.proofs.Name.Run.{Stands, step_stands, opens_stand, begins_stands}
 use Rattle.law_frame.specs.Stopping.Lines.{IsShownFirst, LinesAreShownSoFar, RunsShowLinesSoFar, OpeningTurnsShowLinesSoFar, IsWrittenFirst, TextsAreWrittenSoFar}
 use Rattle.law_frame.proofs.Stopping.Shown.{shown_same, shown_append}
 use Rattle.law_frame.proofs.Stopping.Later.{Later, later_then, steps_later, opens_later, close_later}

@@ -3,8 +3,8 @@ use Rattle.std.proofs.Common.{◌≡◌, ℕ, suc, ◌+◌, List, [], ◌∷◌,
 use Rattle.def_machine.specs.State.{Stop}
 use Rattle.def_run.specs.World as world
 use Rattle.def_run.specs.World.{Script, Entry, World, Run, Goes as Going, Stopped}
-use Rattle.law_reference.specs.Cuts.{NoticesFollowCuts}
-use Rattle.law_reference.proofs.AskHolds.{notices_front}
+use Rattle.law_reference.specs.Reference.Cuts.{NoticesFollowCuts}
+use Rattle.law_reference.proofs.Reference.AskHolds.{notices_front}
 use Rattle.law_frame.proofs.Frame.Runs.{runs_stand}
 use Rattle.law_frame.specs.Stopping.Stops.{StopsAt, StoppedRunsByNumbers}
 use Rattle.law_frame.proofs.Stopping.Entries.{entries_stop}

@@ -2,17 +2,17 @@
 use Rattle.std.proofs.Common.{◌≡◌, ℕ, ◌+◌, ◌≤◌, List, [], ◌∷◌, Some, refl, sym, subst, ◌==◌, ◌&&◌, inl, inr, arith}
 use Rattle.def_machine.specs.Values.{Name, Object, Sent, same_name, spot_of, Foreign, naming}
 use Rattle.def_machine.specs.State.{Vat, Stop, Done, Stops}
-use Rattle.law_machine.specs.Steps.{Step, After, does}
-use Rattle.law_name.specs.Names.{AllOf, IsAmong, IsEventual, IsMessageName, Once, names_in}
-use Rattle.law_renaming.specs.Stands.{IsTable}
+use Rattle.law_machine.specs.Machine.Steps.{Step, After, does}
+use Rattle.law_fate.specs.Name.Names.{AllOf, IsAmong, IsEventual, IsMessageName, Once, names_in}
+use Rattle.law_machine.specs.Renamed.Stands.{IsTable}
 use Rattle.def_run.specs.World.{World}
-use Rattle.law_reference.specs.Exports.{exported_at}
-use Rattle.law_reference.specs.Knowing.{claims, numbered, Knowing}
-use Rattle.law_reference.specs.NameTableRuns.{other, allowed}
-use Rattle.law_reference.specs.Tables.{table_of}
-use Rattle.law_reference.proofs.Bounds.{Bounded, step_bounded, allowed_once, claims_once, differ}
-use Rattle.law_reference.proofs.Onward.{claims_known}
-use Rattle.law_reference.proofs.VatTables.{has_table}
+use Rattle.law_reference.specs.Reference.Exports.{exported_at}
+use Rattle.law_reference.specs.Reference.Knowing.{claims, numbered, Knowing}
+use Rattle.law_reference.specs.Reference.NameTableRuns.{other, allowed}
+use Rattle.law_reference.specs.Reference.Tables.{table_of}
+use Rattle.law_reference.proofs.Reference.Bounds.{Bounded, step_bounded, allowed_once, claims_once, differ}
+use Rattle.law_reference.proofs.Reference.Onward.{claims_known}
+use Rattle.law_reference.proofs.Reference.VatTables.{has_table}
 use Rattle.law_frame.specs.Frame.AlikeArrivals.{table_across}
 use Rattle.law_frame.proofs.Stopping.Parted.{IsNoMessage, Parted}
 

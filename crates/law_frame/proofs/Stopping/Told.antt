@@ -7,24 +7,24 @@ use Rattle.def_machine.specs.Arrive.{Incoming, Old, New, arrive, notice}
 use Rattle.def_machine.specs.Scopes.{any_guard}
 use Rattle.def_machine.specs.Eval.{opening, taking}
 use Rattle.def_kernel.specs.declared.node.Node.{Node}
-use Rattle.law_machine.specs.Steps.{Step, Opens as Starts, Takes, Receives, Notices, After, does}
-use Rattle.law_machine.specs.Laws.{SameDraws}
-use Rattle.law_machine.proofs.StepLaws.{draws_stays}
+use Rattle.law_machine.specs.Machine.Steps.{Step, Opens as Starts, Takes, Receives, Notices, After, does}
+use Rattle.law_machine.specs.Machine.Laws.{SameDraws}
+use Rattle.law_machine.proofs.Machine.StepLaws.{draws_stays}
 use Rattle.def_run.specs.Draws.{draw_word}
 use Rattle.def_run.specs.Shown.{shown_event}
 use Rattle.def_run.specs.World as world
 use Rattle.def_run.specs.World.{Script, Program, Opens, Entry, Turn, Carry, CutLink, NoticeLink, Event, Turned, Idle, Carried, NoticedAt, Link, World, Goes as Going, names_of, read_note, readied, put_at, events_of}
-use Rattle.law_name.specs.Names.{AllOf, IsAmong, IsMessageName, WasMade, IsMade, ValueOk, PassedOk, PassedsOk, NoteOk, MessageOk, KnownOk, Parts}
-use Rattle.law_name.proofs.Facts.{MayBe, all_map, all_append, note_up}
-use Rattle.law_name.proofs.Care.{parts_up}
-use Rattle.law_name.proofs.Among.{get_put}
-use Rattle.law_name.proofs.Run.{Had, Told, VatStands, Stands, link_holds}
+use Rattle.law_fate.specs.Name.Names.{AllOf, IsAmong, IsMessageName, WasMade, IsMade, ValueOk, PassedOk, PassedsOk, NoteOk, MessageOk, KnownOk, Parts}
+use Rattle.law_fate.proofs.Name.Facts.{MayBe, all_map, all_append, note_up}
+use Rattle.law_fate.proofs.Name.Care.{parts_up}
+use Rattle.law_fate.proofs.Name.Among.{get_put}
+use Rattle.law_fate.proofs.Name.Run.{Had, Told, VatStands, Stands, link_holds}
 use Rattle.def_machine.specs.Maps as maps
 use Rattle.def_machine.specs.Maps.{incoming}
-use Rattle.law_renaming.proofs.Sim.{Books, Sim, id}
-use Rattle.law_renaming.proofs.SimArrive.{sim_arrive, sim_notice}
-use Rattle.law_renaming.proofs.SimEval.{sim_taking, sim_opening}
-use Rattle.law_reference.proofs.Bounds.{stays_all}
+use Rattle.law_machine.proofs.Renamed.Sim.{Books, Sim, id}
+use Rattle.law_machine.proofs.Renamed.SimArrive.{sim_arrive, sim_notice}
+use Rattle.law_machine.proofs.Renamed.SimEval.{sim_taking, sim_opening}
+use Rattle.law_reference.proofs.Reference.Bounds.{stays_all}
 use Rattle.law_frame.proofs.Frame.Entries.{heads}
 use Rattle.law_frame.proofs.Stopping.Drawn.{Marked, is_drawn, marked, sure, made_sure, state_sure, AllSure, Marking, marked_renames, sure_renames, left_kept}
 use Rattle.law_frame.proofs.Stopping.Shown.{IsShownBy, IsLineShownBy, said_note, lines_shown, lost_shown, events_shown, shown_later}

@@ -3,14 +3,14 @@ use Rattle.std.specs.Prelude.{◌≡◌, ℕ, zero, suc, true, false, List, [], 
 use Rattle.def_machine.specs.Values.{Name, Root, Local, word_of}
 use Rattle.def_machine.specs.State.{Note, Deliver, Open, Ask, SettledTo, Elsewhere, Shorten, GiftEntry, Vat}
 use Rattle.def_machine.specs.Arrive.{Incoming, Old, New}
-use Rattle.law_name.specs.Names.{names_in}
+use Rattle.law_fate.specs.Name.Names.{names_in}
 use Rattle.def_machine.specs.Maps as maps
 use Rattle.def_machine.specs.Maps.{incoming}
-use Rattle.law_renaming.specs.Renaming.{Wire, Mine, Yours, MyAnswer, YourAnswer, Carried}
-use Rattle.law_renaming.specs.Stands.{Table, Found, Is, found}
+use Rattle.law_machine.specs.Renamed.Renaming.{Wire, Mine, Yours, MyAnswer, YourAnswer, Carried}
+use Rattle.law_machine.specs.Renamed.Stands.{Table, Found, Is, found}
 use Rattle.def_run.specs.World.{Script, Entry, Turn, Carry, CutLink, NoticeLink, Link, World, Run, Goes, Stopped, link_at, known_after, read_passed, read_all, read_note, names_of, begins, open_from, step}
-use Rattle.law_reference.specs.Logs.{questions, exports, operation}
-use Rattle.law_reference.specs.Exports.{exported_at}
+use Rattle.law_reference.specs.Reference.Logs.{questions, exports, operation}
+use Rattle.law_reference.specs.Reference.Exports.{exported_at}
 use Rattle.law_frame.specs.Frame.Tables.{known_number, tables_of, opened_tables}
 use Rattle.law_frame.specs.Frame.Hearing.{note_heard, opened_hearing}
 

@@ -3,17 +3,17 @@ use Rattle.std.specs.Prelude.{◌≡◌, ℕ, zero, ◌+◌, List, [], ◌∷◌
 use Rattle.def_machine.specs.Values.{Name, Local, numbering, word_of}
 use Rattle.def_machine.specs.State.{Note, Vat, Gives}
 use Rattle.def_machine.specs.Arrive.{Incoming, arrive}
-use Rattle.law_name.specs.Names.{names_in}
-use Rattle.law_name.specs.Runs.{KnowsOnce}
+use Rattle.law_fate.specs.Name.Names.{names_in}
+use Rattle.law_fate.specs.Name.Runs.{KnowsOnce}
 use Rattle.def_machine.specs.Maps as maps
-use Rattle.law_renaming.specs.Renaming.{Wire}
-use Rattle.law_renaming.specs.Stands.{Table, Is, found, StandsFor}
+use Rattle.law_machine.specs.Renamed.Renaming.{Wire}
+use Rattle.law_machine.specs.Renamed.Stands.{Table, Is, found, StandsFor}
 use Rattle.def_run.specs.Draws.{draw_word}
 use Rattle.def_run.specs.World.{Script, Entry, Carry, World, Goes, begins, open_from, steps_from, step, readied}
-use Rattle.law_reference.specs.Logs.{operation}
-use Rattle.law_reference.specs.Cuts.{NoticesFollowCuts}
-use Rattle.law_reference.specs.Exports.{exported_at}
-use Rattle.law_reference.specs.NameTableRuns.{NotesBringNew}
+use Rattle.law_reference.specs.Reference.Logs.{operation}
+use Rattle.law_reference.specs.Reference.Cuts.{NoticesFollowCuts}
+use Rattle.law_reference.specs.Reference.Exports.{exported_at}
+use Rattle.law_reference.specs.Reference.NameTableRuns.{NotesBringNew}
 use Rattle.law_frame.specs.Frame.Tables.{tables_of}
 use Rattle.law_frame.specs.Frame.Hearing.{Heard, note_heard}
 use Rattle.law_frame.specs.Frame.Alike.{numbered_gift}

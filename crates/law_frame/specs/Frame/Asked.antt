@@ -2,7 +2,7 @@
 use Rattle.std.specs.Prelude.{◌≡◌, ℕ, true, List, [], ◌∷◌, ◌++◌}
 use Rattle.def_machine.specs.Values.{Value, Null, Flag, Number, Letter, Text, Prim, Broken, Items, Ref, Name, Gift, answer_of}
 use Rattle.def_machine.specs.State.{Passed, Passeds, Plain, AGift, Many, NoMore, More, Note, Deliver, Open, Ask, SettledTo, Elsewhere, Shorten}
-use Rattle.law_name.specs.Names.{IsAmong}
+use Rattle.law_fate.specs.Name.Names.{IsAmong}
 
 -- It asks vat w for that name: as the answer of a message there that asks for one, or as a gift.
 abbrev pub AsksOf : ℕ → Note Name → Name → Type 0

@@ -2,12 +2,12 @@
 use Rattle.std.specs.Prelude.{◌≡◌, ℕ, zero, suc, ◌+◌, List, [], ◌∷◌, ◌++◌, Option, Some, None, slice_get, length}
 use Rattle.def_machine.specs.Values.{Name, Local}
 use Rattle.def_machine.specs.State.{Vat, Gives, Throws, Ejects, Stops}
-use Rattle.law_name.specs.Runs.{KnowsOnce}
-use Rattle.law_renaming.specs.Stands.{StandsFor}
+use Rattle.law_fate.specs.Name.Runs.{KnowsOnce}
+use Rattle.law_machine.specs.Renamed.Stands.{StandsFor}
 use Rattle.def_run.specs.World.{Script, Program, Entry, World, Run, Goes, Stopped, begins, open_vat, open_from, step, steps_from, readied}
-use Rattle.law_fate.specs.WholeFateRuns.{KnowsVats}
-use Rattle.law_reference.specs.Cuts.{NoticesFollowCuts}
-use Rattle.law_reference.specs.Tables.{table_of}
+use Rattle.law_fate.specs.Fates.WholeFateRuns.{KnowsVats}
+use Rattle.law_reference.specs.Reference.Cuts.{NoticesFollowCuts}
+use Rattle.law_reference.specs.Reference.Tables.{table_of}
 use Rattle.law_frame.specs.Frame.Steps.{OwnStep, entry_by_numbers, opening_by_numbers}
 use Rattle.law_frame.specs.Frame.States.{in_numbers}
 

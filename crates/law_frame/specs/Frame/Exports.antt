@@ -2,13 +2,13 @@
 use Rattle.std.specs.Prelude.{◌≡◌, ℕ, zero, ◌+◌, List, ◌∷◌, ◌++◌, Some, length}
 use Rattle.def_machine.specs.Values.{Name, Answer, Msg, Local}
 use Rattle.def_machine.specs.State.{Note, Vat}
-use Rattle.law_name.specs.Names.{IsAmong}
-use Rattle.law_name.specs.Runs.{KnowsOnce}
-use Rattle.law_renaming.specs.Stands.{StandsFor}
+use Rattle.law_fate.specs.Name.Names.{IsAmong}
+use Rattle.law_fate.specs.Name.Runs.{KnowsOnce}
+use Rattle.law_machine.specs.Renamed.Stands.{StandsFor}
 use Rattle.def_run.specs.World.{Script, Program, Entry, Turn, Carry, CutLink, NoticeLink, Link, World, Goes, link_at, begins, open_vat, open_from, step, steps_from}
-use Rattle.law_reference.specs.Logs.{questions}
-use Rattle.law_reference.specs.Exports.{exported_at}
-use Rattle.law_reference.specs.Tables.{table_of}
+use Rattle.law_reference.specs.Reference.Logs.{questions}
+use Rattle.law_reference.specs.Reference.Exports.{exported_at}
+use Rattle.law_reference.specs.Reference.Tables.{table_of}
 use Rattle.law_frame.specs.Frame.Asked.{told_in}
 use Rattle.law_frame.specs.Frame.AlikeArrivals.{table_across}
 

@@ -3,9 +3,9 @@ use Rattle.std.specs.Prelude.{ℕ}
 use Rattle.def_machine.specs.Values.{Name, Gift}
 use Rattle.def_machine.specs.State.{Note, Deliver, Open, Ask, SettledTo, Elsewhere, Shorten, Vat}
 use Rattle.def_run.specs.World.{World, link_at}
-use Rattle.law_reference.specs.Logs.{questions_in, questions}
-use Rattle.law_name.specs.Names.{IsAmong, names_in}
-use Rattle.law_reference.specs.Standing.{IsEntered}
+use Rattle.law_reference.specs.Reference.Logs.{questions_in, questions}
+use Rattle.law_fate.specs.Name.Names.{IsAmong, names_in}
+use Rattle.law_reference.specs.Reference.Standing.{IsEntered}
 use Rattle.law_frame.specs.Frame.Asked.{told_in}
 use Rattle.law_frame.specs.Frame.Tables.{arrived}
 

@@ -2,11 +2,11 @@
 use Rattle.std.specs.Prelude.{◌≡◌, ℕ, zero, List, ◌⊎◌, Some, slice_get}
 use Rattle.def_machine.specs.Values.{Name, host_of}
 use Rattle.def_machine.specs.State.{Vat}
-use Rattle.law_name.specs.Names.{AllOf, IsAmong}
-use Rattle.law_name.specs.Runs.{KnowsOnce}
+use Rattle.law_fate.specs.Name.Names.{AllOf, IsAmong}
+use Rattle.law_fate.specs.Name.Runs.{KnowsOnce}
 use Rattle.def_run.specs.World.{Script, Entry, World, Goes, begins, open_from, steps_from}
-use Rattle.law_reference.specs.Logs.{questions, exports}
-use Rattle.law_reference.specs.Cuts.{NoticesFollowCuts}
+use Rattle.law_reference.specs.Reference.Logs.{questions, exports}
+use Rattle.law_reference.specs.Reference.Cuts.{NoticesFollowCuts}
 use Rattle.law_frame.specs.Frame.Asked.{told_in}
 use Rattle.law_frame.specs.Frame.Known.{OnUncutLink}
 

@@ -7,7 +7,7 @@ use Rattle.def_op.specs.Frames.{Described, Members, Outcome, Operation}
 use Rattle.def_machine.specs.Values.{Value, Null, Flag, Number, Letter, Text, Prim as Primitive, Broken, Ref, Local, Prom, Far, key}
 use Rattle.def_machine.specs.State.{Passed, Passeds, Plain, AGift, Many, NoMore, More, Note, Deliver, Open, Ask, SettledTo, Elsewhere, Shorten, GiftEntry}
 use Rattle.def_machine.specs.Arrive.{Incoming, Old, New, gift_at}
-use Rattle.law_renaming.specs.Renaming.{Wire, Mine, MyAnswer, Carried}
+use Rattle.law_machine.specs.Renamed.Renaming.{Wire, Mine, MyAnswer, Carried}
 use Rattle.law_frame.specs.Frame.Tables.{Tables}
 
 -- Something read; what the peer has exported by then, and how many names are known by then.

@@ -2,10 +2,10 @@
 use Rattle.std.specs.Prelude.{◌≡◌, ℕ, zero, List, ◌∷◌, Some, slice_get}
 use Rattle.def_machine.specs.Values.{Words, Name}
 use Rattle.def_machine.specs.State.{Passed, Passeds, Note, Delivery, Deliver, Open, Ask, SettledTo, Shorten, Vat}
-use Rattle.law_name.specs.Runs.{KnowsOnce}
+use Rattle.law_fate.specs.Name.Runs.{KnowsOnce}
 use Rattle.def_run.specs.World.{Script, Entry, World, Goes, begins, open_from, steps_from}
-use Rattle.law_reference.specs.Cuts.{NoticesFollowCuts}
-use Rattle.law_reference.specs.NameTableRuns.{BringsNew, NotesBringNew}
+use Rattle.law_reference.specs.Reference.Cuts.{NoticesFollowCuts}
+use Rattle.law_reference.specs.Reference.NameTableRuns.{BringsNew, NotesBringNew}
 use Rattle.law_frame.specs.Frame.Known.{OnUncutLink}
 use Rattle.law_frame.specs.Frame.Alike.{by_numbers, by_names}
 use Rattle.law_frame.specs.Frame.Gifts.{AskedGiftStands, GiftsWereAskedFor}

@@ -2,11 +2,11 @@
 use Rattle.std.specs.Prelude.{◌≡◌, ℕ, zero, false, List, ◌++◌, Some, slice_get}
 use Rattle.def_machine.specs.Values.{Name, host_of}
 use Rattle.def_machine.specs.State.{Vat}
-use Rattle.law_name.specs.Names.{AllOf, IsAmong, IsKnownIn, Once, names_in}
-use Rattle.law_name.specs.Runs.{KnowsOnce, InRuns, InEachVat}
+use Rattle.law_fate.specs.Name.Names.{AllOf, IsAmong, IsKnownIn, Once, names_in}
+use Rattle.law_fate.specs.Name.Runs.{KnowsOnce, InRuns, InEachVat}
 use Rattle.def_run.specs.Draws.{draw_word}
 use Rattle.def_run.specs.World.{Script, Program, Entry, Link, World, Goes, link_at, begins, open_from, steps_from}
-use Rattle.law_reference.specs.Logs.{questions_in, exports_after, questions, exports}
+use Rattle.law_reference.specs.Reference.Logs.{questions_in, exports_after, questions, exports}
 use Rattle.law_frame.specs.Frame.Asked.{HoldsNoList}
 use Rattle.law_frame.specs.Frame.Tables.{arrived}
 

@@ -2,7 +2,7 @@
 use Rattle.std.specs.Prelude.{◌≡◌, ℕ, true, List, [], ◌∷◌, Some}
 use Rattle.def_machine.specs.Values.{Name, host_of, answer_of}
 use Rattle.def_machine.specs.State.{Message, Note, Deliver, Open, Ask, SettledTo, Elsewhere, Shorten, Happened, Sends, Reacts}
-use Rattle.law_name.specs.Names.{IsAmong, IsMessageName}
+use Rattle.law_fate.specs.Name.Names.{IsAmong, IsMessageName}
 
 -- A message is named as one and is among the messages that the vat has had. Its answer, if it has one, is the answer of that message at its own host, and is known.
 abbrev pub MessageFits : List Name → List Name → Message Name → Type 0

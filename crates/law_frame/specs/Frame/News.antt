@@ -2,9 +2,9 @@
 use Rattle.std.specs.Prelude.{◌≡◌, ℕ, zero, List, ◌∷◌, Some, slice_get}
 use Rattle.def_machine.specs.Values.{Name}
 use Rattle.def_machine.specs.State.{Note, Elsewhere, Vat}
-use Rattle.law_name.specs.Runs.{KnowsOnce}
+use Rattle.law_fate.specs.Name.Runs.{KnowsOnce}
 use Rattle.def_run.specs.World.{Script, Entry, World, Goes, begins, open_from, steps_from}
-use Rattle.law_reference.specs.Cuts.{NoticesFollowCuts}
+use Rattle.law_reference.specs.Reference.Cuts.{NoticesFollowCuts}
 use Rattle.law_frame.specs.Frame.Known.{OnUncutLink}
 use Rattle.law_frame.specs.Frame.Alike.{by_numbers, by_names}
 

@@ -3,14 +3,14 @@ use Rattle.std.specs.Prelude.{◌≡◌, ℕ, zero, ◌+◌, List, ◌∷◌, So
 use Rattle.def_machine.specs.Values.{Name, Local, numbering}
 use Rattle.def_machine.specs.State.{Note, Vat, Gives}
 use Rattle.def_machine.specs.Arrive.{Incoming, arrive}
-use Rattle.law_name.specs.Names.{names_in}
-use Rattle.law_name.specs.Runs.{KnowsOnce}
+use Rattle.law_fate.specs.Name.Names.{names_in}
+use Rattle.law_fate.specs.Name.Runs.{KnowsOnce}
 use Rattle.def_machine.specs.Maps as maps
-use Rattle.law_renaming.specs.Renaming.{Wire}
-use Rattle.law_renaming.specs.Stands.{Is, found, StandsFor}
+use Rattle.law_machine.specs.Renamed.Renaming.{Wire}
+use Rattle.law_machine.specs.Renamed.Stands.{Is, found, StandsFor}
 use Rattle.def_run.specs.Draws.{draw_word}
 use Rattle.def_run.specs.World.{Script, Entry, Carry, World, Goes, begins, open_from, steps_from, step, readied}
-use Rattle.law_reference.specs.Cuts.{NoticesFollowCuts}
+use Rattle.law_reference.specs.Reference.Cuts.{NoticesFollowCuts}
 use Rattle.law_frame.specs.Frame.Tables.{import_numbers}
 use Rattle.law_frame.specs.Frame.Hearing.{Heard}
 use Rattle.law_frame.specs.Frame.Known.{OnUncutLink}

@@ -2,10 +2,10 @@
 use Rattle.std.specs.Prelude.{◌≡◌, ℕ, zero, List, ◌∷◌, ◌++◌, Some}
 use Rattle.def_machine.specs.Values.{Name}
 use Rattle.def_machine.specs.State.{Note, Ask}
-use Rattle.law_name.specs.Names.{IsAmong}
-use Rattle.law_name.specs.Runs.{KnowsOnce}
+use Rattle.law_fate.specs.Name.Names.{IsAmong}
+use Rattle.law_fate.specs.Name.Runs.{KnowsOnce}
 use Rattle.def_run.specs.World.{Script, Entry, Link, World, Goes, link_at, begins, open_from, steps_from}
-use Rattle.law_reference.specs.NameTableRuns.{NotesBringNew}
+use Rattle.law_reference.specs.Reference.NameTableRuns.{NotesBringNew}
 use Rattle.law_frame.specs.Frame.Asked.{told_in}
 
 -- In every world of a run whose notes bring what is new: no note that was ever put on a link names a gift for which a later note of that link asks.

@@ -5,7 +5,7 @@ use Rattle.def_machine.specs.State.{Note, Deliver, Open, Ask, SettledTo, Elsewhe
 use Rattle.def_run.specs.Connections.{Connection, Sight, frame_now, put_on}
 use Rattle.def_run.specs.Wire.{sight, is_object}
 use Rattle.def_machine.specs.Maps as maps
-use Rattle.law_renaming.specs.Stands.{Table, Is, found, IsTable}
+use Rattle.law_machine.specs.Renamed.Stands.{Table, Is, found, IsTable}
 use Rattle.law_frame.specs.Frame.Together.{TablesMay, NoteMay, changed_tables}
 
 -- a message is no reference

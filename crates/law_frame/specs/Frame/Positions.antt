@@ -3,13 +3,13 @@ use Rattle.std.specs.Prelude.{◌≡◌, ℕ, zero, List, ◌∷◌, Some, slice
 use Rattle.def_machine.specs.Values.{Name, Local}
 use Rattle.def_machine.specs.State.{Note, Vat}
 use Rattle.def_machine.specs.Arrive.{Incoming}
-use Rattle.law_name.specs.Names.{names_in}
-use Rattle.law_name.specs.Runs.{KnowsOnce}
-use Rattle.law_renaming.specs.Renaming.{Wire}
+use Rattle.law_fate.specs.Name.Names.{names_in}
+use Rattle.law_fate.specs.Name.Runs.{KnowsOnce}
+use Rattle.law_machine.specs.Renamed.Renaming.{Wire}
 use Rattle.def_run.specs.World.{Script, Entry, World, Goes, link_at, begins, open_from, steps_from}
-use Rattle.law_reference.specs.Logs.{roots_of, with_note, exports_after, questions}
-use Rattle.law_reference.specs.Cuts.{NoticesFollowCuts}
-use Rattle.law_reference.specs.NameTableRuns.{BringsNew, NotesBringNew}
+use Rattle.law_reference.specs.Reference.Logs.{roots_of, with_note, exports_after, questions}
+use Rattle.law_reference.specs.Reference.Cuts.{NoticesFollowCuts}
+use Rattle.law_reference.specs.Reference.NameTableRuns.{BringsNew, NotesBringNew}
 use Rattle.law_frame.specs.Frame.Tables.{import_numbers, arrived}
 use Rattle.law_frame.specs.Frame.Hearing.{Heard}
 use Rattle.law_frame.specs.Frame.Alike.{names_heard}

@@ -2,16 +2,16 @@
 use Rattle.std.specs.Prelude.{◌≡◌, ℕ, zero, ◌+◌, true, false, List, [], ◌∷◌, ◌++◌, Some, slice_get, length, ◌==◌}
 use Rattle.def_machine.specs.Values.{Name, Root, Object, Promise, Answer, Gift, Sent, Local, Obj, Prom, Far, Mess}
 use Rattle.def_machine.specs.State.{Vat}
-use Rattle.law_name.specs.Names.{names_in}
-use Rattle.law_name.specs.Runs.{KnowsOnce}
+use Rattle.law_fate.specs.Name.Names.{names_in}
+use Rattle.law_fate.specs.Name.Runs.{KnowsOnce}
 use Rattle.def_machine.specs.Maps as maps
-use Rattle.law_renaming.specs.Stands.{StandsFor}
+use Rattle.law_machine.specs.Renamed.Stands.{StandsFor}
 use Rattle.def_run.specs.World.{Script, Program, Entry, World, Goes, begins, open_vat, open_from, step, steps_from, readied}
-use Rattle.law_reference.specs.Logs.{rank, exports}
-use Rattle.law_reference.specs.Tables.{table_of}
-use Rattle.law_fate.specs.Steps.{InRunsOf}
-use Rattle.law_fate.specs.WholeFateRuns.{KnowsVats}
-use Rattle.law_reference.specs.Cuts.{NoticesFollowCuts}
+use Rattle.law_reference.specs.Reference.Logs.{rank, exports}
+use Rattle.law_reference.specs.Reference.Tables.{table_of}
+use Rattle.law_fate.specs.Fates.Steps.{InRunsOf}
+use Rattle.law_fate.specs.Fates.WholeFateRuns.{KnowsVats}
+use Rattle.law_reference.specs.Reference.Cuts.{NoticesFollowCuts}
 use Rattle.law_frame.specs.Frame.Steps.{EndsFor, entry_by_numbers, opening_by_numbers}
 
 -- The number of a name at vat v, whose state is s: an object of its own has its number, one of another vat its position among that vat's exports, a message its place among those that v has had, and any other name its place among those that v knows.

@@ -5,13 +5,13 @@ use Rattle.def_machine.specs.State.{Fixed, Binding, Message, Note, Vat, Astray, 
 use Rattle.def_machine.specs.Arrive.{Incoming, arrive, notice}
 use Rattle.def_machine.specs.Scopes.{any_guard}
 use Rattle.def_machine.specs.Eval.{opening, taking}
-use Rattle.law_name.specs.Runs.{KnowsOnce}
-use Rattle.law_renaming.specs.Renaming.{Wire}
-use Rattle.law_renaming.specs.Stands.{StandsFor}
+use Rattle.law_fate.specs.Name.Runs.{KnowsOnce}
+use Rattle.law_machine.specs.Renamed.Renaming.{Wire}
+use Rattle.law_machine.specs.Renamed.Stands.{StandsFor}
 use Rattle.def_run.specs.Draws.{draw_word}
 use Rattle.def_run.specs.World.{Script, Program, Entry, Turn, Carry, CutLink, NoticeLink, Link, World, Goes, link_at, begins, name_at, tree_at, open_vat, open_from, step, steps_from, readied}
-use Rattle.law_reference.specs.Cuts.{NoticesFollowCuts}
-use Rattle.law_reference.specs.Tables.{table_of}
+use Rattle.law_reference.specs.Reference.Cuts.{NoticesFollowCuts}
+use Rattle.law_reference.specs.Reference.Tables.{table_of}
 use Rattle.law_frame.specs.Frame.Hearing.{Heard}
 use Rattle.law_frame.specs.Frame.AlikeArrivals.{frame_heard, table_across}
 

@@ -3,9 +3,9 @@ use Rattle.std.specs.Prelude.{ℕ, zero, suc, ◌-◌, List, [], ◌∷◌, Opti
 use Rattle.def_machine.specs.Values.{Name, Root, Object, Promise, Answer, Gift, Sent, Local, Obj, Prom, Far}
 use Rattle.def_machine.specs.State.{Note, Vat}
 use Rattle.def_machine.specs.Native.{part_of}
-use Rattle.law_name.specs.Names.{names_in}
+use Rattle.law_fate.specs.Name.Names.{names_in}
 use Rattle.def_run.specs.World.{Link, World, link_at}
-use Rattle.law_reference.specs.Logs.{rank, log_of, roots_of, questions_in, exports_after, questions, exports}
+use Rattle.law_reference.specs.Reference.Logs.{rank, log_of, roots_of, questions_in, exports_after, questions, exports}
 
 pub record Tables : Type 0 where
   -- by position: what the peer exported to this vat, as far as it has arrived, and what this vat exported to the peer

@@ -4,12 +4,12 @@ use Rattle.def_op.specs.Frames.{Operation}
 use Rattle.def_machine.specs.Values.{Value, Null, Flag, Number, Letter, Text, Prim, Broken, Items, Ref, Name, Local}
 use Rattle.def_machine.specs.State.{Passed, Passeds, Plain, AGift, Many, NoMore, More, Note, Deliver, Open, Ask, SettledTo, Elsewhere, Shorten}
 use Rattle.def_machine.specs.Arrive.{Incoming}
-use Rattle.law_name.specs.Names.{AllOf}
+use Rattle.law_fate.specs.Name.Names.{AllOf}
 use Rattle.def_run.specs.Connections.{Connection, Sight, Learnt, Stage, Newcomers, Heard, note_heard, frame_now, put_on}
 use Rattle.def_machine.specs.Maps as maps
 use Rattle.def_machine.specs.Maps.{incoming}
-use Rattle.law_renaming.specs.Renaming.{Wire}
-use Rattle.law_renaming.specs.Stands.{Found}
+use Rattle.law_machine.specs.Renamed.Renaming.{Wire}
+use Rattle.law_machine.specs.Renamed.Stands.{Found}
 
 module _ {N M : Type 0} (f : N → M) where
   abbrev pub changed_tables : Connection N → Connection M

@@ -6,7 +6,7 @@ use Rattle.def_machine.specs.State.{Note, Vat, is_in}
 use Rattle.def_run.specs.Connections.{Connection, asked_in, exported_note, frame_now}
 use Rattle.def_run.specs.Wire.{Connected, connected_at, sight}
 use Rattle.def_run.specs.World.{Script, Program, Entry, Link, World, Goes, link_at, next_frame, begins, open_from, steps_from}
-use Rattle.law_run.specs.Moves.{Reached, AnyNotice}
+use Rattle.law_machine.specs.Run.Moves.{Reached, AnyNotice}
 use Rattle.law_frame.specs.Frame.Growing.{TablesGrow}
 
 module _ (v u : ℕ) (c : Connected) where

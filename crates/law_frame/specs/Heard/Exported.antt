@@ -4,8 +4,8 @@ use Rattle.def_machine.specs.Values.{Name}
 use Rattle.def_machine.specs.State.{Vat}
 use Rattle.def_run.specs.Wire.{connected_at}
 use Rattle.def_run.specs.World.{World}
-use Rattle.law_reference.specs.ApartAsking.{InRunsBehindCuts}
-use Rattle.law_reference.specs.Logs as logs
+use Rattle.law_reference.specs.Reference.ApartAsking.{InRunsBehindCuts}
+use Rattle.law_reference.specs.Reference.Logs as logs
 
 -- of any two vats, be the link between them cut or not: a note that is put on a cut link exports, as it would have if it were to arrive
 abbrev pub ExportsLogged : World → Type 0

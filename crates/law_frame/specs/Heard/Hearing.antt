@@ -6,11 +6,11 @@ use Rattle.def_machine.specs.Arrive.{Incoming, Old, New}
 use Rattle.def_run.specs.Connections.{Learnt, Stage, Heard, learnt_at}
 use Rattle.def_run.specs.Wire.{connected_at, frame_due, read_frame}
 use Rattle.def_run.specs.World.{Script, Entry, Link, World, Goes, link_at, begins, open_from, steps_from, names_of, read_note}
-use Rattle.law_name.specs.Names.{AllOf, IsAmong, names_in}
-use Rattle.law_name.specs.Runs.{KnowsOnce}
-use Rattle.law_reference.specs.Logs as logs
-use Rattle.law_reference.specs.Cuts.{NoticesFollowCuts}
-use Rattle.law_reference.specs.News.{Passes}
+use Rattle.law_fate.specs.Name.Names.{AllOf, IsAmong, names_in}
+use Rattle.law_fate.specs.Name.Runs.{KnowsOnce}
+use Rattle.law_reference.specs.Reference.Logs as logs
+use Rattle.law_reference.specs.Reference.Cuts.{NoticesFollowCuts}
+use Rattle.law_reference.specs.Reference.News.{Passes}
 use Rattle.law_frame.specs.Frame.Asked.{told_in}
 use Rattle.law_frame.specs.Frame.Tables.{arrived}
 use Rattle.law_frame.specs.Frame.Alike.{as_told, message_of, names_heard}

@@ -3,8 +3,8 @@ use Rattle.std.specs.Prelude.{◌≡◌, ℕ, true, List, Some}
 use Rattle.def_machine.specs.State.{is_in}
 use Rattle.def_run.specs.Wire.{connected_at}
 use Rattle.def_run.specs.World.{Script, Link, World, link_at}
-use Rattle.law_reference.specs.Logs as logs
-use Rattle.law_run.specs.Moves.{Reached, AnyNotice}
+use Rattle.law_reference.specs.Reference.Logs as logs
+use Rattle.law_machine.specs.Run.Moves.{Reached, AnyNotice}
 
 -- In each world that is reached, whichever vats are hostile and whatever they say, and of each link, be it cut or not.
 abbrev pub QuestionsAreAsLogged : Type 0

@@ -6,9 +6,9 @@ use Rattle.def_machine.specs.Arrive.{arrive}
 use Rattle.def_machine.specs.Receive.{Sight, tells_nothing, receive}
 use Rattle.def_run.specs.Draws.{draw_word}
 use Rattle.def_run.specs.World.{Script, Entry, World, Goes, begins, open_from, steps_from, names, names_of, read_note, readied}
-use Rattle.law_name.specs.Names.{IsAmong}
-use Rattle.law_name.specs.Runs.{KnowsOnce}
-use Rattle.law_reference.specs.Cuts.{NoticesFollowCuts}
+use Rattle.law_fate.specs.Name.Names.{IsAmong}
+use Rattle.law_fate.specs.Name.Runs.{KnowsOnce}
+use Rattle.law_reference.specs.Reference.Cuts.{NoticesFollowCuts}
 use Rattle.law_frame.specs.Frame.Known.{OnUncutLink}
 
 -- The vat knows no gift under the word that is drawn next, and the sender has no number yet for a gift of the vat for which the note asks.

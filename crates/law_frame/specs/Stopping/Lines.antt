@@ -4,7 +4,7 @@ use Rattle.def_event.specs.declared.event.Event.{Event as ShownEvent}
 use Rattle.def_event.specs.Lines.{render, render_run}
 use Rattle.def_run.specs.Text.{vat_names, shown_events, draws_of, history_of, text, wire_text}
 use Rattle.def_run.specs.World.{Script, Program, Entry, World, Run, Goes, begins, open_from, steps_from, run}
-use Rattle.law_name.specs.Runs.{KnowsOnce}
+use Rattle.law_fate.specs.Name.Runs.{KnowsOnce}
 
 abbrev pub IsFrontOf : List ShownEvent → List ShownEvent → Type 0
 IsFrontOf xs ys = (zs : List ShownEvent) × (ys ≡ xs ++ zs)

@@ -5,8 +5,8 @@ use Rattle.def_event.specs.Lines.{render}
 use Rattle.def_machine.specs.State.{Fuel}
 use Rattle.def_run.specs.World.{run}
 use Rattle.def_run.specs.Text.{stop_line, vat_names}
-use Rattle.def_trace.specs.Order.{IsOrdered, JudgesOrder}
-use Rattle.def_trace.specs.declared.trace.Trace.{Trace}
+use Rattle.def_event.specs.Order.{IsOrdered, JudgesOrder}
+use Rattle.def_event.specs.declared.trace.Trace.{Trace}
 use Rattle.ev_script.proofs.Admitted.{read_admitted}
 use Rattle.ev_trace_words.specs.Laws.{AreNames}
 use Rattle.ev_trace.specs.Reading.{read_text}
@@ -25,10 +25,10 @@ use Rattle.law_trace.specs.Trace.Readable.{Below, IsRead}
 use Rattle.law_trace.specs.Trace.Seen.{seen}
 use Rattle.law_trace.specs.Trace.Texts.{found}
 use Rattle.law_trace.proofs.UsesSeen.ReadAgain.{read_as, stopped_text}
-use Rattle.law_order_text.proofs.Seen.ReadAgain.{order_unframed, order_as_read}
+use Rattle.law_trace.proofs.Seen.ReadAgain.{order_unframed, order_as_read}
 use Rattle.law_read.proofs.ReadUses.Judged.{same_trace, text_read}
 use Rattle.law_read.proofs.ReadScripts.Meets.{accepted}
-use Rattle.law_order_text.proofs.Told.Whole.{shown_runs}
+use Rattle.law_trace.proofs.Told.Whole.{shown_runs}
 use Rattle.law_read.specs.ReadOrder.Order.{OrderIsKeptAsRead, TextsKeepOrder}
 
 -- It is said of events that end with any line: so they may be taken as those of a run that stopped, which asks nothing of the last event.

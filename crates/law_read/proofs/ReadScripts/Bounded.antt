@@ -4,8 +4,8 @@ use Rattle.std.specs.List.{AllByRecursion}
 use Rattle.def_kernel.specs.declared.node.Node.{Node}
 use Rattle.def_run.specs.World.{Program}
 use Rattle.law_kernel_form.specs.Trees.{IsTree}
-use Rattle.law_costs.specs.Costs.Laws.{IsModest}
-use Rattle.law_costs.proofs.Costs.Whole.{low}
+use Rattle.law_machine.specs.Costs.Laws.{IsModest}
+use Rattle.law_machine.proofs.Costs.Whole.{low}
 use Rattle.law_schedule.specs.Scripts.{machine_vats, machine_script}
 use Rattle.ev_script.specs.Rules.{IsAdmitted}
 use Rattle.ev_script.specs.declared.script.Script.{Script}

@@ -10,14 +10,14 @@ use Rattle.def_machine.specs.Free.{same_words}
 use Rattle.def_machine.specs.Scopes.{bound_in, any_guard}
 use Rattle.def_run.specs.World.{Program, given, name_at}
 use Rattle.law_kernel_form.specs.Trees.{IsTree}
-use Rattle.ev_scope.specs.Scopes.{first_fault}
+use Rattle.ev_reader.specs.Scopes.{first_fault}
 use Rattle.ev_script.specs.Rules.{IsEntryOf, IsAdmitted}
 use Rattle.ev_script.specs.declared.script.Entry.{Entry}
 use Rattle.ev_script.specs.declared.script.Entry.TheVariants.{Turn, Carry, Cut, Notice}
 use Rattle.ev_script.specs.declared.script.Script.{Script}
 use Rattle.ev_script.specs.declared.script.VatScript.{VatScript}
 use Rattle.ev_script.proofs.Admitted.{read_admitted}
-use Rattle.law_name.specs.Names.{IsAmong}
+use Rattle.law_fate.specs.Name.Names.{IsAmong}
 use Rattle.law_schedule.specs.Scripts.{machine_entry, machine_vats, machine_script}
 use Rattle.law_read.proofs.ReadScripts.Meets.{accepted}
 use Rattle.law_never_astray.specs.Formed.{AllOf}

@@ -2,8 +2,8 @@
 use Rattle.std.proofs.Common.{[], subst}
 use Rattle.def_run.specs.World as world
 use Rattle.ev_script.specs.declared.script.Script.{Script}
-use Rattle.law_reference.specs.Cuts.{NoticesFollowCuts}
-use Rattle.law_reference.proofs.AskHolds.{notices_front}
+use Rattle.law_reference.specs.Reference.Cuts.{NoticesFollowCuts}
+use Rattle.law_reference.proofs.Reference.AskHolds.{notices_front}
 use Rattle.law_frame.proofs.Frame.Written.{next_written}
 use Rattle.law_frame.proofs.Heard.Laws.{heard_by_gifts}
 use Rattle.law_read.specs.ReadScripts.Accepted.{MeetsTheLaws}

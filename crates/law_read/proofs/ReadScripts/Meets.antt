@@ -15,8 +15,8 @@ use Rattle.ev_script.specs.declared.script.Entry.TheVariants.{Turn, Carry, Cut, 
 use Rattle.ev_script.specs.declared.script.Script.{Script}
 use Rattle.ev_script.specs.declared.script.VatScript.{VatScript}
 use Rattle.ev_script.proofs.Admitted.{read_admitted}
-use Rattle.law_name.specs.Names.{AllOf, IsAmong, Once}
-use Rattle.law_reference.specs.Cuts.{IsCutAmong, NoticesFollow}
+use Rattle.law_fate.specs.Name.Names.{AllOf, IsAmong, Once}
+use Rattle.law_reference.specs.Reference.Cuts.{IsCutAmong, NoticesFollow}
 use Rattle.law_schedule.specs.Scripts.{machine_entry, machine_vats, machine_script}
 use Rattle.law_read.specs.ReadScripts.Accepted.{MeetsTheLaws}
 

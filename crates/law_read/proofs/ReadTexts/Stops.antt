@@ -9,8 +9,8 @@ use Rattle.def_machine.specs.State.{Message, Note, Stop, Fuel, Deep, Repeated, A
 use Rattle.def_run.specs.World as world
 use Rattle.def_run.specs.World.{Script, Program, Entry, Turn, Carry, CutLink, NoticeLink, Link, Event, World, Run, Goes, Stopped, run}
 use Rattle.def_run.specs.Text.{stop_line}
-use Rattle.law_costs.specs.Halting.Halted.{OpeningStops, EntryStops}
-use Rattle.law_costs.proofs.Halting.Halted.{stopped_leave}
+use Rattle.law_machine.specs.Halting.Halted.{OpeningStops, EntryStops}
+use Rattle.law_machine.proofs.Halting.Halted.{stopped_leave}
 use Rattle.law_text.specs.Text.Feeds.{IsOneLine}
 use Rattle.law_text.proofs.Text.Plain.{decimal_line, line_append, line_cons}
 use Rattle.law_text.proofs.Text.Reading.{decimal_word, ordinary_word}

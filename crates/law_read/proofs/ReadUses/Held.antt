@@ -1,7 +1,7 @@
 -- The history of a run, and what is read of its text, hold uses.
 use Rattle.std.proofs.Common.{None}
 use Rattle.def_run.specs.World.{run}
-use Rattle.def_trace.specs.Uses.{JudgesUses}
+use Rattle.def_event.specs.Uses.{JudgesUses}
 use Rattle.law_uses.proofs.KnownUses.Whole.{runs_hold_uses}
 use Rattle.law_read.proofs.ReadScripts.Meets.{accepted}
 use Rattle.law_schedule.specs.Scripts.{machine_script}

@@ -7,7 +7,7 @@ use Rattle.def_event.specs.Lines.{render}
 use Rattle.def_machine.specs.State.{Fuel}
 use Rattle.def_run.specs.World.{run}
 use Rattle.def_run.specs.Text.{stop_line, vat_names}
-use Rattle.def_trace.specs.declared.trace.Trace.{Trace}
+use Rattle.def_event.specs.declared.trace.Trace.{Trace}
 use Rattle.ev_script.specs.Script.{rule, ◌>>=◌}
 use Rattle.ev_script.proofs.Admitted.{read_admitted}
 use Rattle.ev_trace_words.specs.Laws.{AreNames}

@@ -3,10 +3,10 @@ use Rattle.std.specs.Prelude.{◌≡◌, ℕ, List, None, Ok}
 use Rattle.def_kernel.specs.declared.node.Node.{Node}
 use Rattle.def_run.specs.World.{run}
 use Rattle.def_run.specs.Text.{history_of}
-use Rattle.def_trace.specs.Order.{JudgesOrder}
+use Rattle.def_event.specs.Order.{JudgesOrder}
 use Rattle.ev_script.specs.Script as script
 use Rattle.ev_script.specs.declared.script.Script.{Script}
-use Rattle.law_order.specs.Order.{Ordered}
+use Rattle.law_order.specs.Ordering.Order.{Ordered}
 use Rattle.law_read.specs.ReadScripts.Runs.{AreReadTo}
 use Rattle.law_read.specs.ReadTexts.Runs.{trace_of}
 use Rattle.law_schedule.specs.Scripts.{machine_script}

@@ -6,9 +6,9 @@ use Rattle.def_run.specs.Text.{vat_names}
 use Rattle.law_schedule.specs.Scripts.{machine_script}
 use Rattle.ev_script.specs.Script.{read}
 use Rattle.ev_script.specs.declared.script.Script.{Script}
-use Rattle.law_name.specs.Runs.{KnowsOnce}
-use Rattle.law_reference.specs.Cuts.{NoticesFollowCuts}
-use Rattle.law_fate.specs.WholeFateRuns.{KnowsVats}
+use Rattle.law_fate.specs.Name.Runs.{KnowsOnce}
+use Rattle.law_reference.specs.Reference.Cuts.{NoticesFollowCuts}
+use Rattle.law_fate.specs.Fates.WholeFateRuns.{KnowsVats}
 use Rattle.law_text.specs.Text.Values.{AreVats}
 
 -- what they ask

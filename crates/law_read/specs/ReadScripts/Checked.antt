@@ -6,11 +6,11 @@ use Rattle.def_machine.specs.Native.{safe_value}
 use Rattle.def_machine.specs.State.{Stop, Astray}
 use Rattle.def_run.specs.World.{World, Stopped, run}
 use Rattle.law_kernel_form.specs.Trees.{IsTree}
-use Rattle.ev_scope.specs.Scopes.{first_fault}
+use Rattle.ev_reader.specs.Scopes.{first_fault}
 use Rattle.ev_script.specs.Script.{read}
 use Rattle.ev_script.specs.declared.script.Script.{Script}
 use Rattle.ev_script.specs.declared.script.VatScript.{VatScript}
-use Rattle.law_name.specs.Names.{IsAmong}
+use Rattle.law_fate.specs.Name.Names.{IsAmong}
 use Rattle.law_schedule.specs.Scripts.{machine_script}
 use Rattle.law_never_astray.specs.Formed.{AllOf}
 

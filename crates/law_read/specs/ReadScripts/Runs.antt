@@ -4,7 +4,7 @@ use Rattle.def_kernel.specs.declared.node.Node.{Node}
 use Rattle.def_machine.specs.Values.{Words}
 use Rattle.def_machine.specs.State.{Stop, Astray}
 use Rattle.def_run.specs.World.{World, Stopped, run}
-use Rattle.ev_scope.specs.declared.accepted.Scoped.{Scoped}
+use Rattle.ev_reader.specs.declared.accepted.Scoped.{Scoped}
 use Rattle.ev_reader.specs.Program.{Answers}
 use Rattle.ev_script.specs.Script.{read}
 use Rattle.ev_script.specs.declared.script.Script.{Script}

@@ -5,7 +5,7 @@ use Rattle.def_event.specs.Lines.{is_no_frame}
 use Rattle.def_machine.specs.State.{Stop, Fuel, Deep, Repeated, Astray}
 use Rattle.def_run.specs.World.{Script, World, Run, Goes, Stopped, run}
 use Rattle.def_run.specs.Text.{vat_names, stop_line, text}
-use Rattle.def_trace.specs.declared.trace.Trace.{Trace}
+use Rattle.def_event.specs.declared.trace.Trace.{Trace}
 use Rattle.law_text.specs.Text.Feeds.{AllOf}
 use Rattle.law_text.specs.Text.Runs.{events_of}
 use Rattle.law_text.specs.RunTexts.Laws.{IsOfVats, IsBounded}

@@ -2,7 +2,7 @@
 use Rattle.std.specs.Prelude.{◌≡◌, ℕ, List, None, Ok}
 use Rattle.def_kernel.specs.declared.node.Node.{Node}
 use Rattle.def_run.specs.World.{run}
-use Rattle.def_trace.specs.Uses.{JudgesUses}
+use Rattle.def_event.specs.Uses.{JudgesUses}
 use Rattle.ev_script.specs.Script as script
 use Rattle.ev_script.specs.declared.script.Script.{Script}
 use Rattle.law_read.specs.ReadScripts.Runs.{AreReadTo}

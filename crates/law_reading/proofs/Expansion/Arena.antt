@@ -5,9 +5,9 @@ use Rattle.std.proofs.lemmas.List.{map-append}
 use Rattle.std.proofs.lemmas.Option.{slice_get-map}
 use Rattle.def_syntax.specs.declared.token.Token.{Token}
 use Rattle.def_syntax.specs.declared.token.TokenKind.{TokenKind}
-use Rattle.def_grammar.specs.declared.syntax.Word.{Word}
-use Rattle.def_grammar.specs.declared.syntax.Shape.{Shape}
-use Rattle.def_grammar.specs.Grammar.{Tree, Trees, node, none, more, leaf, shape_of}
+use Rattle.def_syntax.specs.declared.syntax.Word.{Word}
+use Rattle.def_syntax.specs.declared.syntax.Shape.{Shape}
+use Rattle.def_syntax.specs.Grammar.{Tree, Trees, node, none, more, leaf, shape_of}
 use Rattle.ev_parser.specs.declared.draft.Part.{Part}
 use Rattle.ev_parser.specs.declared.draft.Part.TheVariants as piece
 use Rattle.ev_parser.specs.declared.draft.Node.{Node}
@@ -15,8 +15,8 @@ use Rattle.ev_parser.specs.Draft.{Shows, ShowsAll, StandBefore}
 use Rattle.ev_parser.specs.Sweet.{node_of}
 use Rattle.def_syntax.specs.declared.sugar.SugarNode.{SugarNode}
 use Rattle.def_kernel.specs.declared.node.Node.{Node as Kernel}
-use Rattle.def_kernel_form.specs.declared.shape.Kind.{Kind}
-use Rattle.def_kernel_form.specs.declared.shape.Kind.TheVariants.{Expression}
+use Rattle.def_kernel.specs.declared.shape.Kind.{Kind}
+use Rattle.def_kernel.specs.declared.shape.Kind.TheVariants.{Expression}
 use Rattle.law_kernel_form.specs.Trees.{IsTree}
 use Rattle.ev_piece.specs.Pieces.{Piece}
 use Rattle.ev_piece.specs.Placed.{placed}

@@ -5,15 +5,15 @@ use Rattle.std.proofs.lemmas.Str.{IsUtf8-nil}
 use Rattle.def_syntax.specs.declared.token.Token.{Token}
 use Rattle.def_syntax.specs.declared.token.TokenKind.{TokenKind}
 use Rattle.def_syntax.specs.declared.token.TokenKind.TheVariants as kinds
-use Rattle.def_grammar.specs.declared.syntax.Word.{Word}
-use Rattle.def_grammar.specs.declared.syntax.Shape.{Shape}
-use Rattle.def_grammar.specs.declared.syntax.Shape.TheVariants as shapes
-use Rattle.def_grammar.specs.Kinds.{same}
+use Rattle.def_syntax.specs.declared.syntax.Word.{Word}
+use Rattle.def_syntax.specs.declared.syntax.Shape.{Shape}
+use Rattle.def_syntax.specs.declared.syntax.Shape.TheVariants as shapes
+use Rattle.def_syntax.specs.Kinds.{same}
 use Rattle.ev_parser.specs.declared.draft.Part.{Part}
 use Rattle.ev_parser.specs.declared.draft.Part.TheVariants as piece
 use Rattle.ev_parser.specs.Surface.{tree_if, tree_at, last_tree, front, mark, before, behind, catches as all_catches, is_part, for_form, literal, rest_of, guard_of, word_text, part_text, text_at, name_if, surface}
 use Rattle.def_kernel.specs.declared.node.Literal.TheVariants as literals
-use Rattle.def_kernel_form.specs.declared.shape.Kind.TheVariants.{Expression, Pattern, Member}
+use Rattle.def_kernel.specs.declared.shape.Kind.TheVariants.{Expression, Pattern, Member}
 use Rattle.law_kernel_form.specs.Trees.{IsName}
 use Rattle.ev_desugar.specs.Words.{Words, number, text, character, verb_behind, ejector}
 use Rattle.ev_expand.specs.declared.marks.Marks.{Marks}

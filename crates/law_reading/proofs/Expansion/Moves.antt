@@ -1,27 +1,27 @@
 -- Each tree that tokens spell is fair: a walk through the places of the grammar.
 use Rattle.std.proofs.Common.{◌≡◌, ◌⊎◌, inl, inr, zero, suc, List, [], ◌∷◌, ◌++◌, refl, sym, subst, ap, ◌∙◌, append_assoc}
-use Rattle.def_kernel_form.specs.declared.shape.Kind.TheVariants.{Expression, Pattern, Member}
+use Rattle.def_kernel.specs.declared.shape.Kind.TheVariants.{Expression, Pattern, Member}
 use Rattle.def_syntax.specs.declared.token.TokenKind.{TokenKind}
 use Rattle.def_syntax.specs.declared.token.TokenKind.TheVariants as kinds
-use Rattle.def_grammar.specs.declared.syntax.Shape.TheVariants as shapes
-use Rattle.def_grammar.specs.declared.place.Place.{Place}
-use Rattle.def_grammar.specs.declared.place.Place.TheVariants as places
-use Rattle.def_grammar.specs.declared.place.Move.{Move}
-use Rattle.def_grammar.specs.declared.place.Move.TheVariants.{Takes, Reads, Wraps}
-use Rattle.def_grammar.specs.declared.place.Series.{Series}
-use Rattle.def_grammar.specs.declared.place.Series.TheVariants as series
-use Rattle.def_grammar.specs.declared.place.Head.{Head}
-use Rattle.def_grammar.specs.declared.place.Head.TheVariants as heads
-use Rattle.def_grammar.specs.declared.place.Caught.{Caught}
-use Rattle.def_grammar.specs.declared.place.Caught.TheVariants as caught
-use Rattle.def_grammar.specs.declared.place.Named.TheVariants as named
-use Rattle.def_grammar.specs.declared.place.Context.{Context}
-use Rattle.def_grammar.specs.declared.place.Context.TheVariants.{Plain, BeforeBlock}
-use Rattle.def_grammar.specs.declared.place.Definition.{Definition}
-use Rattle.def_grammar.specs.declared.place.Definition.TheVariants as definitions
-use Rattle.def_grammar.specs.declared.place.Role.{Role}
-use Rattle.def_grammar.specs.declared.place.Role.TheVariants as roles
-use Rattle.def_grammar.specs.Grammar.{moves, closing, item_line, value_line, caught_shape, definition_shape, role_shape, Has, here, there}
+use Rattle.def_syntax.specs.declared.syntax.Shape.TheVariants as shapes
+use Rattle.def_syntax.specs.declared.place.Place.{Place}
+use Rattle.def_syntax.specs.declared.place.Place.TheVariants as places
+use Rattle.def_syntax.specs.declared.place.Move.{Move}
+use Rattle.def_syntax.specs.declared.place.Move.TheVariants.{Takes, Reads, Wraps}
+use Rattle.def_syntax.specs.declared.place.Series.{Series}
+use Rattle.def_syntax.specs.declared.place.Series.TheVariants as series
+use Rattle.def_syntax.specs.declared.place.Head.{Head}
+use Rattle.def_syntax.specs.declared.place.Head.TheVariants as heads
+use Rattle.def_syntax.specs.declared.place.Caught.{Caught}
+use Rattle.def_syntax.specs.declared.place.Caught.TheVariants as caught
+use Rattle.def_syntax.specs.declared.place.Named.TheVariants as named
+use Rattle.def_syntax.specs.declared.place.Context.{Context}
+use Rattle.def_syntax.specs.declared.place.Context.TheVariants.{Plain, BeforeBlock}
+use Rattle.def_syntax.specs.declared.place.Definition.{Definition}
+use Rattle.def_syntax.specs.declared.place.Definition.TheVariants as definitions
+use Rattle.def_syntax.specs.declared.place.Role.{Role}
+use Rattle.def_syntax.specs.declared.place.Role.TheVariants as roles
+use Rattle.def_syntax.specs.Grammar.{moves, closing, item_line, value_line, caught_shape, definition_shape, role_shape, Has, here, there}
 use Rattle.law_reading.specs.Expansion.Shapes.{sort_of, Slot, part, token, Only, Before, Turned, Heads, IsObjectName, Tries, finishes, catches, with_key, without_key, two_more, Sorted}
 use Rattle.law_reading.proofs.Expansion.Sorts.{op, ot, before_more, turned_of, one_more, turned_more, heads_more, object_more, on, line_sort, series_laid, opened_head, definition_laid, caught_slots, Grows, FunctionLaid, Laid}
 

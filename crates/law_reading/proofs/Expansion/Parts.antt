@@ -2,13 +2,13 @@
 use Rattle.std.proofs.Common.{◌≡◌, ℕ, zero, suc, ◌-◌, List, [], ◌∷◌, ◌++◌, Bool, true, false, cond, map, take, drop, length, slice_get, Option, Some, None, nat_eq, refl, sym, ◌∙◌, subst, ap, arith, length-append}
 use Rattle.std.proofs.lemmas.List.{length-map}
 use Rattle.def_syntax.specs.declared.token.TokenKind.{TokenKind}
-use Rattle.def_grammar.specs.declared.syntax.Word.{Word}
-use Rattle.def_grammar.specs.Kinds.{code, same}
+use Rattle.def_syntax.specs.declared.syntax.Word.{Word}
+use Rattle.def_syntax.specs.Kinds.{code, same}
 use Rattle.ev_parser.specs.declared.draft.Part.{Part}
 use Rattle.ev_parser.specs.declared.draft.Part.TheVariants as piece
 use Rattle.ev_parser.specs.Surface.{tree_if, tree_at, last_tree, front, trees, mark, before, behind, caught_pair, caught_at}
-use Rattle.def_kernel_form.specs.declared.shape.Kind.{Kind}
-use Rattle.def_kernel_form.specs.declared.shape.Kind.TheVariants.{Expression, Pattern}
+use Rattle.def_kernel.specs.declared.shape.Kind.{Kind}
+use Rattle.def_kernel.specs.declared.shape.Kind.TheVariants.{Expression, Pattern}
 use Rattle.ev_piece.specs.Pieces.{Piece, hide}
 use Rattle.ev_expand.specs.declared.part.Part.{Part as Expansion}
 use Rattle.ev_expand.specs.Table.{part_at, piece_at, value_of, value_at, pieces_at, values_at, piece_if, value_if, pair_at, pair_if}

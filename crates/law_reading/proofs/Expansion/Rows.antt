@@ -5,8 +5,8 @@ use lib.Utf8.{encode}
 use Rattle.std.proofs.lemmas.Str.{IsUtf8-from_is_utf8}
 use Rattle.def_text.specs.Keywords.{is_identifier}
 use Rattle.def_kernel.specs.declared.node.Literal.TheVariants as literals
-use Rattle.def_kernel_form.specs.declared.shape.Kind.{Kind}
-use Rattle.def_kernel_form.specs.declared.shape.Kind.TheVariants.{Expression, Pattern, Member, Naming}
+use Rattle.def_kernel.specs.declared.shape.Kind.{Kind}
+use Rattle.def_kernel.specs.declared.shape.Kind.TheVariants.{Expression, Pattern, Member, Naming}
 use Rattle.law_kernel_form.specs.Trees.{IsName}
 use Rattle.ev_piece.specs.Pieces.{Piece, noun, call, def, seq, if_, escape, try_catch, final_pattern, variable, any, lit, method}
 use Rattle.ev_desugar.specs.Words.{Words, arithmetic, updating, comparing, ranging, prefixing, ejector}

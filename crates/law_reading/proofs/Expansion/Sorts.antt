@@ -1,31 +1,31 @@
 -- What is known of the parts of a node at each place of the grammar.
 use Rattle.std.proofs.Common.{◌≡◌, ◌⊎◌, inl, inr, List, [], ◌∷◌, ◌++◌, refl, sym, subst, ap, ◌∙◌, append_assoc}
 use Rattle.std.proofs.lemmas.List.{append-nil}
-use Rattle.def_kernel_form.specs.declared.shape.Kind.{Kind}
-use Rattle.def_kernel_form.specs.declared.shape.Kind.TheVariants.{Expression, Pattern, Member}
+use Rattle.def_kernel.specs.declared.shape.Kind.{Kind}
+use Rattle.def_kernel.specs.declared.shape.Kind.TheVariants.{Expression, Pattern, Member}
 use Rattle.def_syntax.specs.declared.token.TokenKind.{TokenKind}
 use Rattle.def_syntax.specs.declared.token.TokenKind.TheVariants as kinds
-use Rattle.def_grammar.specs.declared.syntax.Word.{Word}
-use Rattle.def_grammar.specs.declared.syntax.Shape.{Shape}
-use Rattle.def_grammar.specs.declared.syntax.Shape.TheVariants as shapes
-use Rattle.def_grammar.specs.declared.syntax.Line.{Line}
-use Rattle.def_grammar.specs.declared.syntax.Line.TheVariants as lines
-use Rattle.def_grammar.specs.declared.place.Place.{Place}
-use Rattle.def_grammar.specs.declared.place.Place.TheVariants as places
-use Rattle.def_grammar.specs.declared.place.Ending.{Ending}
-use Rattle.def_grammar.specs.declared.place.Ending.TheVariants.{Never, Ends, BeforeStop}
-use Rattle.def_grammar.specs.declared.place.Series.{Series}
-use Rattle.def_grammar.specs.declared.place.Series.TheVariants as series
-use Rattle.def_grammar.specs.declared.place.Head.{Head}
-use Rattle.def_grammar.specs.declared.place.Head.TheVariants as heads
-use Rattle.def_grammar.specs.declared.place.Caught.{Caught}
-use Rattle.def_grammar.specs.declared.place.Caught.TheVariants as caught
-use Rattle.def_grammar.specs.declared.place.Named.{Named}
-use Rattle.def_grammar.specs.declared.place.Named.TheVariants as named
-use Rattle.def_grammar.specs.declared.place.Definition.{Definition}
-use Rattle.def_grammar.specs.declared.place.Definition.TheVariants as definitions
+use Rattle.def_syntax.specs.declared.syntax.Word.{Word}
+use Rattle.def_syntax.specs.declared.syntax.Shape.{Shape}
+use Rattle.def_syntax.specs.declared.syntax.Shape.TheVariants as shapes
+use Rattle.def_syntax.specs.declared.syntax.Line.{Line}
+use Rattle.def_syntax.specs.declared.syntax.Line.TheVariants as lines
+use Rattle.def_syntax.specs.declared.place.Place.{Place}
+use Rattle.def_syntax.specs.declared.place.Place.TheVariants as places
+use Rattle.def_syntax.specs.declared.place.Ending.{Ending}
+use Rattle.def_syntax.specs.declared.place.Ending.TheVariants.{Never, Ends, BeforeStop}
+use Rattle.def_syntax.specs.declared.place.Series.{Series}
+use Rattle.def_syntax.specs.declared.place.Series.TheVariants as series
+use Rattle.def_syntax.specs.declared.place.Head.{Head}
+use Rattle.def_syntax.specs.declared.place.Head.TheVariants as heads
+use Rattle.def_syntax.specs.declared.place.Caught.{Caught}
+use Rattle.def_syntax.specs.declared.place.Caught.TheVariants as caught
+use Rattle.def_syntax.specs.declared.place.Named.{Named}
+use Rattle.def_syntax.specs.declared.place.Named.TheVariants as named
+use Rattle.def_syntax.specs.declared.place.Definition.{Definition}
+use Rattle.def_syntax.specs.declared.place.Definition.TheVariants as definitions
 use Rattle.law_reading.specs.Expansion.Shapes.{sort_of, Slot, part, token, Only, Before, Turned, Heads, IsObjectName, IsLeave, Tries, no_more, with_key, without_key, Sorted}
-use Rattle.def_grammar.specs.Grammar.{ending, caught_shape, MayEnd}
+use Rattle.def_syntax.specs.Grammar.{ending, caught_shape, MayEnd}
 
 -- ---- one more part
 

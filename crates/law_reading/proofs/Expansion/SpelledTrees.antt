@@ -1,32 +1,32 @@
 -- Each tree that tokens spell is fair: its parts are of the kinds that its shapes want.
 use Rattle.std.proofs.Common.{◌≡◌, zero, suc, List, [], ◌∷◌, ◌++◌, Option, Some, None, slice_get, refl, sym, subst, ◌∙◌}
-use Rattle.def_kernel_form.specs.declared.shape.Kind.{Kind}
-use Rattle.def_kernel_form.specs.declared.shape.Kind.TheVariants.{Expression, Member}
+use Rattle.def_kernel.specs.declared.shape.Kind.{Kind}
+use Rattle.def_kernel.specs.declared.shape.Kind.TheVariants.{Expression, Member}
 use Rattle.def_syntax.specs.declared.token.TokenKind.{TokenKind}
 use Rattle.def_syntax.specs.declared.token.TokenKind.TheVariants as kinds
-use Rattle.def_grammar.specs.declared.syntax.Word.{Word}
-use Rattle.def_grammar.specs.declared.syntax.Shape.{Shape}
-use Rattle.def_grammar.specs.declared.syntax.Shape.TheVariants as shapes
-use Rattle.def_grammar.specs.declared.syntax.Line.{Line}
-use Rattle.def_grammar.specs.declared.syntax.Line.TheVariants as lines
-use Rattle.def_grammar.specs.declared.syntax.Tail.{Tail}
-use Rattle.def_grammar.specs.declared.syntax.Tail.TheVariants as tails
-use Rattle.def_grammar.specs.declared.place.Place.{Place}
-use Rattle.def_grammar.specs.declared.place.Place.TheVariants as places
-use Rattle.def_grammar.specs.declared.place.Move.{Move}
-use Rattle.def_grammar.specs.declared.place.Move.TheVariants.{Takes, Reads, Wraps}
-use Rattle.def_grammar.specs.declared.place.Series.{Series}
-use Rattle.def_grammar.specs.declared.place.Series.TheVariants as series
-use Rattle.def_grammar.specs.declared.place.Head.{Head}
-use Rattle.def_grammar.specs.declared.place.Head.TheVariants as heads
-use Rattle.def_grammar.specs.declared.place.Caught.{Caught}
-use Rattle.def_grammar.specs.declared.place.Caught.TheVariants as caught
-use Rattle.def_grammar.specs.declared.place.Named.TheVariants as named
-use Rattle.def_grammar.specs.declared.place.Definition.{Definition}
-use Rattle.def_grammar.specs.declared.place.Definition.TheVariants as definitions
-use Rattle.def_grammar.specs.declared.place.Role.{Role}
-use Rattle.def_grammar.specs.declared.place.Role.TheVariants as roles
-use Rattle.def_grammar.specs.Grammar.{Tree, Trees, node, none, more, leaf, no_word, lead, moves, ending, closing, parameters, behind, caught_shape, definition_shape, role_shape, form_at, tower_of, shape_of, word_of, assigned, changed, becomes, more_at, begun, Has, here, there, Goal, line, tail, inside, Spells, form, tower, stays, goes, ends, takes, reads, wraps, SpellsProgram}
+use Rattle.def_syntax.specs.declared.syntax.Word.{Word}
+use Rattle.def_syntax.specs.declared.syntax.Shape.{Shape}
+use Rattle.def_syntax.specs.declared.syntax.Shape.TheVariants as shapes
+use Rattle.def_syntax.specs.declared.syntax.Line.{Line}
+use Rattle.def_syntax.specs.declared.syntax.Line.TheVariants as lines
+use Rattle.def_syntax.specs.declared.syntax.Tail.{Tail}
+use Rattle.def_syntax.specs.declared.syntax.Tail.TheVariants as tails
+use Rattle.def_syntax.specs.declared.place.Place.{Place}
+use Rattle.def_syntax.specs.declared.place.Place.TheVariants as places
+use Rattle.def_syntax.specs.declared.place.Move.{Move}
+use Rattle.def_syntax.specs.declared.place.Move.TheVariants.{Takes, Reads, Wraps}
+use Rattle.def_syntax.specs.declared.place.Series.{Series}
+use Rattle.def_syntax.specs.declared.place.Series.TheVariants as series
+use Rattle.def_syntax.specs.declared.place.Head.{Head}
+use Rattle.def_syntax.specs.declared.place.Head.TheVariants as heads
+use Rattle.def_syntax.specs.declared.place.Caught.{Caught}
+use Rattle.def_syntax.specs.declared.place.Caught.TheVariants as caught
+use Rattle.def_syntax.specs.declared.place.Named.TheVariants as named
+use Rattle.def_syntax.specs.declared.place.Definition.{Definition}
+use Rattle.def_syntax.specs.declared.place.Definition.TheVariants as definitions
+use Rattle.def_syntax.specs.declared.place.Role.{Role}
+use Rattle.def_syntax.specs.declared.place.Role.TheVariants as roles
+use Rattle.def_syntax.specs.Grammar.{Tree, Trees, node, none, more, leaf, no_word, lead, moves, ending, closing, parameters, behind, caught_shape, definition_shape, role_shape, form_at, tower_of, shape_of, word_of, assigned, changed, becomes, more_at, begun, Has, here, there, Goal, line, tail, inside, Spells, form, tower, stays, goes, ends, takes, reads, wraps, SpellsProgram}
 use Rattle.law_reading.specs.Expansion.Shapes.{sort_of, Slot, part, token, slots, Only, Heads, Sorted, Fair, AllFair}
 use Rattle.law_reading.specs.Expansion.Laws.{AllGood, Read, Any, SpelledIsFair}
 use Rattle.law_reading.proofs.Expansion.Sorts.{only_more, ot, on, line_sort, series_sort, head_sort, place_sort, Laid, laid_ends, ended_is}

@@ -2,7 +2,7 @@
 use Rattle.std.proofs.Common.{◌≡◌, ℕ, suc, List, [], ◌∷◌, ◌++◌, length, slice_get, Option, Some, refl, sym, ◌∙◌, subst, ap, arith, length-append, append_assoc}
 use Rattle.def_syntax.specs.declared.token.Token.{Token}
 use Rattle.def_syntax.specs.declared.sugar.SugarNode.{SugarNode}
-use Rattle.def_grammar.specs.Grammar.{no_word}
+use Rattle.def_syntax.specs.Grammar.{no_word}
 use Rattle.law_kernel_form.specs.Trees.{IsName}
 use Rattle.ev_parser.specs.Surface.{token_text}
 use Rattle.ev_parser.specs.Parsed.{numbered}

@@ -2,30 +2,30 @@
 use Rattle.std.proofs.Common.{◌≡◌, zero, suc, List, [], ◌∷◌, ◌++◌, Option, Some, None, refl, sym, ◌∙◌, subst, ap, ◌⊎◌, inl, inr}
 use Rattle.def_syntax.specs.declared.token.TokenKind.{TokenKind}
 use Rattle.def_syntax.specs.declared.token.TokenKind.TheVariants as kinds
-use Rattle.def_grammar.specs.declared.syntax.Word.{Word}
-use Rattle.def_grammar.specs.declared.syntax.Shape.{Shape}
-use Rattle.def_grammar.specs.declared.syntax.Shape.TheVariants as shapes
-use Rattle.def_grammar.specs.declared.syntax.Line.{Line}
-use Rattle.def_grammar.specs.declared.syntax.Line.TheVariants as lines
-use Rattle.def_grammar.specs.declared.syntax.Tail.{Tail}
-use Rattle.def_grammar.specs.declared.syntax.Tail.TheVariants as tails
-use Rattle.def_grammar.specs.declared.place.Place.{Place}
-use Rattle.def_grammar.specs.declared.place.Place.TheVariants.{Done, Last, Open, First, Item, More, Test, Close, Name, NameGuard, NameGuarded, Bound, Exit, Ejector, Value, Var, VarName, VarGuard, MemberVerb, MemberOpen, MemberResult, MemberGuard, PatternGuard, CatchPattern, CatchBlock, Def}
-use Rattle.def_grammar.specs.declared.place.Place.TheVariants as places
-use Rattle.def_grammar.specs.declared.place.Move.{Move}
-use Rattle.def_grammar.specs.declared.place.Move.TheVariants.{Takes, Reads, Wraps}
-use Rattle.def_grammar.specs.declared.place.Ending.{Ending}
-use Rattle.def_grammar.specs.declared.place.Ending.TheVariants.{Never, Ends, BeforeStop}
-use Rattle.def_grammar.specs.declared.place.Series.{Series}
-use Rattle.def_grammar.specs.declared.place.Series.TheVariants as series
-use Rattle.def_grammar.specs.declared.place.Head.{Head}
-use Rattle.def_grammar.specs.declared.place.Head.TheVariants as heads
-use Rattle.def_grammar.specs.declared.place.Caught.TheVariants as caught_forms
-use Rattle.def_grammar.specs.declared.place.Named.TheVariants as named
-use Rattle.def_grammar.specs.declared.place.Definition.TheVariants as definitions
-use Rattle.def_grammar.specs.declared.place.Role.TheVariants as roles
-use Rattle.def_grammar.specs.Grammar.{Tree, Trees, node, more, leaf, item_line, caught_shape, value_line, definition_shape, named_shape, role_shape, moves, ending, form_at, shape_of, more_at, IsStop, MayEnd, Has, here, there, wrapped, Goal, inside, Spells, form, tower, stays, goes, ends, takes, reads, wraps, assigned, changed, becomes}
-use Rattle.def_grammar.specs.Grammar.{line as goal_line, tail as goal_tail}
+use Rattle.def_syntax.specs.declared.syntax.Word.{Word}
+use Rattle.def_syntax.specs.declared.syntax.Shape.{Shape}
+use Rattle.def_syntax.specs.declared.syntax.Shape.TheVariants as shapes
+use Rattle.def_syntax.specs.declared.syntax.Line.{Line}
+use Rattle.def_syntax.specs.declared.syntax.Line.TheVariants as lines
+use Rattle.def_syntax.specs.declared.syntax.Tail.{Tail}
+use Rattle.def_syntax.specs.declared.syntax.Tail.TheVariants as tails
+use Rattle.def_syntax.specs.declared.place.Place.{Place}
+use Rattle.def_syntax.specs.declared.place.Place.TheVariants.{Done, Last, Open, First, Item, More, Test, Close, Name, NameGuard, NameGuarded, Bound, Exit, Ejector, Value, Var, VarName, VarGuard, MemberVerb, MemberOpen, MemberResult, MemberGuard, PatternGuard, CatchPattern, CatchBlock, Def}
+use Rattle.def_syntax.specs.declared.place.Place.TheVariants as places
+use Rattle.def_syntax.specs.declared.place.Move.{Move}
+use Rattle.def_syntax.specs.declared.place.Move.TheVariants.{Takes, Reads, Wraps}
+use Rattle.def_syntax.specs.declared.place.Ending.{Ending}
+use Rattle.def_syntax.specs.declared.place.Ending.TheVariants.{Never, Ends, BeforeStop}
+use Rattle.def_syntax.specs.declared.place.Series.{Series}
+use Rattle.def_syntax.specs.declared.place.Series.TheVariants as series
+use Rattle.def_syntax.specs.declared.place.Head.{Head}
+use Rattle.def_syntax.specs.declared.place.Head.TheVariants as heads
+use Rattle.def_syntax.specs.declared.place.Caught.TheVariants as caught_forms
+use Rattle.def_syntax.specs.declared.place.Named.TheVariants as named
+use Rattle.def_syntax.specs.declared.place.Definition.TheVariants as definitions
+use Rattle.def_syntax.specs.declared.place.Role.TheVariants as roles
+use Rattle.def_syntax.specs.Grammar.{Tree, Trees, node, more, leaf, item_line, caught_shape, value_line, definition_shape, named_shape, role_shape, moves, ending, form_at, shape_of, more_at, IsStop, MayEnd, Has, here, there, wrapped, Goal, inside, Spells, form, tower, stays, goes, ends, takes, reads, wraps, assigned, changed, becomes}
+use Rattle.def_syntax.specs.Grammar.{line as goal_line, tail as goal_tail}
 use Rattle.law_reading.specs.Grammar.Lines.{Rule, token, tree, either, upto, several, catches, exprs, exprs_more, members, Opens, left, right, upto_on, upto_end, several_on, several_end, catches_on, catches_end, exprs_semicolon, exprs_line_end, exprs_on, exprs_end, more_semicolon, more_line_end, more_end, members_semicolon, members_line_end, members_on, members_end, guarded, audited, valued, pattern_valued, pattern_guarded, listed, filled, parenthesis, caught, script, object_rule, function_rule, def_rule, var_rule, verb, arguments, member_rule, block_rule, rule_at, assigned_rule, changed_rule, becomes_rule, more_rule, Aim, line, tail, rest, at_end, at_stop, groups, opens, LinesArePlaces}
 use Rattle.law_reading.specs.Grammar.Lines as lined
 

@@ -2,15 +2,15 @@
 use Rattle.std.proofs.Common.{◌≡◌, zero, suc, List, [], ◌∷◌, Option, Some, None, Bool, true, false, ◌&&◌, ◌||◌, refl, sym, ◌∙◌, subst, ap, ◌⊎◌, inl, inr}
 use Rattle.def_syntax.specs.declared.token.TokenKind.{TokenKind}
 use Rattle.def_syntax.specs.declared.token.TokenKind.TheVariants as kinds
-use Rattle.def_grammar.specs.declared.syntax.Word.{Word}
-use Rattle.def_grammar.specs.declared.syntax.Shape.{Shape}
-use Rattle.def_grammar.specs.declared.syntax.Shape.TheVariants as shapes
-use Rattle.def_grammar.specs.declared.syntax.Line.{Line}
-use Rattle.def_grammar.specs.declared.syntax.Line.TheVariants as lines
-use Rattle.def_grammar.specs.declared.syntax.Tail.{Tail}
-use Rattle.def_grammar.specs.declared.syntax.Tail.TheVariants as tails
-use Rattle.def_grammar.specs.Grammar.{Tree, Trees, node, none, more, tower_of, shape_of, word_of, again, begun, IsStop}
-use Rattle.def_grammar.specs.Grammar.{Tree, Trees, node, none, more, tower_of, shape_of, word_of, again, begun, is_stop, IsStop}
+use Rattle.def_syntax.specs.declared.syntax.Word.{Word}
+use Rattle.def_syntax.specs.declared.syntax.Shape.{Shape}
+use Rattle.def_syntax.specs.declared.syntax.Shape.TheVariants as shapes
+use Rattle.def_syntax.specs.declared.syntax.Line.{Line}
+use Rattle.def_syntax.specs.declared.syntax.Line.TheVariants as lines
+use Rattle.def_syntax.specs.declared.syntax.Tail.{Tail}
+use Rattle.def_syntax.specs.declared.syntax.Tail.TheVariants as tails
+use Rattle.def_syntax.specs.Grammar.{Tree, Trees, node, none, more, tower_of, shape_of, word_of, again, begun, IsStop}
+use Rattle.def_syntax.specs.Grammar.{Tree, Trees, node, none, more, tower_of, shape_of, word_of, again, begun, is_stop, IsStop}
 use Rattle.law_reading.specs.Grammar.Lines.{Rule, ends, stops, token, tree, wraps, either, upto, several, catches, exprs, exprs_more, members, Opens, left, right, upto_on, upto_end, several_on, several_end, catches_on, catches_end, exprs_semicolon, exprs_line_end, exprs_on, exprs_end, more_semicolon, more_line_end, more_end, members_semicolon, members_line_end, members_on, members_end, rule_at, more_rule, assigned_rule, changed_rule, becomes_rule, def_rule, var_rule, Aim, line, tail, rest, Reads}
 use Rattle.law_reading.specs.Grammar.Lines as lined
 use Rattle.law_reading.specs.Grammar.Plain.{plain_line, plain, plain_of, plain_at, plain_tower, plain_more, Plain, PlainIsPlaces}

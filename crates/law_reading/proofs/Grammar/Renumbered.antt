@@ -1,18 +1,18 @@
 -- What some tokens spell, tokens of the same kinds spell.
 use Rattle.std.proofs.Common.{◌≡◌, true, ℕ, List, [], ◌∷◌, Some, refl, sym, ◌∙◌, subst, ap, max, ◌+◌}
 use Rattle.def_syntax.specs.declared.token.TokenKind.{TokenKind}
-use Rattle.def_grammar.specs.declared.syntax.Word.{Word}
-use Rattle.def_grammar.specs.declared.syntax.Shape.{Shape}
-use Rattle.def_grammar.specs.declared.syntax.Line.{Line}
-use Rattle.def_grammar.specs.declared.syntax.Tail.{Tail}
-use Rattle.def_grammar.specs.declared.syntax.Tail.TheVariants as tails
-use Rattle.def_grammar.specs.declared.place.Place.{Place}
-use Rattle.def_grammar.specs.declared.place.Place.TheVariants as places
-use Rattle.def_grammar.specs.declared.place.Move.TheVariants.{Takes, Wraps}
-use Rattle.def_grammar.specs.declared.place.Ending.{Ending}
-use Rattle.def_grammar.specs.declared.place.Ending.TheVariants as endings
-use Rattle.def_grammar.specs.Grammar.{Tree, Trees, node, none, more, leaf, ending, form_at, shape_of, word_of, parts_of, more_at, again, begun, is_stop, IsStop, MayEnd, Has, moves, wrapped, no_word, Goal, line, tail, inside, Spells, form, tower, stays, goes, ends, takes, reads, wraps}
-use Rattle.def_grammar.specs.Heights.{weight, height, tallest}
+use Rattle.def_syntax.specs.declared.syntax.Word.{Word}
+use Rattle.def_syntax.specs.declared.syntax.Shape.{Shape}
+use Rattle.def_syntax.specs.declared.syntax.Line.{Line}
+use Rattle.def_syntax.specs.declared.syntax.Tail.{Tail}
+use Rattle.def_syntax.specs.declared.syntax.Tail.TheVariants as tails
+use Rattle.def_syntax.specs.declared.place.Place.{Place}
+use Rattle.def_syntax.specs.declared.place.Place.TheVariants as places
+use Rattle.def_syntax.specs.declared.place.Move.TheVariants.{Takes, Wraps}
+use Rattle.def_syntax.specs.declared.place.Ending.{Ending}
+use Rattle.def_syntax.specs.declared.place.Ending.TheVariants as endings
+use Rattle.def_syntax.specs.Grammar.{Tree, Trees, node, none, more, leaf, ending, form_at, shape_of, word_of, parts_of, more_at, again, begun, is_stop, IsStop, MayEnd, Has, moves, wrapped, no_word, Goal, line, tail, inside, Spells, form, tower, stays, goes, ends, takes, reads, wraps}
+use Rattle.def_syntax.specs.Heights.{weight, height, tallest}
 use Rattle.law_reading.specs.Grammar.Numbers.{Alike, NumbersDecideNothing}
 
 -- two trees of one shape with parts of one height

@@ -1,11 +1,11 @@
 -- What a parser of the grammar answers is one thing.
 use Rattle.std.proofs.Common.{◌≡◌, ℕ, zero, suc, List, [], ◌∷◌, ◌++◌, ◌<◌, ◌≤◌, ◌⊎◌, inl, inr, take, drop, refl, sym, ◌∙◌, subst, ap, arith, append_assoc, take-append-drop}
 use Rattle.std.proofs.lemmas.Bool.{cases_lt}
-use Rattle.def_grammar.specs.declared.syntax.Word.{Word}
-use Rattle.def_grammar.specs.Grammar.{Tree, SpellsProgram}
-use Rattle.def_grammar.specs.Heights.{height, most_height, IsFirstHigh, IsLow, Answer, tree, no_spelling, too_nested}
-use Rattle.def_grammar.specs.Exact.{Viable, IsFirstBad, IsAnswer}
-use Rattle.def_grammar.proofs.Verdicts.{one_tree}
+use Rattle.def_syntax.specs.declared.syntax.Word.{Word}
+use Rattle.def_syntax.specs.Grammar.{Tree, SpellsProgram}
+use Rattle.def_syntax.specs.Heights.{height, most_height, IsFirstHigh, IsLow, Answer, tree, no_spelling, too_nested}
+use Rattle.def_syntax.specs.Exact.{Viable, IsFirstBad, IsAnswer}
+use Rattle.def_syntax.proofs.Verdicts.{one_tree}
 
 take-take : (n l : ℕ) (ts : List Word) → n ≤ l → take n (take l ts) ≡ take n ts
 take-take zero l ts h = refl

@@ -2,10 +2,10 @@
 use Rattle.std.proofs.Common.{◌≡◌, ℕ, List, Option, Some, None, Result, Ok, Err, refl, sym, ◌∙◌, subst, ap}
 use Rattle.def_syntax.specs.declared.token.Token.{Token}
 use Rattle.ev_lexer.specs.Lexed.{lexed}
-use Rattle.def_grammar.specs.Grammar.{Tree}
-use Rattle.def_grammar.specs.Heights.{Answer, tree, no_spelling, too_nested}
-use Rattle.def_grammar.specs.Exact.{IsAnswer}
-use Rattle.def_grammar.proofs.Verdicts.{one_tree}
+use Rattle.def_syntax.specs.Grammar.{Tree}
+use Rattle.def_syntax.specs.Heights.{Answer, tree, no_spelling, too_nested}
+use Rattle.def_syntax.specs.Exact.{IsAnswer}
+use Rattle.def_syntax.proofs.Verdicts.{one_tree}
 use Rattle.ev_parser.specs.Draft.{Shows}
 use Rattle.ev_parser.specs.Parsed.{numbered, IsParsed}
 use Rattle.def_syntax.specs.declared.sugar.Sugar.{Sugar}
@@ -13,10 +13,10 @@ use Rattle.def_syntax.specs.declared.sugar.SugarNode.{SugarNode}
 use Rattle.def_kernel.specs.declared.node.Node.{Node}
 use Rattle.ev_expand.specs.declared.marks.Fault.{Fault}
 use Rattle.ev_expand.specs.Expanded.{expanded}
-use Rattle.ev_scope.specs.declared.fault.ScopeFault.{ScopeFault}
-use Rattle.ev_scope.specs.declared.fault.ScopeFault.TheVariants.{Unbound, AssignToFinal, BoundTwice, Memory as NoMemory}
-use Rattle.ev_scope.specs.declared.accepted.Scoped.{Scoped}
-use Rattle.ev_scope.specs.Scopes.{first_fault}
+use Rattle.ev_reader.specs.declared.scope_fault.ScopeFault.{ScopeFault}
+use Rattle.ev_reader.specs.declared.scope_fault.ScopeFault.TheVariants.{Unbound, AssignToFinal, BoundTwice, Memory as NoMemory}
+use Rattle.ev_reader.specs.declared.accepted.Scoped.{Scoped}
+use Rattle.ev_reader.specs.Scopes.{first_fault}
 use Rattle.ev_reader.specs.Program.{expansion_kind, IsScopeFault, Spells, Answers}
 use Rattle.ev_reader.specs.declared.fault.Stage.{Stage}
 use Rattle.ev_reader.specs.declared.fault.Stage.TheVariants.{Lex, Parse, Nested, Expand, Scope}

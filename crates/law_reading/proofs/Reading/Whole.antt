@@ -2,32 +2,32 @@
 use Rattle.std.proofs.Common.{◌≡◌, ℕ, zero, suc, List, [], ◌∷◌, ◌++◌, Bool, true, false, ◌&&◌, ◌-◌, Option, Some, None, length, slice_get, refl, sym, subst, ap, ◌∙◌, arith, length-append}
 use Rattle.def_syntax.specs.declared.token.TokenKind.{TokenKind}
 use Rattle.def_syntax.specs.declared.token.TokenKind.TheVariants as kinds
-use Rattle.def_grammar.specs.declared.syntax.Word.{Word}
-use Rattle.def_grammar.specs.declared.syntax.Shape.{Shape}
-use Rattle.def_grammar.specs.declared.syntax.Shape.TheVariants as shapes
-use Rattle.def_grammar.specs.declared.syntax.Line.{Line}
-use Rattle.def_grammar.specs.declared.syntax.Line.TheVariants as lines
-use Rattle.def_grammar.specs.declared.syntax.Tail.{Tail}
-use Rattle.def_grammar.specs.declared.syntax.Tail.TheVariants as tails
-use Rattle.def_grammar.specs.declared.place.Place.{Place}
-use Rattle.def_grammar.specs.declared.place.Place.TheVariants as places
-use Rattle.def_grammar.specs.declared.place.Move.{Move}
-use Rattle.def_grammar.specs.declared.place.Move.TheVariants.{Takes, Reads, Wraps}
-use Rattle.def_grammar.specs.declared.place.Ending.{Ending}
-use Rattle.def_grammar.specs.declared.place.Ending.TheVariants.{Never, Ends, BeforeStop}
-use Rattle.def_grammar.specs.declared.place.Series.{Series}
-use Rattle.def_grammar.specs.declared.place.Series.TheVariants as series
-use Rattle.def_grammar.specs.declared.place.Head.{Head}
-use Rattle.def_grammar.specs.declared.place.Head.TheVariants as heads
-use Rattle.def_grammar.specs.declared.place.Caught.{Caught}
-use Rattle.def_grammar.specs.declared.place.Caught.TheVariants as caught
-use Rattle.def_grammar.specs.declared.place.Named.TheVariants as named
-use Rattle.def_grammar.specs.declared.place.Definition.{Definition}
-use Rattle.def_grammar.specs.declared.place.Definition.TheVariants as definitions
-use Rattle.def_grammar.specs.declared.place.Role.{Role}
-use Rattle.def_grammar.specs.declared.place.Role.TheVariants as roles
-use Rattle.def_grammar.specs.Kinds.{same}
-use Rattle.def_grammar.specs.Grammar.{Tree, Trees, node, none, more, leaf, moves, ending, closing, caught_shape, definition_shape, role_shape, form_at, shape_of, assigned, changed, becomes, more_at, begun, MayEnd, Has, here, there, Goal, line, tail, inside, Spells, form, tower, stays, goes, ends, takes, reads, wraps, SpellsProgram}
+use Rattle.def_syntax.specs.declared.syntax.Word.{Word}
+use Rattle.def_syntax.specs.declared.syntax.Shape.{Shape}
+use Rattle.def_syntax.specs.declared.syntax.Shape.TheVariants as shapes
+use Rattle.def_syntax.specs.declared.syntax.Line.{Line}
+use Rattle.def_syntax.specs.declared.syntax.Line.TheVariants as lines
+use Rattle.def_syntax.specs.declared.syntax.Tail.{Tail}
+use Rattle.def_syntax.specs.declared.syntax.Tail.TheVariants as tails
+use Rattle.def_syntax.specs.declared.place.Place.{Place}
+use Rattle.def_syntax.specs.declared.place.Place.TheVariants as places
+use Rattle.def_syntax.specs.declared.place.Move.{Move}
+use Rattle.def_syntax.specs.declared.place.Move.TheVariants.{Takes, Reads, Wraps}
+use Rattle.def_syntax.specs.declared.place.Ending.{Ending}
+use Rattle.def_syntax.specs.declared.place.Ending.TheVariants.{Never, Ends, BeforeStop}
+use Rattle.def_syntax.specs.declared.place.Series.{Series}
+use Rattle.def_syntax.specs.declared.place.Series.TheVariants as series
+use Rattle.def_syntax.specs.declared.place.Head.{Head}
+use Rattle.def_syntax.specs.declared.place.Head.TheVariants as heads
+use Rattle.def_syntax.specs.declared.place.Caught.{Caught}
+use Rattle.def_syntax.specs.declared.place.Caught.TheVariants as caught
+use Rattle.def_syntax.specs.declared.place.Named.TheVariants as named
+use Rattle.def_syntax.specs.declared.place.Definition.{Definition}
+use Rattle.def_syntax.specs.declared.place.Definition.TheVariants as definitions
+use Rattle.def_syntax.specs.declared.place.Role.{Role}
+use Rattle.def_syntax.specs.declared.place.Role.TheVariants as roles
+use Rattle.def_syntax.specs.Kinds.{same}
+use Rattle.def_syntax.specs.Grammar.{Tree, Trees, node, none, more, leaf, moves, ending, closing, caught_shape, definition_shape, role_shape, form_at, shape_of, assigned, changed, becomes, more_at, begun, MayEnd, Has, here, there, Goal, line, tail, inside, Spells, form, tower, stays, goes, ends, takes, reads, wraps, SpellsProgram}
 
 -- the parts of a node: a token by its kind, none for a tree
 abbrev pub slots : Trees → List (Option TokenKind)

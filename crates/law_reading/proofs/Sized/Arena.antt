@@ -4,8 +4,8 @@ use Rattle.std.proofs.lemmas.List.{map-append}
 use Rattle.std.proofs.lemmas.Option.{slice_get-map}
 use Rattle.def_syntax.specs.declared.token.Token.{Token}
 use Rattle.def_syntax.specs.declared.sugar.SugarNode.{SugarNode}
-use Rattle.def_grammar.specs.declared.syntax.Shape.{Shape}
-use Rattle.def_grammar.specs.Grammar.{Tree, Trees, node, none, more, leaf}
+use Rattle.def_syntax.specs.declared.syntax.Shape.{Shape}
+use Rattle.def_syntax.specs.Grammar.{Tree, Trees, node, none, more, leaf}
 use Rattle.ev_parser.specs.declared.draft.Part.{Part}
 use Rattle.ev_parser.specs.declared.draft.Part.TheVariants as piece
 use Rattle.ev_parser.specs.declared.draft.Node.{Node}

@@ -5,7 +5,7 @@ use Rattle.std.proofs.lemmas.Bool.Decides.{nat_tests}
 use Rattle.std.proofs.lemmas.List.{length-map, length-drop}
 use Rattle.def_syntax.specs.declared.token.TokenKind.{TokenKind}
 use Rattle.def_syntax.specs.declared.token.TokenKind.TheVariants as kinds
-use Rattle.def_grammar.specs.Kinds.{same, code}
+use Rattle.def_syntax.specs.Kinds.{same, code}
 use Rattle.ev_parser.specs.declared.draft.Part.{Part}
 use Rattle.ev_parser.specs.declared.draft.Part.TheVariants as piece
 use Rattle.ev_parser.specs.Surface.{tree_if, tree_at, last_tree, front, trees, is_mark, mark, before, behind, caught_pair, caught_at, catches, rest_of}

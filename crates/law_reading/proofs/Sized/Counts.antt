@@ -1,9 +1,9 @@
 -- A tree that tokens spell has no more nodes than tokens, but for the program itself.
 use Rattle.std.proofs.Common.{ℕ, suc, ◌+◌, ◌≤◌, List, length, arith}
-use Rattle.def_grammar.specs.declared.syntax.Word.{Word}
-use Rattle.def_grammar.specs.declared.syntax.Tail.{Tail}
-use Rattle.def_grammar.specs.declared.syntax.Tail.TheVariants as tails
-use Rattle.def_grammar.specs.Grammar.{Tree, Trees, node, none, more, leaf, begun, Goal, line, tail, inside, Spells, form, tower, stays, goes, ends, takes, reads, wraps, SpellsProgram}
+use Rattle.def_syntax.specs.declared.syntax.Word.{Word}
+use Rattle.def_syntax.specs.declared.syntax.Tail.{Tail}
+use Rattle.def_syntax.specs.declared.syntax.Tail.TheVariants as tails
+use Rattle.def_syntax.specs.Grammar.{Tree, Trees, node, none, more, leaf, begun, Goal, line, tail, inside, Spells, form, tower, stays, goes, ends, takes, reads, wraps, SpellsProgram}
 
 abbrev mutual
   pub count : Tree → ℕ

@@ -4,9 +4,9 @@ use Rattle.std.proofs.lemmas.List.{length-map}
 use Rattle.def_syntax.specs.declared.token.Token.{Token}
 use Rattle.def_syntax.specs.declared.token.TokenKind.{TokenKind}
 use Rattle.def_syntax.specs.declared.token.TokenKind.TheVariants as kinds
-use Rattle.def_grammar.specs.declared.syntax.Word.{Word}
-use Rattle.def_grammar.specs.declared.syntax.Shape.{Shape}
-use Rattle.def_grammar.specs.declared.syntax.Shape.TheVariants as shapes
+use Rattle.def_syntax.specs.declared.syntax.Word.{Word}
+use Rattle.def_syntax.specs.declared.syntax.Shape.{Shape}
+use Rattle.def_syntax.specs.declared.syntax.Shape.TheVariants as shapes
 use Rattle.ev_parser.specs.declared.draft.Part.{Part}
 use Rattle.ev_parser.specs.declared.draft.Part.TheVariants as piece
 use Rattle.ev_parser.specs.Surface.{tree_if, tree_at, last_tree, front, trees, mark, before, behind, catches, caught_at, is_part, for_form, literal, rest_of, guard_of, word_text, text_at, verb_if, name_if, surface}

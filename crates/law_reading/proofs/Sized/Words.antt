@@ -4,7 +4,7 @@ use Rattle.std.specs.Prelude.{encode_utf8}
 use Rattle.std.proofs.lemmas.List.{length-take, length-drop}
 use Rattle.std.proofs.lemmas.Str.{length-encode, len_utf8_bounds}
 use Rattle.def_syntax.specs.declared.token.Token.{Token}
-use Rattle.def_grammar.specs.declared.syntax.Word.{Word}
+use Rattle.def_syntax.specs.declared.syntax.Word.{Word}
 use Rattle.ev_text.specs.Unquoting.{Mark, closes, begins_escape, stands_for_itself, mark, escape, with_front, closed, text_behind, unquoted}
 use Rattle.ev_parser.specs.declared.draft.Part.{Part}
 use Rattle.ev_parser.specs.declared.draft.Part.TheVariants as piece

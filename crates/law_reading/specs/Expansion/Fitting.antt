@@ -1,7 +1,7 @@
 -- A piece that is one tree of a kind, wherever it is placed.
 use Rattle.std.specs.Prelude.{ℕ, suc, ◌+◌, List, [], ◌∷◌, length, Option, Some, None}
 use Rattle.def_kernel.specs.declared.node.Node.{Node}
-use Rattle.def_kernel_form.specs.declared.shape.Kind.{Kind}
+use Rattle.def_kernel.specs.declared.shape.Kind.{Kind}
 use Rattle.law_kernel_form.specs.Trees.{Has, Tree}
 use Rattle.ev_piece.specs.Pieces.{Piece}
 use Rattle.ev_piece.specs.Placed.{node_at}

@@ -1,10 +1,10 @@
 -- What a tree of the grammar has where, and what a piece is when it is placed.
 use Rattle.std.specs.Prelude.{◌≡◌, List, [], ◌∷◌}
-use Rattle.def_kernel_form.specs.declared.shape.Kind.{Kind}
-use Rattle.def_kernel_form.specs.declared.shape.Kind.TheVariants.{Expression}
+use Rattle.def_kernel.specs.declared.shape.Kind.{Kind}
+use Rattle.def_kernel.specs.declared.shape.Kind.TheVariants.{Expression}
 use Rattle.law_kernel_form.specs.Trees.{IsTree}
-use Rattle.def_grammar.specs.declared.syntax.Word.{Word}
-use Rattle.def_grammar.specs.Grammar.{Tree, SpellsProgram, shape_of}
+use Rattle.def_syntax.specs.declared.syntax.Word.{Word}
+use Rattle.def_syntax.specs.Grammar.{Tree, SpellsProgram, shape_of}
 use Rattle.ev_piece.specs.Pieces.{Piece}
 use Rattle.ev_piece.specs.Placed.{placed}
 use Rattle.law_reading.specs.Expansion.Shapes.{sort_of, Fair}

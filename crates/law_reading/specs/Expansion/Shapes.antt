@@ -1,14 +1,14 @@
 -- What the parts of a node are: which kind of tree each shape is, and which kinds it wants where.
 use Rattle.std.specs.Prelude.{◌≡◌, ◌⊎◌, ℕ, List, [], ◌∷◌, ◌++◌, false, Option, Some, None, slice_get}
-use Rattle.def_kernel_form.specs.declared.shape.Kind.{Kind}
-use Rattle.def_kernel_form.specs.declared.shape.Kind.TheVariants.{Expression, Pattern, Member}
+use Rattle.def_kernel.specs.declared.shape.Kind.{Kind}
+use Rattle.def_kernel.specs.declared.shape.Kind.TheVariants.{Expression, Pattern, Member}
 use Rattle.def_syntax.specs.declared.token.TokenKind.{TokenKind}
 use Rattle.def_syntax.specs.declared.token.TokenKind.TheVariants as kinds
-use Rattle.def_grammar.specs.declared.syntax.Word.{Word}
-use Rattle.def_grammar.specs.declared.syntax.Shape.{Shape}
-use Rattle.def_grammar.specs.declared.syntax.Shape.TheVariants as shapes
-use Rattle.def_grammar.specs.Kinds.{same}
-use Rattle.def_grammar.specs.Grammar.{Tree, Trees, node, none, more, leaf, shape_of}
+use Rattle.def_syntax.specs.declared.syntax.Word.{Word}
+use Rattle.def_syntax.specs.declared.syntax.Shape.{Shape}
+use Rattle.def_syntax.specs.declared.syntax.Shape.TheVariants as shapes
+use Rattle.def_syntax.specs.Kinds.{same}
+use Rattle.def_syntax.specs.Grammar.{Tree, Trees, node, none, more, leaf, shape_of}
 
 -- the kind of tree that a node of this shape expands to; a guard is an expression
 abbrev pub sort_of : Shape → Kind

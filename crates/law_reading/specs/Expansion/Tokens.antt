@@ -5,7 +5,7 @@ use Rattle.def_syntax.specs.declared.token.Token.{Token}
 use Rattle.law_kernel_form.specs.Trees.{IsTree}
 use Rattle.ev_lexer.specs.Lexed.{lexed}
 use Rattle.law_reading.specs.Expansion.Expansions.{AreSpelled}
-use Rattle.ev_scope.specs.declared.accepted.Scoped.{Scoped}
+use Rattle.ev_reader.specs.declared.accepted.Scoped.{Scoped}
 use Rattle.ev_reader.specs.Program.{Answers}
 
 -- Law: the tokens of a text in UTF-8 are spelled as their kinds say.

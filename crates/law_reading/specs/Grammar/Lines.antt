@@ -2,14 +2,14 @@
 use Rattle.std.specs.Prelude.{◌≡◌, ℕ, suc, List, [], ◌∷◌, Option, Some, None, ◌↔◌}
 use Rattle.def_syntax.specs.declared.token.TokenKind.{TokenKind}
 use Rattle.def_syntax.specs.declared.token.TokenKind.TheVariants as kinds
-use Rattle.def_grammar.specs.declared.syntax.Word.{Word}
-use Rattle.def_grammar.specs.declared.syntax.Shape.{Shape}
-use Rattle.def_grammar.specs.declared.syntax.Shape.TheVariants as shapes
-use Rattle.def_grammar.specs.declared.syntax.Line.{Line}
-use Rattle.def_grammar.specs.declared.syntax.Line.TheVariants as lines
-use Rattle.def_grammar.specs.declared.syntax.Tail.{Tail}
-use Rattle.def_grammar.specs.declared.syntax.Tail.TheVariants as tails
-use Rattle.def_grammar.specs.Grammar.{Tree, Trees, node, none, more, leaf, tower_of, shape_of, word_of, again, begun, IsStop, wrapped, no_word, most_more, SpellsProgram}
+use Rattle.def_syntax.specs.declared.syntax.Word.{Word}
+use Rattle.def_syntax.specs.declared.syntax.Shape.{Shape}
+use Rattle.def_syntax.specs.declared.syntax.Shape.TheVariants as shapes
+use Rattle.def_syntax.specs.declared.syntax.Line.{Line}
+use Rattle.def_syntax.specs.declared.syntax.Line.TheVariants as lines
+use Rattle.def_syntax.specs.declared.syntax.Tail.{Tail}
+use Rattle.def_syntax.specs.declared.syntax.Tail.TheVariants as tails
+use Rattle.def_syntax.specs.Grammar.{Tree, Trees, node, none, more, leaf, tower_of, shape_of, word_of, again, begun, IsStop, wrapped, no_word, most_more, SpellsProgram}
 
 -- the right side of a line, behind its first token
 pub data Rule : Type 0 where

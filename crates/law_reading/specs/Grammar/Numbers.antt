@@ -1,8 +1,8 @@
 -- The numbers of tokens decide nothing.
 use Rattle.std.specs.Prelude.{◌≡◌, List, [], ◌∷◌}
-use Rattle.def_grammar.specs.declared.syntax.Word.{Word}
-use Rattle.def_grammar.specs.Grammar.{Tree, SpellsProgram}
-use Rattle.def_grammar.specs.Heights.{height}
+use Rattle.def_syntax.specs.declared.syntax.Word.{Word}
+use Rattle.def_syntax.specs.Grammar.{Tree, SpellsProgram}
+use Rattle.def_syntax.specs.Heights.{height}
 
 -- two token lists of the same kinds
 abbrev pub Alike : List Word → List Word → Type 0

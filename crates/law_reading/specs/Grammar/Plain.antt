@@ -1,14 +1,14 @@
 -- The lines with no difference between an expression and one before a block.
 use Rattle.std.specs.Prelude.{◌≡◌, List, [], ◌∷◌, Option, Some, None, ◌↔◌}
 use Rattle.def_syntax.specs.declared.token.TokenKind.{TokenKind}
-use Rattle.def_grammar.specs.declared.syntax.Word.{Word}
-use Rattle.def_grammar.specs.declared.syntax.Shape.{Shape}
-use Rattle.def_grammar.specs.declared.syntax.Shape.TheVariants as shapes
-use Rattle.def_grammar.specs.declared.syntax.Line.{Line}
-use Rattle.def_grammar.specs.declared.syntax.Line.TheVariants as lines
-use Rattle.def_grammar.specs.declared.syntax.Tail.{Tail}
-use Rattle.def_grammar.specs.declared.syntax.Tail.TheVariants as tails
-use Rattle.def_grammar.specs.Grammar.{Tree, Trees, node, none, more, leaf, tower_of, shape_of, word_of, again, begun, IsStop, wrapped, no_word, SpellsProgram}
+use Rattle.def_syntax.specs.declared.syntax.Word.{Word}
+use Rattle.def_syntax.specs.declared.syntax.Shape.{Shape}
+use Rattle.def_syntax.specs.declared.syntax.Shape.TheVariants as shapes
+use Rattle.def_syntax.specs.declared.syntax.Line.{Line}
+use Rattle.def_syntax.specs.declared.syntax.Line.TheVariants as lines
+use Rattle.def_syntax.specs.declared.syntax.Tail.{Tail}
+use Rattle.def_syntax.specs.declared.syntax.Tail.TheVariants as tails
+use Rattle.def_syntax.specs.Grammar.{Tree, Trees, node, none, more, leaf, tower_of, shape_of, word_of, again, begun, IsStop, wrapped, no_word, SpellsProgram}
 use Rattle.law_reading.specs.Grammar.Lines.{Rule, ends, stops, token, tree, wraps, either, upto, several, catches, exprs, exprs_more, members, Opens, rule_at, more_rule, Aim, line, tail, rest}
 
 -- the line, where an expression before a block is an expression

@@ -1,17 +1,17 @@
 -- What a text is read as is one thing.
 use Rattle.std.specs.Prelude.{◌≡◌, ℕ, List, map, Result, Ok, Err}
 use Rattle.def_syntax.specs.declared.token.Token.{Token}
-use Rattle.def_grammar.specs.declared.syntax.Word.{Word}
-use Rattle.def_grammar.specs.Grammar.{Tree, SpellsProgram}
-use Rattle.def_grammar.specs.Heights.{Answer}
-use Rattle.def_grammar.specs.Exact.{IsAnswer}
+use Rattle.def_syntax.specs.declared.syntax.Word.{Word}
+use Rattle.def_syntax.specs.Grammar.{Tree, SpellsProgram}
+use Rattle.def_syntax.specs.Heights.{Answer}
+use Rattle.def_syntax.specs.Exact.{IsAnswer}
 use Rattle.ev_parser.specs.Draft.{Shows}
 use Rattle.ev_parser.specs.Parsed.{IsParsed}
 use Rattle.ev_parser.specs.Sweet.{node_of}
 use Rattle.ev_parser.specs.declared.draft.Node.{Node}
 use Rattle.def_syntax.specs.declared.sugar.Sugar.{Sugar}
 use Rattle.ev_expand.specs.Expanded.{expanded}
-use Rattle.ev_scope.specs.declared.accepted.Scoped.{Scoped}
+use Rattle.ev_reader.specs.declared.accepted.Scoped.{Scoped}
 use Rattle.ev_reader.specs.Program.{Answers}
 use Rattle.ev_reader.specs.declared.fault.ProgramFault.{ProgramFault}
 use Rattle.ev_reader.specs.declared.fault.ProgramFault.TheVariants.{At, Memory}

@@ -3,7 +3,7 @@ use Rattle.std.proofs.Common.{◌≡◌, ℕ, zero, suc, ◌+◌, ◌-◌, ◌�
 use Rattle.std.specs.Prelude.{slice_get, nat_le}
 use Rattle.def_machine.specs.Values.{Words, Value, Name}
 use Rattle.def_machine.specs.State.{Thing, Ejector, Message, Note, Put, GiftEntry, Happened, Vat, Stop, Done, Gives, Throws, Ejects, Stops, Act, ◌>>=◌, ◌>>◌, and_then, end_by, ending, each, for_some, give, throw, stop, eject, look, tell, spend, spent, new_activation, new_thing, kill, change, dead, new_slot, holding, write_slot, new_list, enqueue, send_out, new_gift, is_gift, with_opened, open_gift, mark}
-use Rattle.law_machine.specs.Steps.{After}
+use Rattle.law_machine.specs.Machine.Steps.{After}
 use Rattle.law_text.specs.Text.Feeds.{AllOf}
 use Rattle.law_text.specs.RunTexts.Fitting.{Limits, size, IsLow, NameFits, ValueFits, ValuesFit, CellFits, ThingFits, MessageFits, NoteFits, GiftFits, LineFits, VatFits, spread, TextFits}
 

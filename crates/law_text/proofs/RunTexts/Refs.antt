@@ -5,7 +5,7 @@ use Rattle.def_machine.specs.State.{Message, Standing, Unsettled, WaitsOn, Viewe
 use Rattle.def_machine.specs.Refs as refs
 use Rattle.def_machine.specs.Refs.{Place, Near, Mine, Away, Gone}
 use Rattle.def_machine.specs.Native.{list_at}
-use Rattle.law_machine.specs.Steps.{After}
+use Rattle.law_machine.specs.Machine.Steps.{After}
 use Rattle.law_text.specs.Text.Feeds.{AllOf}
 use Rattle.law_text.specs.RunTexts.Fitting.{Limits, size, IsVat, IsLow, MsgFits, NameFits, ValueFits, ValuesFit, MessageFits, StandingFits, KnownFits, PassedFits, PassedsFit, VatFits, TextFits, IsNoList}
 use Rattle.law_text.proofs.RunTexts.Fine.{Fine, Ends, Grows, nothing, all_end, fine_bind, fine_then, fine_give, fine_stop, fine_look, fine_sees, fine_some, fine_if, fine_each, fine_tell, fine_spend, fine_enqueue, fine_out}

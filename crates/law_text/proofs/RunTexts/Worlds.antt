@@ -10,7 +10,7 @@ use Rattle.def_machine.specs.Eval.{opening}
 use Rattle.def_run.specs.Draws.{draw_word}
 use Rattle.def_run.specs.World as world
 use Rattle.def_run.specs.World.{Script, Program, Entry, Turn, Carry, CutLink, NoticeLink, Link, Event, Opens, Turned, Idle, NoticedAt, LostCut, LeftQueue, LeftHeld, LeftWait, LeftLink, Ends, World, Run, Goes, Stopped, begins, put_at, with_link, with_notes, is_link, link_at}
-use Rattle.law_machine.specs.Steps.{After}
+use Rattle.law_machine.specs.Machine.Steps.{After}
 use Rattle.law_text.specs.Text.Feeds.{AllOf}
 use Rattle.law_text.specs.RunTexts.Fitting.{Limits, size, IsVat, NameFits, MessageFits, KnownFits, NoteFits, LineFits, NounsFit, VatFits}
 use Rattle.law_text.specs.RunTexts.Spelled.{TreeFits}

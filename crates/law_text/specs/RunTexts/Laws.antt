@@ -10,7 +10,7 @@ use Rattle.def_event.specs.Lines.{is_no_frame}
 use Rattle.def_run.specs.World.{Script, Program, Entry, Turn, Carry, CutLink, NoticeLink, Run, run}
 use Rattle.def_run.specs.Text.{vat_names, stop_text, text, wire_text}
 use Rattle.law_kernel_form.specs.Trees.{IsTree}
-pub use Rattle.law_costs.specs.Costs.Laws.{comes_to as world_of}
+pub use Rattle.law_machine.specs.Costs.Laws.{comes_to as world_of}
 use Rattle.law_text.specs.Text.Feeds.{AllOf}
 use Rattle.law_text.specs.Text.Values.{AreVats}
 use Rattle.law_text.specs.Text.Parts.{OneForOne, EventsAlike}

@@ -13,7 +13,7 @@ use Rattle.std.proofs.lemmas.Fmt.{decimal_by_steps_wide, decimal_digit, decimal_
 use Rattle.std.proofs.lemmas.Slice.Eq.{bytes_eq-Decides}
 use Rattle.std.proofs.lemmas.Str.Parse.{IsNumeralModel, numerals_by_value, tells_all_ascii_digits}
 use Rattle.def_event.specs.declared.shown.Shown.{Int}
-use Rattle.ev_command_lines.specs.Lines.{begins_with_zero, integer, number}
+use Rattle.ev_text.specs.Lines.{begins_with_zero, integer, number}
 use Rattle.ev_script.specs.Vats.{begins_lower, is_lower, is_vat_name, place_of}
 use Rattle.ev_trace_words.specs.Parts.{constant, split_at}
 use Rattle.ev_trace_words.specs.Parts as parts

@@ -16,7 +16,7 @@ use Rattle.def_text.specs.Keywords.{is_keyword}
 use Rattle.def_event.specs.declared.shown.Shown.{List as ListOf, Slot, Name as Named}
 use Rattle.def_event.specs.Lines.{vat}
 use Rattle.def_event.specs.Lines as lines
-use Rattle.ev_command_lines.specs.Lines.{integer}
+use Rattle.ev_text.specs.Lines.{integer}
 use Rattle.ev_script.specs.Vats.{begins_lower, is_lower, is_lower_or_digit, is_vat_name}
 use Rattle.ev_trace_words.specs.Parts.{behind_mark, constant, primitive, split_at}
 use Rattle.ev_trace_words.specs.Parts as parts

@@ -8,7 +8,7 @@ use Rattle.std.proofs.lemmas.Bool.Decides.{nat_tests}
 use Rattle.def_event.specs.declared.event.Event.{Event}
 use Rattle.def_event.specs.declared.event.Event.TheVariants.{End}
 use Rattle.def_event.specs.Lines.{line_of, render, spaced, vat, words}
-use Rattle.ev_command_lines.specs.Lines.{ended, is_line_feed, lines}
+use Rattle.ev_text.specs.Lines.{ended, is_line_feed, lines}
 use Rattle.ev_script.specs.Script.{rule, ◌>>=◌}
 use Rattle.ev_script.specs.Vats.{place_of}
 use Rattle.law_text.specs.Text.Feeds.{AllOf, IsOneLine}
@@ -20,7 +20,7 @@ use Rattle.ev_trace_words.specs.Words.{words_from, words_of}
 use Rattle.ev_trace_words.specs.Values.{all_of}
 use Rattle.ev_trace_words.proofs.Spelled.{place_is}
 use Rattle.ev_trace_lines.specs.Events.{Words, event_of}
-use Rattle.def_trace.specs.declared.trace.Trace.{Trace}
+use Rattle.def_event.specs.declared.trace.Trace.{Trace}
 use Rattle.ev_trace.specs.Naming.{few, names_in}
 use Rattle.ev_trace.specs.Reading.{events_of, is_end, is_stop, kept, read_by, read_lines, read_text, somes, told, trace_of}
 use Rattle.law_trace.specs.Trace.Seen.{seen}

@@ -5,7 +5,7 @@ use Rattle.def_event.specs.declared.shown.Shown.{Shown}
 use Rattle.def_event.specs.declared.event.Event.{Event}
 use Rattle.def_event.specs.declared.event.Called.{Called}
 use Rattle.def_event.specs.declared.event.Event.TheVariants.{Frame, Call, Back, Thrown, Gone}
-use Rattle.def_trace.specs.Uses.{Audition, Line, OpenCall, IsTold, place_of, name_of, calls_after, open_calls, AsksAudition, GivesBack, BackKnown}
+use Rattle.def_event.specs.Uses.{Audition, Line, OpenCall, IsTold, place_of, name_of, calls_after, open_calls, AsksAudition, GivesBack, BackKnown}
 use Rattle.law_trace.proofs.UsesSeen.Same.{either, some_of, some_to, test_same}
 use Rattle.law_trace.proofs.UsesSeen.Renaming.{Renaming, IsRenaming, AreLines, none, one, silent, called, line, event}
 use Rattle.law_trace.proofs.UsesSeen.Facts.{told_same}

@@ -1,6 +1,6 @@
 -- What is told by lines whose events have other names.
 use Rattle.std.proofs.Common.{◌≡◌, ◌↔◌, ℕ, List, ◌∷◌, map, Option, Some, None, option_map, refl, sym, ap, subst, ◌∙◌, inl, inr}
-use Rattle.def_trace.specs.Uses.{Thing, AName, AList, Activation, Fact, Begun, Opened, Given, Made, Captured, Audition, Anew, Lead, Line, gains, begins, makes, leads, IsAmong, TellsAnew, IsTold, IsLead}
+use Rattle.def_event.specs.Uses.{Thing, AName, AList, Activation, Fact, Begun, Opened, Given, Made, Captured, Audition, Anew, Lead, Line, gains, begins, makes, leads, IsAmong, TellsAnew, IsTold, IsLead}
 use Rattle.law_trace.proofs.UsesSeen.Same.{alike, among_map, among_same, both, either, image, never, through}
 use Rattle.law_trace.proofs.UsesSeen.Renaming.{Renaming, IsRenaming, AreLines, none, one, silent, frame, event, thing, activation, fact, anew, lead}
 use Rattle.law_trace.proofs.UsesSeen.Telling.{gains_same, begins_same, makes_same, leads_same}

@@ -3,7 +3,7 @@ use Rattle.std.proofs.Common.{◌≡◌, ◌↔◌, ℕ, List, Option, Some, Non
 use Rattle.ev_base.specs.declared.names.Name.{Name}
 use Rattle.def_event.specs.declared.event.Event.{Event}
 use Rattle.def_event.specs.declared.event.Event.TheVariants.{Frame}
-use Rattle.def_trace.specs.Uses.{Activation, Begun, Line, Given_for, Running, settles, views, runs, is_object, IsGivenBy, IsFirstGivenBy, IsNext, IsFollowed, there, further, Runs}
+use Rattle.def_event.specs.Uses.{Activation, Begun, Line, Given_for, Running, settles, views, runs, is_object, IsGivenBy, IsFirstGivenBy, IsNext, IsFollowed, there, further, Runs}
 use Rattle.law_trace.proofs.UsesSeen.Same.{either, never, some_of, some_to}
 use Rattle.law_trace.proofs.UsesSeen.Renaming.{Renaming, IsRenaming, AreLines, none, one, silent, event, activation, given_for, running}
 use Rattle.law_trace.proofs.UsesSeen.Telling.{settles_same, views_same, runs_same}

@@ -1,7 +1,7 @@
 -- Histories whose uses are judged alike, the one by way of the other.
 use Rattle.std.proofs.Common.{List, None}
 use Rattle.def_event.specs.declared.event.Event.{Event}
-use Rattle.def_trace.specs.Uses.{HoldsAt, UsesKnown, BackKnown, TakesSent, CarriesSent}
+use Rattle.def_event.specs.Uses.{HoldsAt, UsesKnown, BackKnown, TakesSent, CarriesSent}
 use Rattle.law_trace.specs.UsesSeen.Alike.{UsesAreSame, HoldAlike}
 use Rattle.law_trace.proofs.UsesSeen.Same.{every, through, turned}
 

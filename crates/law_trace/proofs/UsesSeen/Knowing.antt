@@ -6,7 +6,7 @@ use Rattle.def_event.specs.declared.shown.Shown.{Shown}
 use Rattle.def_event.specs.declared.event.Event.{Event}
 use Rattle.def_event.specs.declared.event.Called.{Called}
 use Rattle.def_event.specs.declared.event.Event.TheVariants.{Call, Wrote, List as ListMade, Made as ObjectMade, Send, SendOnly, When, Done}
-use Rattle.def_trace.specs.Uses.{Thing, AName, AList, Activation, Opened, Given, Captured, Line, IsAmong, IsTold, is_root, Has, IsOpenAt, KnowsName, Runs, names, names_of, is_guarding, receivers, names_used, user, made_by, UsesKnown}
+use Rattle.def_event.specs.Uses.{Thing, AName, AList, Activation, Opened, Given, Captured, Line, IsAmong, IsTold, is_root, Has, IsOpenAt, KnowsName, Runs, names, names_of, is_guarding, receivers, names_used, user, made_by, UsesKnown}
 use Rattle.law_trace.proofs.UsesSeen.Same.{alike, among_same, both, either, if_same, image, joined, some_same, through}
 use Rattle.law_trace.proofs.UsesSeen.Renaming.{Renaming, IsRenaming, AreLines, values, called, line, event, thing, activation}
 use Rattle.law_trace.proofs.UsesSeen.Facts.{told_same}

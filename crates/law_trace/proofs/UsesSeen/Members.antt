@@ -5,7 +5,7 @@ use Rattle.def_event.specs.declared.shown.Shown.TheViews.{roll-Shown}
 use Rattle.def_event.specs.declared.shown.Shown.TheBlock.{hidden-the_row-Shown-0}
 use denote.Hole.Carrier.{roll, hidden}
 use Rattle.def_event.specs.Lines.{members}
-use Rattle.def_trace.specs.Uses.{name_of, names_of, things_of, lists_of, parts, all_parts}
+use Rattle.def_event.specs.Uses.{name_of, names_of, things_of, lists_of, parts, all_parts}
 
 pub no_name : (xs : List Shown) → name_of (members xs) ≡ None
 unfolding name_of roll-Shown roll hidden-the_row-Shown-0 hidden

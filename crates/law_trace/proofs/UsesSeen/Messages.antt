@@ -7,7 +7,7 @@ use Rattle.def_event.specs.declared.note.ShownNote.{ShownNote}
 use Rattle.def_event.specs.declared.note.ShownNote.TheVariants.{Deliver, DeliverOnly}
 use Rattle.def_event.specs.declared.event.Event.{Event}
 use Rattle.def_event.specs.declared.event.Event.TheVariants.{Frame, Carry, Take, Send, SendOnly, When}
-use Rattle.def_trace.specs.Uses.{Thing, AName, AList, Line, IsAmong, Reaches, IsListed, StandsIn, parts, all_parts, same_message, of_message, sent_with, delivered_with, carried_with, or_else, first_of, last_of, arguments_in, TakesSent, delivered, of_delivered, had, line_before, is_gift, CarriesThese, CarriesSent}
+use Rattle.def_event.specs.Uses.{Thing, AName, AList, Line, IsAmong, Reaches, IsListed, StandsIn, parts, all_parts, same_message, of_message, sent_with, delivered_with, carried_with, or_else, first_of, last_of, arguments_in, TakesSent, delivered, of_delivered, had, line_before, is_gift, CarriesThese, CarriesSent}
 use Rattle.law_trace.proofs.UsesSeen.Same.{alike, among_map, among_same, either, if_same, image, joined, through}
 use Rattle.law_trace.proofs.UsesSeen.Renaming.{Renaming, IsRenaming, AreLines, none, one, silent, AreEvents, no_event, one_event, silent_event, values, event, note, thing}
 use Rattle.law_trace.proofs.UsesSeen.Facts.{things_apart}

@@ -1,6 +1,6 @@
 -- What is reached along lines whose events have other names.
 use Rattle.std.proofs.Common.{◌≡◌, ◌↔◌, ℕ, List, refl, sym, ap, subst, ◌∙◌}
-use Rattle.def_trace.specs.Uses.{Thing, Way, Listed, Settled, Lead, Line, Reaches, start, onward, IsOpenAt, IsListed}
+use Rattle.def_event.specs.Uses.{Thing, Way, Listed, Settled, Lead, Line, Reaches, start, onward, IsOpenAt, IsListed}
 use Rattle.law_trace.proofs.UsesSeen.Renaming.{Renaming, IsRenaming, AreLines, thing, way, lead}
 use Rattle.law_trace.proofs.UsesSeen.Facts.{lead_there, lead_image, things_apart}
 

@@ -4,7 +4,7 @@ use Rattle.std.proofs.lemmas.List.{map-append}
 use Rattle.def_event.specs.declared.event.Event.{Event}
 use Rattle.def_event.specs.declared.event.Event.TheVariants.{End}
 use Rattle.def_event.specs.Lines.{is_no_frame, line_of, render, spaced, vat, words}
-use Rattle.def_trace.specs.declared.trace.Trace.{Trace}
+use Rattle.def_event.specs.declared.trace.Trace.{Trace}
 use Rattle.ev_script.specs.Vats.{place_of}
 use Rattle.law_text.specs.Text.Feeds.{AllOf, IsOneLine}
 use Rattle.ev_trace_words.specs.Laws.{AreNames}

@@ -8,7 +8,7 @@ use Rattle.def_event.specs.declared.note.ShownNote.TheVariants.{Deliver, Deliver
 use Rattle.def_event.specs.declared.event.Event.{Event}
 use Rattle.def_event.specs.declared.event.Called.{Called}
 use Rattle.def_event.specs.declared.event.Event.TheVariants.{Open, Turn, Idle, Carry, Cut, Notice, Frame, Take, Call, Back, Thrown, Gone, Got, Slot as SlotMade, Read, Wrote, List as ListMade, Arrived, Ejector, Audition as AuditionMade, Promise, Made as ObjectMade, Send, SendOnly, When, Done, Threw, Settle, Wait, View, LostCut, LostBroken, LeftQueue, LeftHeld, LeftWait, LeftLink, End}
-use Rattle.def_trace.specs.Uses.{Thing, AName, AList, Activation, Fact, Begun, Opened, Given, Made, Captured, Audition, Anew, Way, Listed, Settled, Lead, Line, Given_for, Running, place_of, is_object, is_gift, is_root, name_of, names_of, things_of, lists_of, parts, same_message}
+use Rattle.def_event.specs.Uses.{Thing, AName, AList, Activation, Fact, Begun, Opened, Given, Made, Captured, Audition, Anew, Way, Listed, Settled, Lead, Line, Given_for, Running, place_of, is_object, is_gift, is_root, name_of, names_of, things_of, lists_of, parts, same_message}
 
 -- Each vat, place of a line, name, message and value has another in its place.
 pub record Renaming : Type 0 where

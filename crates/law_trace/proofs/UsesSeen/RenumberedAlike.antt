@@ -8,7 +8,7 @@ use Rattle.def_event.specs.declared.note.ShownNote.{ShownNote}
 use Rattle.def_event.specs.declared.note.ShownNote.TheVariants.{Deliver}
 use Rattle.def_event.specs.declared.event.Event.{Event}
 use Rattle.def_event.specs.declared.event.Event.TheVariants.{Carry, LeftLink}
-use Rattle.def_trace.specs.Uses.{AName, name_of, names_of, things_of, lists_of, parts, all_parts, member_parts, same_message, is_object, is_gift, is_root}
+use Rattle.def_event.specs.Uses.{AName, name_of, names_of, things_of, lists_of, parts, all_parts, member_parts, same_message, is_object, is_gift, is_root}
 use Rattle.law_trace.specs.Trace.Renamed.{event_to, members_to, message_to, name_to, note_to, value_to}
 use Rattle.law_trace.specs.UsesSeen.Alike.{UsesAreSame}
 use Rattle.law_trace.specs.UsesSeen.Laws.{UsesOfRenumbered}

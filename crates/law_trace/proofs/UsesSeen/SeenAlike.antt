@@ -7,7 +7,7 @@ use Rattle.def_event.specs.declared.note.ShownNote.TheVariants.{Deliver}
 use Rattle.def_event.specs.declared.event.Event.{Event}
 use Rattle.def_event.specs.declared.event.Event.TheVariants.{Carry, Frame, LeftLink}
 use Rattle.def_event.specs.Lines.{is_no_frame}
-use Rattle.def_trace.specs.Uses.{Thing, AName, AList, name_of, names_of, things_of, lists_of, parts, all_parts, member_parts}
+use Rattle.def_event.specs.Uses.{Thing, AName, AList, name_of, names_of, things_of, lists_of, parts, all_parts, member_parts}
 use Rattle.law_trace.specs.Trace.Seen.{seen, seen_note, seen_value, seen_members}
 use Rattle.law_trace.specs.UsesSeen.Alike.{UsesAreSame}
 use Rattle.law_trace.specs.UsesSeen.Laws.{UsesOfWhatIsSeen, UsesWithoutFrames}

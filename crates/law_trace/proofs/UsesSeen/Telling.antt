@@ -5,7 +5,7 @@ use Rattle.def_event.specs.declared.shown.Shown.{Shown, Name as Named}
 use Rattle.def_event.specs.declared.event.Event.{Event}
 use Rattle.def_event.specs.declared.event.Called.{Called}
 use Rattle.def_event.specs.declared.event.Event.TheVariants.{Open, Turn, Idle, Carry, Cut, Notice, Take, Call, Back, Got, Read, List as ListMade, Arrived, Ejector, Audition as AuditionMade, Promise, Made as ObjectMade, Settle, View}
-use Rattle.def_trace.specs.Uses.{Thing, AName, AList, Fact, Given, Made, Captured, Audition, Anew, Way, Listed, Settled, place_after, given, things, things_of, lists_of, name_of, gains, begun, begun_call, begins, captured, makes, led, leads, settles, views, running_call, runs}
+use Rattle.def_event.specs.Uses.{Thing, AName, AList, Fact, Given, Made, Captured, Audition, Anew, Way, Listed, Settled, place_after, given, things, things_of, lists_of, name_of, gains, begun, begun_call, begins, captured, makes, led, leads, settles, views, running_call, runs}
 use Rattle.law_trace.proofs.UsesSeen.Same.{joined}
 use Rattle.law_trace.proofs.UsesSeen.Renaming.{Renaming, IsRenaming, values, called, event, thing, fact, anew, way, lead, given_for, running}
 

@@ -4,7 +4,7 @@ use Rattle.std.proofs.lemmas.List.{take-map}
 use Rattle.std.proofs.lemmas.Option.{slice_get-map}
 use Rattle.def_event.specs.declared.event.Event.{Event}
 use Rattle.def_event.specs.declared.event.Event.TheVariants.{Frame}
-use Rattle.def_trace.specs.Uses.{Line, place_after, place_of, line_after, and_lines, lines_before, names_used, HoldsAt, IsFirstFailing, LineHolds, UsesKnown, BackKnown, TakesSent, CarriesSent}
+use Rattle.def_event.specs.Uses.{Line, place_after, place_of, line_after, and_lines, lines_before, names_used, HoldsAt, IsFirstFailing, LineHolds, UsesKnown, BackKnown, TakesSent, CarriesSent}
 use Rattle.law_trace.specs.UsesSeen.Alike.{UsesAreSame, HoldAlike}
 use Rattle.law_trace.proofs.UsesSeen.Same.{alike, both, every, never, some_of, some_to, through, turned}
 use Rattle.law_trace.proofs.UsesSeen.Renaming.{Renaming, IsRenaming, AreLines, none, one, silent, AreEvents, no_event, one_event, silent_event, line, event}

@@ -3,7 +3,7 @@ use Rattle.std.specs.Prelude.{◌≡◌, ℕ, ◌≤◌, true, List, [], ◌∷�
 use Rattle.def_event.specs.declared.event.Event.{Event}
 use Rattle.def_event.specs.declared.event.Event.TheVariants.{End}
 use Rattle.def_event.specs.Lines.{line_of, render, vat, words}
-use Rattle.ev_command_lines.specs.Lines.{lines}
+use Rattle.ev_text.specs.Lines.{lines}
 use Rattle.ev_script.specs.Vats.{place_of}
 use Rattle.law_text.specs.Text.Feeds.{AllOf, IsOneLine}
 use Rattle.ev_trace_words.specs.Laws.{AreNames}

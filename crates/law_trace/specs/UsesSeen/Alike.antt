@@ -1,7 +1,7 @@
 -- Two histories whose uses are judged alike.
 use Rattle.std.specs.Prelude.{ℕ, ◌↔◌, List, Option, None}
 use Rattle.def_event.specs.declared.event.Event.{Event}
-use Rattle.def_trace.specs.Uses.{HoldsAt, JudgesUses, UsesKnown, BackKnown, TakesSent, CarriesSent}
+use Rattle.def_event.specs.Uses.{HoldsAt, JudgesUses, UsesKnown, BackKnown, TakesSent, CarriesSent}
 
 -- Of each event of the one history holds what holds of that of the other, point by point, and one answer is the judgement of both.
 pub record UsesAreSame (es fs : List Event) : Type 0 where

@@ -2,8 +2,8 @@
 use Rattle.std.proofs.Common.{◌≡◌, ℕ, ◌≤◌, List, [], ◌∷◌, ◌++◌, Option, Some, None, refl, sym, ap, ◌∙◌, length, ◌⊎◌, inl, inr, arith}
 use Rattle.def_machine.specs.Values.{Words, Value, Name}
 use Rattle.def_machine.specs.State.{Happened, Called, Back, Thrown, Left}
-use Rattle.law_connected.specs.Connected.{Open, open_after, open_from, without_first}
-use Rattle.law_connected.specs.Nesting.{closed_by, nested_after, nested_on, nested_from}
+use Rattle.law_uses.specs.Connectivity.Connected.{Open, open_after, open_from, without_first}
+use Rattle.law_uses.specs.Connectivity.Nesting.{closed_by, nested_after, nested_on, nested_from}
 use Rattle.law_uses.proofs.KnownUses.Opened.{closes_first, none_closed, no_nest}
 
 -- of two places in a list, either one comes no later than the other, or behind it

@@ -14,15 +14,15 @@ use Rattle.def_run.specs.World.{Script, Event, Here, names, readied, events_of, 
 use Rattle.def_run.specs.Shown as show
 use Rattle.def_run.specs.Text.{history_of}
 use Rattle.law_frozen.proofs.EvalFacts.{same_is}
-use Rattle.law_connected.specs.Known as known
-use Rattle.law_connected.specs.Known.{AValue, IsAmong, Holdings, IsThing}
-use Rattle.law_connected.specs.InTime.{WellThen}
-use Rattle.law_connected.specs.Connected.{Open, AskedThen, GivenBack, BackWell}
-use Rattle.def_trace.specs.Uses as text
-use Rattle.def_trace.specs.Uses.{Line, place_of, place_after, OpenCall, open_calls, KnowsName, name_of, things_of, AName, AsksAudition, GivesBack, BackKnown}
-use Rattle.law_connected.proofs.Events.{here_event}
-use Rattle.law_connected.proofs.FineSteps.{among_right}
-use Rattle.law_connected.proofs.Knowing.{among_mid, among_more, thing_more}
+use Rattle.law_uses.specs.Connectivity.Known as known
+use Rattle.law_uses.specs.Connectivity.Known.{AValue, IsAmong, Holdings, IsThing}
+use Rattle.law_uses.specs.Connectivity.InTime.{WellThen}
+use Rattle.law_uses.specs.Connectivity.Connected.{Open, AskedThen, GivenBack, BackWell}
+use Rattle.def_event.specs.Uses as text
+use Rattle.def_event.specs.Uses.{Line, place_of, place_after, OpenCall, open_calls, KnowsName, name_of, things_of, AName, AsksAudition, GivesBack, BackKnown}
+use Rattle.law_uses.proofs.Connectivity.Events.{here_event}
+use Rattle.law_uses.proofs.Connectivity.FineSteps.{among_right}
+use Rattle.law_uses.proofs.Connectivity.Knowing.{among_mid, among_more, thing_more}
 use Rattle.law_uses.proofs.Uses.Shown.{lines}
 use Rattle.law_uses.proofs.Running.Facts.{openings_told}
 use Rattle.law_uses.proofs.Running.Ran.{own_object}

@@ -12,10 +12,10 @@ use Rattle.def_run.specs.World as world
 use Rattle.def_run.specs.World.{Script, Event, Here, names, events_of}
 use Rattle.def_run.specs.Shown as show
 use Rattle.def_run.specs.Text.{shown_events, history_of}
-use Rattle.law_fate.specs.Fate.{once, total}
-use Rattle.law_fate.proofs.RunCounts.{total_append}
-use Rattle.law_connected.specs.News.{own_number}
-use Rattle.def_trace.specs.Uses.{Line, line_after, and_lines, place_of, place_after, IsAmong, Thing, AName, AList, Fact, Made, Captured, IsTold, given, gains, begins, begun_call, makes, captured, TellsAnew, things, things_of, lists_of}
+use Rattle.law_fate.specs.Fates.Fate.{once, total}
+use Rattle.law_fate.proofs.Fates.RunCounts.{total_append}
+use Rattle.law_uses.specs.Connectivity.News.{own_number}
+use Rattle.def_event.specs.Uses.{Line, line_after, and_lines, place_of, place_after, IsAmong, Thing, AName, AList, Fact, Made, Captured, IsTold, given, gains, begins, begun_call, makes, captured, TellsAnew, things, things_of, lists_of}
 use Rattle.law_uses.specs.Uses.Made.{ThingsAreMadeOnce, makes as counts, where_so, made_one}
 use Rattle.law_uses.proofs.Uses.Lines.{among_map}
 use Rattle.law_uses.proofs.Uses.Shown.{lines, among_shown}

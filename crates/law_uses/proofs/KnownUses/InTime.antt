@@ -2,15 +2,15 @@
 use Rattle.std.proofs.Common.{◌≡◌, ℕ, false, List, [], ◌∷◌, ◌++◌, sym, ap, subst, append_assoc, append-nil}
 use Rattle.def_machine.specs.Values.{Name}
 use Rattle.def_machine.specs.State.{Happened, Vat, Done, Gives}
-use Rattle.law_machine.specs.Steps.{does, After}
+use Rattle.law_machine.specs.Machine.Steps.{does, After}
 use Rattle.def_run.specs.World.{Script, Event, World, names, readied}
-use Rattle.law_connected.specs.Known.{Holdings}
-use Rattle.law_connected.specs.Connected.{held_from}
-use Rattle.law_connected.specs.InTime.{InTime, AllInTime}
-use Rattle.law_connected.specs.Liveness.{live_at}
-use Rattle.law_connected.specs.Runs.{NothingLive}
-use Rattle.law_connected.proofs.FineSteps.{named_in_time}
-use Rattle.law_connected.proofs.RunDies.{opened_still, run_still}
+use Rattle.law_uses.specs.Connectivity.Known.{Holdings}
+use Rattle.law_uses.specs.Connectivity.Connected.{held_from}
+use Rattle.law_uses.specs.Connectivity.InTime.{InTime, AllInTime}
+use Rattle.law_uses.specs.Connectivity.Liveness.{live_at}
+use Rattle.law_uses.specs.Connectivity.Runs.{NothingLive}
+use Rattle.law_uses.proofs.Connectivity.FineSteps.{named_in_time}
+use Rattle.law_uses.proofs.Connectivity.RunDies.{opened_still, run_still}
 use Rattle.law_uses.specs.KnownUses.Told.{IsPassed, first_of}
 use Rattle.law_uses.proofs.KnownUses.Stood.{in_run, is_run, Stood}
 

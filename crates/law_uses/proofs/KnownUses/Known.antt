@@ -6,13 +6,13 @@ use Rattle.def_machine.specs.State.{Standing, Viewed, Settled, Known, Happened, 
 use Rattle.def_machine.specs.Refs as refs
 use Rattle.def_run.specs.World.{Script, Event, Here, names}
 use Rattle.def_run.specs.Shown as show
-use Rattle.law_natives.specs.Natives.{IsPlain}
-use Rattle.law_name.proofs.SameNames.{reference_is}
-use Rattle.law_connected.specs.Known as known
-use Rattle.law_connected.specs.Known.{Item, AValue, IsAmong, AllOf, Holdings, parts_of_all, tells, AreOne, Leads, Runs}
-use Rattle.law_connected.specs.MessageLaws.{IsToldStanding}
-use Rattle.def_trace.specs.Uses as uses
-use Rattle.def_trace.specs.Uses.{Thing, AName, AList, Listed, Given, Captured, IsTold, start, onward, Has, place_of, things_of}
+use Rattle.law_machine.specs.Natives.Natives.{IsPlain}
+use Rattle.law_fate.proofs.Name.SameNames.{reference_is}
+use Rattle.law_uses.specs.Connectivity.Known as known
+use Rattle.law_uses.specs.Connectivity.Known.{Item, AValue, IsAmong, AllOf, Holdings, parts_of_all, tells, AreOne, Leads, Runs}
+use Rattle.law_uses.specs.Connectivity.MessageLaws.{IsToldStanding}
+use Rattle.def_event.specs.Uses as uses
+use Rattle.def_event.specs.Uses.{Thing, AName, AList, Listed, Given, Captured, IsTold, start, onward, Has, place_of, things_of}
 use Rattle.law_uses.proofs.Uses.Shown.{lines, ListTold, list_leads}
 use Rattle.law_uses.proofs.Uses.Sources.{turned}
 use Rattle.law_uses.proofs.Uses.Carried.{in_all}

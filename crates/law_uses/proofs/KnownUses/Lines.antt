@@ -7,8 +7,8 @@ use Rattle.def_machine.specs.State.{Happened, Settles, Views}
 use Rattle.def_run.specs.World.{Event, Here}
 use Rattle.def_run.specs.Shown as show
 use Rattle.def_run.specs.Text.{shown_events}
-use Rattle.law_connected.specs.Known as known
-use Rattle.def_trace.specs.Uses.{Line, and_lines, place_of, place_after, IsAmong, Lead, leads, IsLead, Settled, Thing, AName}
+use Rattle.law_uses.specs.Connectivity.Known as known
+use Rattle.def_event.specs.Uses.{Line, and_lines, place_of, place_after, IsAmong, Lead, leads, IsLead, Settled, Thing, AName}
 use Rattle.law_uses.proofs.Uses.Lines.{lines_join, among_map, lead_stays}
 use Rattle.law_uses.proofs.Uses.Shown.{lines, shown_join}
 use Rattle.law_uses.specs.KnownUses.Told.{things_at}

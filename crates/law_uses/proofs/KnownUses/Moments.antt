@@ -4,29 +4,29 @@ use Rattle.std.specs.Prelude.{slice_get}
 use Rattle.def_machine.specs.Values.{Value, Ref, Name, Root, Object, naming}
 use Rattle.def_machine.specs.State.{Bound, Fixed, Slot, Binding, Made, Known, Happened, ListMade, ListCame, ObjectMade, Settles, Views, Posted, Vat}
 use Rattle.def_machine.specs.Scopes.{any_guard}
-use Rattle.law_machine.specs.Steps.{Step, Opens as Starts}
+use Rattle.law_machine.specs.Machine.Steps.{Step, Opens as Starts}
 use Rattle.def_run.specs.World as world
 use Rattle.def_run.specs.World.{Script, Event, Opens, Here, World, Run, Goes, Stopped, names, readied, events_of, event_of}
 use Rattle.def_run.specs.Shown as show
 use Rattle.def_run.specs.Text.{shown_events, history_of}
-use Rattle.law_fate.specs.FateRuns.{Reached}
-use Rattle.law_connected.specs.Known as known
-use Rattle.law_connected.specs.Known.{Item, AValue, IsAmong, AllOf, Holdings, Runs, called, took, parts_of, parts_of_all, by, tells}
-use Rattle.law_connected.specs.Connected.{given_to, held_from}
-use Rattle.law_connected.specs.InTime.{held_then, Moment}
-use Rattle.law_connected.specs.News.{list_made}
-use Rattle.law_connected.specs.Told.{HeldTold}
-use Rattle.law_connected.specs.Begotten.{AreRoots, IsTaken}
-use Rattle.law_connected.specs.MessageLaws.{AllStem, IsToldStanding}
-use Rattle.law_connected.specs.Stems.{HasLine}
-use Rattle.law_connected.proofs.Passing.{kept_all, all_map}
-use Rattle.law_connected.proofs.Moments.{stand_map}
-use Rattle.law_connected.proofs.Events.{here_event}
-use Rattle.law_connected.proofs.FineSteps.{among_left, among_right}
-use Rattle.law_connected.proofs.RunsTell.{opened_tell, run_tell}
-use Rattle.law_connected.proofs.RunStems.{messages_stem}
-use Rattle.def_trace.specs.Uses as text
-use Rattle.def_trace.specs.Uses.{and_lines, Thing, Opened, Given, Captured, IsTold, is_root, things_of, things}
+use Rattle.law_fate.specs.Fates.FateRuns.{Reached}
+use Rattle.law_uses.specs.Connectivity.Known as known
+use Rattle.law_uses.specs.Connectivity.Known.{Item, AValue, IsAmong, AllOf, Holdings, Runs, called, took, parts_of, parts_of_all, by, tells}
+use Rattle.law_uses.specs.Connectivity.Connected.{given_to, held_from}
+use Rattle.law_uses.specs.Connectivity.InTime.{held_then, Moment}
+use Rattle.law_uses.specs.Connectivity.News.{list_made}
+use Rattle.law_uses.specs.Connectivity.Told.{HeldTold}
+use Rattle.law_uses.specs.Connectivity.Begotten.{AreRoots, IsTaken}
+use Rattle.law_uses.specs.Connectivity.MessageLaws.{AllStem, IsToldStanding}
+use Rattle.law_uses.specs.Connectivity.Stems.{HasLine}
+use Rattle.law_uses.proofs.Connectivity.Passing.{kept_all, all_map}
+use Rattle.law_uses.proofs.Connectivity.Moments.{stand_map}
+use Rattle.law_uses.proofs.Connectivity.Events.{here_event}
+use Rattle.law_uses.proofs.Connectivity.FineSteps.{among_left, among_right}
+use Rattle.law_uses.proofs.Connectivity.RunsTell.{opened_tell, run_tell}
+use Rattle.law_uses.proofs.Connectivity.RunStems.{messages_stem}
+use Rattle.def_event.specs.Uses as text
+use Rattle.def_event.specs.Uses.{and_lines, Thing, Opened, Given, Captured, IsTold, is_root, things_of, things}
 use Rattle.law_uses.specs.Uses.Messages.{ListsAreTold, SaysList}
 use Rattle.law_uses.proofs.Uses.Lines.{lines_join}
 use Rattle.law_uses.proofs.Uses.Shown.{lines, ListTold, shown_join, among_left as left, among_right as right}

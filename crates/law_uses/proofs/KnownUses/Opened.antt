@@ -11,11 +11,11 @@ use Rattle.def_run.specs.World as world
 use Rattle.def_run.specs.World.{Event, Here, LostCut, Link, events_of, event_of}
 use Rattle.def_run.specs.Shown as show
 use Rattle.def_run.specs.Text.{shown_events}
-use Rattle.law_fate.proofs.RunCounts.{pick}
-use Rattle.law_connected.specs.Connected.{Open, open_after, open_from, without_first}
-use Rattle.law_connected.specs.Nesting.{closed_by, nested_after, nested_on, nested_from}
-use Rattle.law_connected.proofs.Events.{IsNobodys}
-use Rattle.def_trace.specs.Uses.{Line, line_after, and_lines, place_of, place_after, OpenCall, calls_after, open_calls}
+use Rattle.law_fate.proofs.Fates.RunCounts.{pick}
+use Rattle.law_uses.specs.Connectivity.Connected.{Open, open_after, open_from, without_first}
+use Rattle.law_uses.specs.Connectivity.Nesting.{closed_by, nested_after, nested_on, nested_from}
+use Rattle.law_uses.proofs.Connectivity.Events.{IsNobodys}
+use Rattle.def_event.specs.Uses.{Line, line_after, and_lines, place_of, place_after, OpenCall, calls_after, open_calls}
 use Rattle.law_uses.proofs.Uses.Lines.{lines_join}
 use Rattle.law_uses.proofs.Uses.Shown.{lines, shown_join}
 

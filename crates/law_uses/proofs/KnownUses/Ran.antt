@@ -6,10 +6,10 @@ use Rattle.def_run.specs.World as world
 use Rattle.def_run.specs.World.{Script, Event, Here, World, names, events_of}
 use Rattle.def_run.specs.Shown.{shown_name}
 use Rattle.def_run.specs.Text.{history_of}
-use Rattle.law_reference.specs.Cuts.{NoticesFollowCuts}
-use Rattle.law_connected.specs.Known.{IsAmong, IsThing, Runs}
-use Rattle.law_connected.specs.Connected.{held_from}
-use Rattle.def_trace.specs.Uses as text
+use Rattle.law_reference.specs.Reference.Cuts.{NoticesFollowCuts}
+use Rattle.law_uses.specs.Connectivity.Known.{IsAmong, IsThing, Runs}
+use Rattle.law_uses.specs.Connectivity.Connected.{held_from}
+use Rattle.def_event.specs.Uses as text
 use Rattle.law_uses.proofs.Uses.Shown.{lines}
 use Rattle.law_uses.specs.Running.Facts.{activation}
 use Rattle.law_uses.specs.Running.Runs.{IsRun}

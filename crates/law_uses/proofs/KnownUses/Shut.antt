@@ -3,16 +3,16 @@ use Rattle.std.proofs.Common.{◌≡◌, ℕ, ◌+◌, ◌==◌, Bool, true, fal
 use Rattle.std.proofs.lemmas.Bool.{eqb-true, eq-eqb}
 use Rattle.def_machine.specs.Values.{Name}
 use Rattle.def_machine.specs.State.{Message, Happened, Posted, Vat, Done, Gives}
-use Rattle.law_machine.specs.Steps.{Step, Opens as Starts, Takes, Receives, Notices, does}
+use Rattle.law_machine.specs.Machine.Steps.{Step, Opens as Starts, Takes, Receives, Notices, does}
 use Rattle.def_run.specs.World as world
 use Rattle.def_run.specs.World.{Script, Event, LostCut, Link, World, names, readied, events_of, event_of}
 use Rattle.def_run.specs.Shown as show
 use Rattle.def_run.specs.Text.{shown_events}
-use Rattle.law_fate.proofs.RunCounts.{pick}
-use Rattle.law_connected.specs.Begotten.{IsTaken}
-use Rattle.law_connected.specs.Nesting.{Nested, nested_from}
-use Rattle.law_connected.proofs.StepNests.{steps_nest}
-use Rattle.def_trace.specs.Uses.{Line, and_lines, place_of}
+use Rattle.law_fate.proofs.Fates.RunCounts.{pick}
+use Rattle.law_uses.specs.Connectivity.Begotten.{IsTaken}
+use Rattle.law_uses.specs.Connectivity.Nesting.{Nested, nested_from}
+use Rattle.law_uses.proofs.Connectivity.StepNests.{steps_nest}
+use Rattle.def_event.specs.Uses.{Line, and_lines, place_of}
 use Rattle.law_uses.proofs.Uses.Shown.{lines}
 use Rattle.law_uses.proofs.Uses.Places.{step_place, opens_place, turned_place, carried_place, noticed_place}
 use Rattle.law_uses.proofs.KnownUses.Walk.{Leads, quiet, steps}

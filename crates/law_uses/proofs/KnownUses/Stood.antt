@@ -3,20 +3,20 @@ use Rattle.std.proofs.Common.{◌≡◌, ℕ, zero, suc, ◌+◌, ◌≤◌, ari
 use Rattle.std.specs.Prelude.{slice_get}
 use Rattle.def_machine.specs.Values.{Name, Root}
 use Rattle.def_machine.specs.State.{Message, Happened, Posted, Vat, Gives}
-use Rattle.law_machine.specs.Steps.{Step, does}
+use Rattle.law_machine.specs.Machine.Steps.{Step, does}
 use Rattle.def_run.specs.World as world
 use Rattle.def_run.specs.World.{Script, Program, Entry, Event, Here, LostCut, Ends as IsEnd, Link, World, Run, Goes, Stopped, names, events_of, event_of, begins}
 use Rattle.def_run.specs.Text.{history_of}
-use Rattle.law_fate.specs.FateRuns.{Reached}
-use Rattle.law_fate.specs.Fate.{total}
-use Rattle.law_fate.proofs.RunCounts.{pick, total_append}
-use Rattle.law_fate.proofs.RunFates.{none_vats, none_links}
-use Rattle.law_name.proofs.Among.{get_put}
-use Rattle.law_connected.specs.Known.{IsAmong}
-use Rattle.law_connected.specs.Begotten.{IsTaken, IsReached, start, opened, entered, LineOf, InEachRun}
-use Rattle.law_connected.proofs.Knowing.{among_mid}
-use Rattle.law_connected.proofs.Events.{among_either, IsNobodys, nobodys_join, vats_nobodys, links_nobodys}
-use Rattle.law_connected.proofs.RunStems.{one_line}
+use Rattle.law_fate.specs.Fates.FateRuns.{Reached}
+use Rattle.law_fate.specs.Fates.Fate.{total}
+use Rattle.law_fate.proofs.Fates.RunCounts.{pick, total_append}
+use Rattle.law_fate.proofs.Fates.RunFates.{none_vats, none_links}
+use Rattle.law_fate.proofs.Name.Among.{get_put}
+use Rattle.law_uses.specs.Connectivity.Known.{IsAmong}
+use Rattle.law_uses.specs.Connectivity.Begotten.{IsTaken, IsReached, start, opened, entered, LineOf, InEachRun}
+use Rattle.law_uses.proofs.Connectivity.Knowing.{among_mid}
+use Rattle.law_uses.proofs.Connectivity.Events.{among_either, IsNobodys, nobodys_join, vats_nobodys, links_nobodys}
+use Rattle.law_uses.proofs.Connectivity.RunStems.{one_line}
 use Rattle.law_uses.proofs.Uses.Kept.{is_carry}
 use Rattle.law_uses.proofs.Uses.Steps.{Parted, parted}
 use Rattle.law_uses.specs.Running.Running.{HasEachLine}

@@ -10,13 +10,13 @@ use Rattle.def_run.specs.World as world
 use Rattle.def_run.specs.World.{Script, Event, Carried, Here, names}
 use Rattle.def_run.specs.Shown as show
 use Rattle.def_run.specs.Text.{shown_events, history_of}
-use Rattle.law_connected.specs.Known as known
-use Rattle.law_connected.specs.Known.{Item, AValue, IsAmong}
-use Rattle.law_connected.specs.Connected.{uses, itself}
-use Rattle.law_connected.specs.InTime.{Moment, WellThen, InTime}
-use Rattle.law_connected.proofs.Passing.{all_map}
-use Rattle.def_trace.specs.Uses as text
-use Rattle.def_trace.specs.Uses.{Line, line_after, and_lines, place_of, HoldsAt, names_used, UsesKnown}
+use Rattle.law_uses.specs.Connectivity.Known as known
+use Rattle.law_uses.specs.Connectivity.Known.{Item, AValue, IsAmong}
+use Rattle.law_uses.specs.Connectivity.Connected.{uses, itself}
+use Rattle.law_uses.specs.Connectivity.InTime.{Moment, WellThen, InTime}
+use Rattle.law_uses.proofs.Connectivity.Passing.{all_map}
+use Rattle.def_event.specs.Uses as text
+use Rattle.def_event.specs.Uses.{Line, line_after, and_lines, place_of, HoldsAt, names_used, UsesKnown}
 use Rattle.law_uses.proofs.Uses.Lines.{lines_join}
 use Rattle.law_uses.proofs.Uses.Shown.{lines}
 use Rattle.law_uses.proofs.Uses.Texts.{lines_stand}

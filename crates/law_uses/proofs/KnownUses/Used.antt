@@ -10,11 +10,11 @@ use Rattle.def_machine.specs.State.{Bound, Fixed, Slot, Message, Happened, Calle
 use Rattle.def_machine.specs.Free.{same_words}
 use Rattle.def_run.specs.Shown as show
 use Rattle.law_frozen.proofs.EvalFacts.{same_is}
-use Rattle.law_connected.specs.Known.{Item, AValue, AGuard, IsAmong, AllOf, parts_of, parts_of_all, by, values}
-use Rattle.law_connected.specs.Connected as connected
-use Rattle.law_connected.specs.Connected.{callee, itself}
-use Rattle.def_trace.specs.Uses as uses
-use Rattle.def_trace.specs.Uses.{Line, line_after, place_of, place_after, Thing, AName, Activation, KnowsName, things_of, names_of, name_of, names_used, user, made_by, UsesKnown, is_guarding, receivers}
+use Rattle.law_uses.specs.Connectivity.Known.{Item, AValue, AGuard, IsAmong, AllOf, parts_of, parts_of_all, by, values}
+use Rattle.law_uses.specs.Connectivity.Connected as connected
+use Rattle.law_uses.specs.Connectivity.Connected.{callee, itself}
+use Rattle.def_event.specs.Uses as uses
+use Rattle.def_event.specs.Uses.{Line, line_after, place_of, place_after, Thing, AName, Activation, KnowsName, things_of, names_of, name_of, names_used, user, made_by, UsesKnown, is_guarding, receivers}
 use Rattle.law_uses.proofs.Uses.Shown.{among_either}
 use Rattle.law_uses.specs.KnownUses.Told.{things_at}
 

@@ -5,15 +5,15 @@ use Rattle.def_machine.specs.Values.{Name, Root}
 use Rattle.def_machine.specs.State.{Message, Note, Vat, Done, Gives, Act}
 use Rattle.def_machine.specs.Eval.{opening}
 use Rattle.def_machine.specs.Arrive.{notice}
-use Rattle.law_machine.specs.Steps.{Step, Opens as Starts, Takes, Receives, Notices, does}
+use Rattle.law_machine.specs.Machine.Steps.{Step, Opens as Starts, Takes, Receives, Notices, does}
 use Rattle.def_run.specs.World as world
 use Rattle.def_run.specs.World.{Script, Program, Opens, Entry, Turn, Carry, CutLink, NoticeLink, Event, Turned, Idle, Carried, CutAt, NoticedAt, Link, World, Run, Goes, Stopped, names, names_of, read_note, events_of}
-use Rattle.law_fate.specs.Fate.{total}
-use Rattle.law_fate.proofs.RunAccount.{no_cut_line}
-use Rattle.law_fate.proofs.RunCounts.{pick}
-use Rattle.law_connected.specs.Begotten.{AreRoots, IsTaken}
-use Rattle.law_connected.proofs.Events.{IsNobodys, nobodys_join, lost_on_nobodys}
-use Rattle.law_connected.proofs.RunStems.{one_line}
+use Rattle.law_fate.specs.Fates.Fate.{total}
+use Rattle.law_fate.proofs.Fates.RunAccount.{no_cut_line}
+use Rattle.law_fate.proofs.Fates.RunCounts.{pick}
+use Rattle.law_uses.specs.Connectivity.Begotten.{AreRoots, IsTaken}
+use Rattle.law_uses.proofs.Connectivity.Events.{IsNobodys, nobodys_join, lost_on_nobodys}
+use Rattle.law_uses.proofs.Connectivity.RunStems.{one_line}
 use Rattle.law_uses.proofs.Uses.Kept.{is_carry, put_either}
 
 -- an opening turn is the first that its vat takes

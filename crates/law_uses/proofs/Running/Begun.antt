@@ -5,18 +5,18 @@ use Rattle.def_kernel.specs.declared.node.Node.{Node}
 use Rattle.def_machine.specs.Values.{Name, Root, Naming}
 use Rattle.def_machine.specs.State.{Binding, Message, Happened, Posted, Vat, Done, Gives, ◌>>=◌, and_then, give, new_activation}
 use Rattle.def_machine.specs.Eval as eval
-use Rattle.law_machine.specs.Steps.{Step, does, After}
-use Rattle.law_machine.proofs.Walks.{walk_bind}
-use Rattle.law_machine.proofs.Whole.{in_eval, in_eval_under, whole_resolve}
-use Rattle.law_machine.proofs.EvalWalk.{in_nodes, good_evaluator, walk_closes}
+use Rattle.law_machine.specs.Machine.Steps.{Step, does, After}
+use Rattle.law_machine.proofs.Machine.Walks.{walk_bind}
+use Rattle.law_machine.proofs.Machine.Whole.{in_eval, in_eval_under, whole_resolve}
+use Rattle.law_machine.proofs.Machine.EvalWalk.{in_nodes, good_evaluator, walk_closes}
 use Rattle.def_run.specs.World as world
 use Rattle.def_run.specs.World.{Script, Program, Event, Opens, Here, LostCut, Link, World, Run, Goes, Stopped, names, begins}
 use Rattle.def_run.specs.Text.{history_of}
-use Rattle.law_fate.specs.FateRuns.{Reached}
-use Rattle.law_connected.specs.Known.{AllOf}
-use Rattle.law_connected.specs.Activations.{begun_by, Rises}
-use Rattle.law_connected.proofs.Counts.{Counts, CountsBy, Ends, counts_whole}
-use Rattle.law_connected.proofs.StepCounts.{steps_count}
+use Rattle.law_fate.specs.Fates.FateRuns.{Reached}
+use Rattle.law_uses.specs.Connectivity.Known.{AllOf}
+use Rattle.law_uses.specs.Connectivity.Activations.{begun_by, Rises}
+use Rattle.law_uses.proofs.Connectivity.Counts.{Counts, CountsBy, Ends, counts_whole}
+use Rattle.law_uses.proofs.Connectivity.StepCounts.{steps_count}
 use Rattle.law_uses.proofs.Uses.Kept.{put_either}
 use Rattle.law_uses.proofs.Running.Course.{end_none, joined, IsNeutral, Opening, first, next, Course, opened, quiet, stepped, run_course}
 

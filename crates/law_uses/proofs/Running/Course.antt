@@ -5,13 +5,13 @@ use Rattle.def_machine.specs.Values.{Name, Root}
 use Rattle.def_machine.specs.State.{Message, Known, Note, Deliver, Open, Ask, SettledTo, Elsewhere, Shorten, Vat, Done, Gives}
 use Rattle.def_machine.specs.Arrive.{notice}
 use Rattle.def_machine.specs.Eval.{opening}
-use Rattle.law_machine.specs.Steps.{Step, Takes, Receives, Notices, does}
+use Rattle.law_machine.specs.Machine.Steps.{Step, Takes, Receives, Notices, does}
 use Rattle.def_run.specs.World as world
 use Rattle.def_run.specs.World.{Script, Program, Entry, Turn, Carry, CutLink, NoticeLink, Event, Opens, Turned, Idle, Carried, CutAt, NoticedAt, Here, LeftQueue, LeftHeld, LeftWait, LeftLink, Ends, Link, World, Run, Goes, Stopped, names, names_of, read_note, begins}
-use Rattle.law_machine.proofs.StepLaws.{get_append}
-use Rattle.law_fate.specs.FateRuns.{Reached}
-use Rattle.law_connected.specs.Known.{AllOf}
-use Rattle.law_connected.specs.Begotten.{IsTaken}
+use Rattle.law_machine.proofs.Machine.StepLaws.{get_append}
+use Rattle.law_fate.specs.Fates.FateRuns.{Reached}
+use Rattle.law_uses.specs.Connectivity.Known.{AllOf}
+use Rattle.law_uses.specs.Connectivity.Begotten.{IsTaken}
 
 -- a line of no vat's step that opens none
 abbrev pub IsNeutral : Event → Type 0

@@ -8,10 +8,10 @@ use Rattle.def_machine.specs.State.{Message, Happened, Took, Called, Back, Got, 
 use Rattle.def_run.specs.World.{Script, Event, Opens, Carried, Here, run}
 use Rattle.def_run.specs.Shown as show
 use Rattle.def_run.specs.Text.{shown_events, history_of}
-use Rattle.law_connected.specs.Known as machine
-use Rattle.law_connected.specs.Known.{Item, AValue, ASlot, AllOf, by, values, answers, data_of, tells}
-use Rattle.law_connected.specs.Activations.{begun_by}
-use Rattle.def_trace.specs.Uses.{Line, line_after, and_lines, place_after, place_of, Activation, Thing, AName, AList, Fact, Begun, Opened, Given, Captured, Audition, begun_call, captured, begins, makes, gains, given, TellsAnew, IsTold, IsAmong, things_of, things, lists_of}
+use Rattle.law_uses.specs.Connectivity.Known as machine
+use Rattle.law_uses.specs.Connectivity.Known.{Item, AValue, ASlot, AllOf, by, values, answers, data_of, tells}
+use Rattle.law_uses.specs.Connectivity.Activations.{begun_by}
+use Rattle.def_event.specs.Uses.{Line, line_after, and_lines, place_after, place_of, Activation, Thing, AName, AList, Fact, Begun, Opened, Given, Captured, Audition, begun_call, captured, begins, makes, gains, given, TellsAnew, IsTold, IsAmong, things_of, things, lists_of}
 use Rattle.law_uses.proofs.Uses.Lines.{lines_join, among_map}
 use Rattle.law_uses.proofs.Uses.Shown.{lines, shown_join, among_left, among_right}
 use Rattle.law_uses.proofs.Uses.Texts.{lines_stand}

@@ -9,10 +9,10 @@ use Rattle.def_machine.specs.State.{Message, Happened, Settles, Sends, Reacts, P
 use Rattle.def_run.specs.World.{Script, Event, Here, Carried, run}
 use Rattle.def_run.specs.Shown as show
 use Rattle.def_run.specs.Text.{shown_events, history_of}
-use Rattle.law_name.proofs.SameNames.{same_is, same_self}
-use Rattle.law_connected.specs.Known.{IsAmong, AllOf}
-use Rattle.def_trace.specs.Uses as uses
-use Rattle.def_trace.specs.Uses.{Line, line_after, and_lines, place_after, place_of, Given_for, IsGivenBy, IsFirstGivenBy, IsNext}
+use Rattle.law_fate.proofs.Name.SameNames.{same_is, same_self}
+use Rattle.law_uses.specs.Connectivity.Known.{IsAmong, AllOf}
+use Rattle.def_event.specs.Uses as uses
+use Rattle.def_event.specs.Uses.{Line, line_after, and_lines, place_after, place_of, Given_for, IsGivenBy, IsFirstGivenBy, IsNext}
 use Rattle.law_uses.proofs.Uses.Shown.{lines}
 use Rattle.law_uses.proofs.Uses.Texts.{lines_stand}
 use Rattle.law_uses.specs.Running.Running.{SettledApart}

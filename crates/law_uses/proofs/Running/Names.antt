@@ -5,28 +5,28 @@ use Rattle.std.specs.Prelude.{slice_get}
 use Rattle.def_machine.specs.Values.{Value, Name, Root, Object, Promise, Answer, Sent, Naming, naming, name_of, host_of, same_name, same_reference}
 use Rattle.def_machine.specs.State.{Message, Known, Resolver, Standing, Unsettled, Viewed, Settled, Happened, Vat, WhereSome}
 use Rattle.def_machine.specs.Refs.{standing_in, entry_of, standing_of}
-use Rattle.law_machine.specs.Steps.{Step, Opens, Takes}
+use Rattle.law_machine.specs.Machine.Steps.{Step, Opens, Takes}
 use Rattle.def_run.specs.World as world
 use Rattle.def_run.specs.World.{Script, Program, Entry, Event, World, Goes, names, begins}
-use Rattle.law_name.specs.Names as name
-use Rattle.law_name.specs.Names.{IsEventual, names_in, Everywhere, IsMade}
-use Rattle.law_name.specs.Runs.{KnowsOnce}
-use Rattle.law_name.proofs.Laws.{names_made}
-use Rattle.law_name.proofs.Among.{messages_at}
-use Rattle.law_name.proofs.SameNames.{reference_is, reference_self}
+use Rattle.law_fate.specs.Name.Names as name
+use Rattle.law_fate.specs.Name.Names.{IsEventual, names_in, Everywhere, IsMade}
+use Rattle.law_fate.specs.Name.Runs.{KnowsOnce}
+use Rattle.law_fate.proofs.Name.Laws.{names_made}
+use Rattle.law_fate.proofs.Name.Among.{messages_at}
+use Rattle.law_fate.proofs.Name.SameNames.{reference_is, reference_self}
 use Rattle.law_frozen.specs.Frozen as frozen
-use Rattle.law_reference.specs.Cuts.{NoticesFollowCuts}
-use Rattle.law_reference.specs.ListRingless.{IsAnswerName, IsView, Ringless}
-use Rattle.law_reference.specs.ListRingless as ringless
-use Rattle.law_reference.specs.Views.{ViewsWait}
-use Rattle.law_reference.proofs.ViewsRuns.{views_wait_in_runs}
-use Rattle.law_reference.proofs.ApartWhole.{known_once}
-use Rattle.law_reference.specs.NameTableRuns.{NamesDiffer}
-use Rattle.law_reference.proofs.VatStep.{Rings, Seen}
-use Rattle.law_reference.proofs.StepRings.{word}
-use Rattle.law_connected.specs.Known.{IsAmong}
-use Rattle.law_connected.specs.Settlings.{IsOwed}
-use Rattle.law_connected.specs.Begotten.{IsTaken, LineOf}
+use Rattle.law_reference.specs.Reference.Cuts.{NoticesFollowCuts}
+use Rattle.law_reference.specs.Reference.ListRingless.{IsAnswerName, IsView, Ringless}
+use Rattle.law_reference.specs.Reference.ListRingless as ringless
+use Rattle.law_reference.specs.Reference.Views.{ViewsWait}
+use Rattle.law_reference.proofs.Reference.ViewsRuns.{views_wait_in_runs}
+use Rattle.law_reference.proofs.Reference.ApartWhole.{known_once}
+use Rattle.law_reference.specs.Reference.NameTableRuns.{NamesDiffer}
+use Rattle.law_reference.proofs.Reference.VatStep.{Rings, Seen}
+use Rattle.law_reference.proofs.Reference.StepRings.{word}
+use Rattle.law_uses.specs.Connectivity.Known.{IsAmong}
+use Rattle.law_uses.specs.Connectivity.Settlings.{IsOwed}
+use Rattle.law_uses.specs.Connectivity.Begotten.{IsTaken, LineOf}
 use Rattle.law_uses.specs.Running.Runs.{IsRun}
 use Rattle.law_uses.specs.Running.Running.{PromisesAreOwn}
 use Rattle.law_uses.specs.Running.Resting.{IsTurn, WasKnown, NamesRest}

@@ -10,16 +10,16 @@ use Rattle.def_run.specs.World as world
 use Rattle.def_run.specs.World.{Script, Event, Here, Link, World, names, run}
 use Rattle.def_run.specs.Shown as show
 use Rattle.def_run.specs.Text.{shown_events, history_of}
-use Rattle.law_name.proofs.SameNames.{reference_is}
-use Rattle.law_connected.specs.Known as machine
-use Rattle.law_connected.specs.Known.{IsAmong, AreOne, Reaches, IsThing, called, took}
-use Rattle.law_connected.specs.Activations.{begun_by}
-use Rattle.law_connected.specs.Connected.{held_from}
-use Rattle.law_connected.specs.Begotten.{LineOf}
-use Rattle.law_connected.proofs.Events.{here_event}
-use Rattle.law_connected.proofs.FineSteps.{among_left, among_right}
-use Rattle.def_trace.specs.Uses as uses
-use Rattle.def_trace.specs.Uses.{Line, line_after, and_lines, place_after, place_of, Activation, Begun, IsTold, IsFollowed, there, further}
+use Rattle.law_fate.proofs.Name.SameNames.{reference_is}
+use Rattle.law_uses.specs.Connectivity.Known as machine
+use Rattle.law_uses.specs.Connectivity.Known.{IsAmong, AreOne, Reaches, IsThing, called, took}
+use Rattle.law_uses.specs.Connectivity.Activations.{begun_by}
+use Rattle.law_uses.specs.Connectivity.Connected.{held_from}
+use Rattle.law_uses.specs.Connectivity.Begotten.{LineOf}
+use Rattle.law_uses.proofs.Connectivity.Events.{here_event}
+use Rattle.law_uses.proofs.Connectivity.FineSteps.{among_left, among_right}
+use Rattle.def_event.specs.Uses as uses
+use Rattle.def_event.specs.Uses.{Line, line_after, and_lines, place_after, place_of, Activation, Begun, IsTold, IsFollowed, there, further}
 use Rattle.law_uses.proofs.Uses.Shown.{lines}
 use Rattle.law_uses.proofs.Uses.Texts.{lines_stand}
 use Rattle.law_uses.specs.Running.Facts.{activation}

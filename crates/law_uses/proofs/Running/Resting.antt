@@ -3,16 +3,16 @@ use Rattle.std.proofs.Common.{◌≡◌, ℕ, ◌≤◌, arith, true, List, [], 
 use Rattle.def_machine.specs.Values.{Words, Value, Broken, Ref, Name, Object, Answer, Own as IsOwn, Naming, naming, spot_of, answer_of, mail_of, name_of}
 use Rattle.def_machine.specs.State.{Message, Known, Viewed, Settled, Happened, Sends, Settles, Waits, Views, PromiseMade, Vat}
 use Rattle.def_machine.specs.Refs.{standing_of}
-use Rattle.law_machine.specs.Steps.{Step, Receives, Notices}
+use Rattle.law_machine.specs.Machine.Steps.{Step, Receives, Notices}
 use Rattle.def_run.specs.World as world
 use Rattle.def_run.specs.World.{Script, World, names}
-use Rattle.law_name.proofs.SameNames.{reference_is}
-use Rattle.law_connected.specs.Known.{IsAmong, AreOne, Start, Holdings, Leads, Reaches}
-use Rattle.law_connected.specs.Known as machine
-use Rattle.law_connected.specs.Settlings.{HasAnswer, IsGiven, Follows, Becomes, SettlesWell, WaitsWell, WaitsFor, Says, ViewsBy, IsResolver}
-use Rattle.law_connected.specs.Settlings as settlings
-use Rattle.law_connected.specs.Connected.{LineWell, ConnectedAfter, Connected, held_from}
-use Rattle.law_connected.specs.Begotten.{LineOf}
+use Rattle.law_fate.proofs.Name.SameNames.{reference_is}
+use Rattle.law_uses.specs.Connectivity.Known.{IsAmong, AreOne, Start, Holdings, Leads, Reaches}
+use Rattle.law_uses.specs.Connectivity.Known as machine
+use Rattle.law_uses.specs.Connectivity.Settlings.{HasAnswer, IsGiven, Follows, Becomes, SettlesWell, WaitsWell, WaitsFor, Says, ViewsBy, IsResolver}
+use Rattle.law_uses.specs.Connectivity.Settlings as settlings
+use Rattle.law_uses.specs.Connectivity.Connected.{LineWell, ConnectedAfter, Connected, held_from}
+use Rattle.law_uses.specs.Connectivity.Begotten.{LineOf}
 use Rattle.law_uses.specs.Running.Running.{SettledWay, WaysAreSettled}
 use Rattle.law_uses.specs.Running.Running as way
 use Rattle.law_uses.specs.Running.Resting.{IsTurn, WasKnown, NamesRest}

@@ -4,22 +4,22 @@ use Rattle.std.specs.Prelude.{slice_get}
 use Rattle.def_machine.specs.State.{is_in}
 use Rattle.def_run.specs.World as world
 use Rattle.def_run.specs.World.{Script, Program, Entry, Turn, Carry, CutLink, NoticeLink, Link, World, Run, Goes, Stopped, names, begins}
-use Rattle.law_name.specs.Runs.{KnowsOnce}
-use Rattle.law_name.proofs.Laws.{names_made, names_known, next_new, notes_made}
-use Rattle.law_fate.specs.Wellness.{WorldWell}
-use Rattle.law_fate.specs.Lasting.{Each, NoteWell}
-use Rattle.law_fate.specs.FateRuns.{Reached}
-use Rattle.law_fate.proofs.RunWell.{runs_stay_well}
+use Rattle.law_fate.specs.Name.Runs.{KnowsOnce}
+use Rattle.law_fate.proofs.Name.Laws.{names_made, names_known, next_new, notes_made}
+use Rattle.law_fate.specs.Fates.Wellness.{WorldWell}
+use Rattle.law_fate.specs.Fates.Lasting.{Each, NoteWell}
+use Rattle.law_fate.specs.Fates.FateRuns.{Reached}
+use Rattle.law_fate.proofs.Fates.RunWell.{runs_stay_well}
 use Rattle.law_frozen.proofs.RunSound.{WorldSound, step_sound, open_sound, begins_sound}
-use Rattle.law_reference.specs.Cuts.{NoticesFollow, NoticesFollowCuts}
-use Rattle.law_reference.proofs.HostsRuns.{hosts_rest_in_runs}
-use Rattle.law_reference.proofs.NoticedRuns.{noticed_links_cut}
-use Rattle.law_reference.proofs.NotesRuns.{notes_name_ends}
-use Rattle.law_reference.proofs.NotesSpared.{notes_spared}
-use Rattle.law_reference.proofs.RingStart.{begins_by}
-use Rattle.law_reference.proofs.VatStep.{RingsBy, Rings}
-use Rattle.law_reference.proofs.Around.{Around, each_all}
-use Rattle.law_reference.proofs.StepRings.{word, NoDraws, step_rings, open_rings, weaken_all}
+use Rattle.law_reference.specs.Reference.Cuts.{NoticesFollow, NoticesFollowCuts}
+use Rattle.law_reference.proofs.Reference.HostsRuns.{hosts_rest_in_runs}
+use Rattle.law_reference.proofs.Reference.NoticedRuns.{noticed_links_cut}
+use Rattle.law_reference.proofs.Reference.NotesRuns.{notes_name_ends}
+use Rattle.law_reference.proofs.Reference.NotesSpared.{notes_spared}
+use Rattle.law_reference.proofs.Reference.RingStart.{begins_by}
+use Rattle.law_reference.proofs.Reference.VatStep.{RingsBy, Rings}
+use Rattle.law_reference.proofs.Reference.Around.{Around, each_all}
+use Rattle.law_reference.proofs.Reference.StepRings.{word, NoDraws, step_rings, open_rings, weaken_all}
 use Rattle.law_uses.specs.Running.Runs.{IsEntered, IsRun}
 
 world_is : (w x : World) → Goes w ≡ Goes x → w ≡ x

@@ -7,16 +7,16 @@ use Rattle.def_machine.specs.State.{Thing, Made, Resolver, Audition, Ejector, Me
 use Rattle.def_machine.specs.Refs as refs
 use Rattle.def_machine.specs.Refs.{standing_in, entry_of, standing_of, settle, target_of}
 use Rattle.def_machine.specs.Scopes.{ended}
-use Rattle.law_machine.specs.Laws.{SettledStays}
-use Rattle.law_machine.specs.Steps.{Step, Opens, Takes, Receives, Notices, does, After}
-use Rattle.law_machine.proofs.StepLaws.{settled_names, settled_entry, standing_found}
-use Rattle.law_machine.proofs.Walks.{Property, Holds, IsClosed, IsEnding, IsOfRefs, IsOfEval, InRefs, InRefsUnder, InSettling, InArrive, InArriveUnder, InEval, InEvalUnder, walk_then, walk_bind, walk_each, where_some}
-use Rattle.law_machine.proofs.Blocks.{ends_by_lines, audits_by_kills, escapes_by_kills, resolves_always}
-use Rattle.law_machine.proofs.RefsWalk.{walk_send_on, walk_inform, walk_settle, walk_resolve, walk_send_first, walk_react_at}
-use Rattle.law_machine.proofs.ArriveWalk.{lists_by_line, walk_arrive, walk_notice}
-use Rattle.law_machine.proofs.EvalWalk.{walk_opening, walk_taking}
-use Rattle.law_connected.specs.Known.{IsAmong}
-use Rattle.law_connected.proofs.Events.{among_either}
+use Rattle.law_machine.specs.Machine.Laws.{SettledStays}
+use Rattle.law_machine.specs.Machine.Steps.{Step, Opens, Takes, Receives, Notices, does, After}
+use Rattle.law_machine.proofs.Machine.StepLaws.{settled_names, settled_entry, standing_found}
+use Rattle.law_machine.proofs.Machine.Walks.{Property, Holds, IsClosed, IsEnding, IsOfRefs, IsOfEval, InRefs, InRefsUnder, InSettling, InArrive, InArriveUnder, InEval, InEvalUnder, walk_then, walk_bind, walk_each, where_some}
+use Rattle.law_machine.proofs.Machine.Blocks.{ends_by_lines, audits_by_kills, escapes_by_kills, resolves_always}
+use Rattle.law_machine.proofs.Machine.RefsWalk.{walk_send_on, walk_inform, walk_settle, walk_resolve, walk_send_first, walk_react_at}
+use Rattle.law_machine.proofs.Machine.ArriveWalk.{lists_by_line, walk_arrive, walk_notice}
+use Rattle.law_machine.proofs.Machine.EvalWalk.{walk_opening, walk_taking}
+use Rattle.law_uses.specs.Connectivity.Known.{IsAmong}
+use Rattle.law_uses.proofs.Connectivity.Events.{among_either}
 use Rattle.law_uses.proofs.Running.Course.{end_none, joined}
 
 -- it tells of no settling, of no message that is taken, of no send and of no call

@@ -7,15 +7,15 @@ use Rattle.def_machine.specs.Refs.{standing_in, entry_of, standing_of}
 use Rattle.def_machine.specs.Scopes.{Evaluator}
 use Rattle.def_machine.specs.Calls as calls
 use Rattle.def_machine.specs.Eval as eval
-use Rattle.law_machine.specs.Steps.{Step, Takes, Receives, Notices, does}
+use Rattle.law_machine.specs.Machine.Steps.{Step, Takes, Receives, Notices, does}
 use Rattle.def_run.specs.World as world
 use Rattle.def_run.specs.World.{Script, World, names}
-use Rattle.law_name.proofs.SameNames.{reference_is}
-use Rattle.law_connected.specs.Known.{IsAmong}
-use Rattle.law_connected.specs.Begotten.{LineOf}
-use Rattle.law_connected.specs.Stems.{HasLine}
-use Rattle.law_connected.specs.MessageLaws.{IsToldStanding, AllStem}
-use Rattle.law_connected.proofs.Events.{all_at}
+use Rattle.law_fate.proofs.Name.SameNames.{reference_is}
+use Rattle.law_uses.specs.Connectivity.Known.{IsAmong}
+use Rattle.law_uses.specs.Connectivity.Begotten.{LineOf}
+use Rattle.law_uses.specs.Connectivity.Stems.{HasLine}
+use Rattle.law_uses.specs.Connectivity.MessageLaws.{IsToldStanding, AllStem}
+use Rattle.law_uses.proofs.Connectivity.Events.{all_at}
 use Rattle.law_uses.specs.Running.Running.{TakesAreOnObjects, StandingsAreTold}
 use Rattle.law_uses.specs.Running.Resting.{IsTurn}
 use Rattle.law_uses.proofs.Running.Standing.{Tells, MayTake, steps_tell}

@@ -4,13 +4,13 @@ use Rattle.std.specs.Prelude.{slice_get}
 use Rattle.def_machine.specs.Values.{Value, Name, Root, Naming}
 use Rattle.def_machine.specs.State.{Message, Standing, Settled, Happened, Settles, Vat, Done, Gives}
 use Rattle.def_machine.specs.Refs.{standing_of}
-use Rattle.law_machine.specs.Steps.{Step, Opens as Starts, Takes, does, After}
+use Rattle.law_machine.specs.Machine.Steps.{Step, Opens as Starts, Takes, does, After}
 use Rattle.def_run.specs.World as world
 use Rattle.def_run.specs.World.{Script, Event, Opens, Here, Link, World, Run, Goes, Stopped, names, begins, run}
 use Rattle.def_run.specs.Text.{history_of}
-use Rattle.law_fate.specs.FateRuns.{Reached}
-use Rattle.law_connected.specs.Known.{IsAmong, AllOf}
-use Rattle.law_connected.proofs.Events.{all_at, among_either, events_here}
+use Rattle.law_fate.specs.Fates.FateRuns.{Reached}
+use Rattle.law_uses.specs.Connectivity.Known.{IsAmong, AllOf}
+use Rattle.law_uses.proofs.Connectivity.Events.{all_at, among_either, events_here}
 use Rattle.law_uses.proofs.Uses.Kept.{put_either}
 use Rattle.law_uses.specs.Running.Settled.{SettlingsStand, SettlingsStandInRuns}
 use Rattle.law_uses.proofs.Running.Course.{IsNeutral, Opening, first, next, Course, opened, quiet, stepped, opened_course, entered_course, ended_course, run_course}

@@ -4,26 +4,26 @@ use Rattle.std.specs.Prelude.{slice_get}
 use Rattle.def_machine.specs.Values.{Words, Value, Ref, Name, Object}
 use Rattle.def_machine.specs.State.{Known, Settled, Happened, Called, Settles, Vat, Done, Gives}
 use Rattle.def_machine.specs.Refs.{standing_of}
-use Rattle.law_machine.specs.Steps.{does, After}
+use Rattle.law_machine.specs.Machine.Steps.{does, After}
 use Rattle.def_run.specs.World as world
 use Rattle.def_run.specs.World.{Script, Event, Here, World, Run, Goes, Stopped, names, begins, run}
 use Rattle.def_run.specs.Shown.{shown_name}
 use Rattle.def_run.specs.Text.{history_of}
-use Rattle.law_name.specs.Names.{IsEventual}
-use Rattle.law_name.specs.Runs.{KnowsOnce}
-use Rattle.law_fate.specs.FateRuns.{Reached}
-use Rattle.law_connected.specs.Known.{IsAmong, IsThing, called, took}
-use Rattle.law_connected.specs.Known as machine
-use Rattle.law_connected.specs.Liveness.{live_at}
-use Rattle.law_connected.specs.Connected.{Connected, held_from}
-use Rattle.law_connected.specs.Begotten.{LineOf}
-use Rattle.law_connected.specs.Runs.{NothingLive}
-use Rattle.law_connected.specs.MessageLaws.{AllStem}
-use Rattle.law_connected.proofs.RunStems.{messages_stem}
-use Rattle.law_connected.proofs.RunDies.{opened_still, run_still}
-use Rattle.law_connected.proofs.FineSteps.{steps_connect}
-use Rattle.law_connected.proofs.FineRuns.{own_spots}
-use Rattle.def_trace.specs.Uses as uses
+use Rattle.law_fate.specs.Name.Names.{IsEventual}
+use Rattle.law_fate.specs.Name.Runs.{KnowsOnce}
+use Rattle.law_fate.specs.Fates.FateRuns.{Reached}
+use Rattle.law_uses.specs.Connectivity.Known.{IsAmong, IsThing, called, took}
+use Rattle.law_uses.specs.Connectivity.Known as machine
+use Rattle.law_uses.specs.Connectivity.Liveness.{live_at}
+use Rattle.law_uses.specs.Connectivity.Connected.{Connected, held_from}
+use Rattle.law_uses.specs.Connectivity.Begotten.{LineOf}
+use Rattle.law_uses.specs.Connectivity.Runs.{NothingLive}
+use Rattle.law_uses.specs.Connectivity.MessageLaws.{AllStem}
+use Rattle.law_uses.proofs.Connectivity.RunStems.{messages_stem}
+use Rattle.law_uses.proofs.Connectivity.RunDies.{opened_still, run_still}
+use Rattle.law_uses.proofs.Connectivity.FineSteps.{steps_connect}
+use Rattle.law_uses.proofs.Connectivity.FineRuns.{own_spots}
+use Rattle.def_event.specs.Uses as uses
 use Rattle.law_uses.specs.Running.Facts.{lines_of, activation}
 use Rattle.law_uses.specs.Running.Runs.{IsRun}
 use Rattle.law_uses.specs.Running.Running.{SettledApart, ObjectsSettleNot, WaysAreSettled, CallsAreOnObjects, PromisesAreOwn, StandingsAreTold, HasEachLine, TurnsTellWhatRuns, events_before}

@@ -6,10 +6,10 @@ use Rattle.def_machine.specs.Refs.{standing_in, entry_of, standing_of}
 use Rattle.def_run.specs.World.{Script, World, Run, Goes, Stopped, Here, names, run}
 use Rattle.def_run.specs.Shown.{shown_name}
 use Rattle.def_run.specs.Text.{history_of, draws_of}
-use Rattle.law_fate.specs.FateRuns.{Reached}
-use Rattle.law_name.specs.Names.{IsAmong, names_in}
-use Rattle.law_name.proofs.SameNames.{reference_is}
-use Rattle.law_connected.specs.Known as events
+use Rattle.law_fate.specs.Fates.FateRuns.{Reached}
+use Rattle.law_fate.specs.Name.Names.{IsAmong, names_in}
+use Rattle.law_fate.proofs.Name.SameNames.{reference_is}
+use Rattle.law_uses.specs.Connectivity.Known as events
 use Rattle.law_uses.proofs.Running.Course.{Course, run_course}
 use Rattle.law_uses.proofs.Running.Stood.{course_stand, course_vats}
 use Rattle.law_uses.specs.ShownApart.ShownApart.{ShownApart}

@@ -5,11 +5,11 @@ use Rattle.def_machine.specs.Values.{Name}
 use Rattle.def_machine.specs.State.{Message, Note, Vat, Act, Done, Gives}
 use Rattle.def_run.specs.World as world
 use Rattle.def_run.specs.World.{Script, Program, Entry, Turn, Carry, CutLink, NoticeLink, Event, Link, World, Run, Goes as Going, Stopped}
-use Rattle.law_fate.specs.FateRuns.{Reached}
-use Rattle.law_name.proofs.Among.{length_end}
-use Rattle.law_reference.specs.Cuts.{NoticesFollowCuts}
-use Rattle.law_reference.proofs.AskHolds.{notices_front}
-use Rattle.law_reference.proofs.Moves.{opens_end, steps_end}
+use Rattle.law_fate.specs.Fates.FateRuns.{Reached}
+use Rattle.law_fate.proofs.Name.Among.{length_end}
+use Rattle.law_reference.specs.Reference.Cuts.{NoticesFollowCuts}
+use Rattle.law_reference.proofs.Reference.AskHolds.{notices_front}
+use Rattle.law_reference.proofs.Reference.Moves.{opens_end, steps_end}
 use Rattle.law_uses.specs.ShownApart.ShownApart.{ShownApart, KnownNamesAreShownApart}
 use Rattle.law_uses.proofs.ShownApart.Shown.{opened_apart, stepped_apart}
 

@@ -2,25 +2,25 @@
 use Rattle.std.proofs.Common.{◌≡◌, ℕ, zero, List, [], ◌∷◌, ◌++◌, Option, Some, refl}
 use Rattle.def_machine.specs.Values.{Name}
 use Rattle.def_machine.specs.State.{Note, Vat}
-use Rattle.law_machine.specs.Steps.{Step, Receives}
+use Rattle.law_machine.specs.Machine.Steps.{Step, Receives}
 use Rattle.def_run.specs.World as world
 use Rattle.def_run.specs.World.{Script, Program, Link, World, Entry, Goes as Going, names_of, read_note, put_at, push_all, with_link, with_notes, severed_link, link_at}
-use Rattle.law_fate.specs.Lasting.{Each}
-use Rattle.law_name.specs.Names.{AllOf, NoteOk}
-use Rattle.law_name.specs.Runs.{KnowsOnce}
-use Rattle.law_name.proofs.Facts.{MayBe}
-use Rattle.law_name.proofs.Run.{link_holds}
-use Rattle.law_reference.specs.GiftPassing.{Provides}
-use Rattle.law_reference.specs.Hiding.{Spares}
-use Rattle.law_reference.proofs.FollowRuns.{tail_of}
-use Rattle.law_reference.proofs.LegRuns.{stands_of}
-use Rattle.law_reference.proofs.Moves.{Moved, Still, Severs, Drops, Steps, Arrives, IsAlone, Does, opened_hold, stepped_hold}
-use Rattle.law_reference.proofs.GiftLinks.{LinkTells, with_link_tells, severed_tells, taken_tells, found_tells}
-use Rattle.law_reference.proofs.GiftLaws.{fits_opened}
-use Rattle.law_reference.proofs.StepsPuts.{later}
-use Rattle.law_reference.proofs.AskRuns.{Past}
-use Rattle.law_reference.proofs.AskHolds.{opened_past, stepped_past}
-use Rattle.law_reference.proofs.HideMoves.{HiddenAt, notes_severed, notes_taken, alone_hides}
+use Rattle.law_fate.specs.Fates.Lasting.{Each}
+use Rattle.law_fate.specs.Name.Names.{AllOf, NoteOk}
+use Rattle.law_fate.specs.Name.Runs.{KnowsOnce}
+use Rattle.law_fate.proofs.Name.Facts.{MayBe}
+use Rattle.law_fate.proofs.Name.Run.{link_holds}
+use Rattle.law_reference.specs.Reference.GiftPassing.{Provides}
+use Rattle.law_reference.specs.Reference.Hiding.{Spares}
+use Rattle.law_reference.proofs.Reference.FollowRuns.{tail_of}
+use Rattle.law_reference.proofs.Reference.LegRuns.{stands_of}
+use Rattle.law_reference.proofs.Reference.Moves.{Moved, Still, Severs, Drops, Steps, Arrives, IsAlone, Does, opened_hold, stepped_hold}
+use Rattle.law_reference.proofs.Reference.GiftLinks.{LinkTells, with_link_tells, severed_tells, taken_tells, found_tells}
+use Rattle.law_reference.proofs.Reference.GiftLaws.{fits_opened}
+use Rattle.law_reference.proofs.Reference.StepsPuts.{later}
+use Rattle.law_reference.proofs.Reference.AskRuns.{Past}
+use Rattle.law_reference.proofs.Reference.AskHolds.{opened_past, stepped_past}
+use Rattle.law_reference.proofs.Reference.HideMoves.{HiddenAt, notes_severed, notes_taken, alone_hides}
 use Rattle.law_uses.proofs.ShownApart.Provided.{HasKeys, hidden_before, step_keyed, alone_fair, arrived}
 
 -- ---- the first note of a link

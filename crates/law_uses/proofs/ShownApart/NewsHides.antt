@@ -8,13 +8,13 @@ use Rattle.def_machine.specs.Arrive as arrive
 use Rattle.def_machine.specs.Arrive.{Old, New}
 use Rattle.def_machine.proofs.Keys.{provider_under}
 use Rattle.def_run.specs.World as world
-use Rattle.law_name.proofs.Facts.{Fact, Nothing, IsName, IsGiven, nothing}
-use Rattle.law_name.proofs.Care.{Care, Under, Sound, Ends, Gets, Fine, widen, fine_bind, fine_then, fine_tell, fine_out, fine_wait, changes_ok, with_known}
-use Rattle.law_name.proofs.CareRefs.{fine_settle}
-use Rattle.law_name.proofs.CareArrive.{fine_gift_there}
-use Rattle.law_reference.specs.Hiding.{IsNotOf, Shuns}
-use Rattle.law_reference.proofs.HideCare.{Hides, not_other, hides_under, hides_gives}
-use Rattle.law_reference.proofs.ArrivePuts.{told_host}
+use Rattle.law_fate.proofs.Name.Facts.{Fact, Nothing, IsName, IsGiven, nothing}
+use Rattle.law_fate.proofs.Name.Care.{Care, Under, Sound, Ends, Gets, Fine, widen, fine_bind, fine_then, fine_tell, fine_out, fine_wait, changes_ok, with_known}
+use Rattle.law_fate.proofs.Name.CareRefs.{fine_settle}
+use Rattle.law_fate.proofs.Name.CareArrive.{fine_gift_there}
+use Rattle.law_reference.specs.Reference.Hiding.{IsNotOf, Shuns}
+use Rattle.law_reference.proofs.Reference.HideCare.{Hides, not_other, hides_under, hides_gives}
+use Rattle.law_reference.proofs.Reference.ArrivePuts.{told_host}
 
 module _ (i v : ℕ) (word : ℕ → ℕ) where
   abbrev S : Care Name

@@ -2,10 +2,10 @@
 use Rattle.std.proofs.Common.{◌≡◌, ℕ, List}
 use Rattle.def_machine.specs.Values.{Name}
 use Rattle.def_machine.specs.State.{Passed, Passeds, Plain, AGift, Many, NoMore, More, Note, Deliver, Open, SettledTo}
-use Rattle.law_name.specs.Names.{PassedOk, PassedsOk, NoteOk}
-use Rattle.law_reference.specs.GiftPassing.{IsProvidedBy, PassesFrom, AllPassFrom, Provides}
-use Rattle.law_reference.specs.Hiding.{IsNotOf, Spares}
-use Rattle.law_reference.proofs.Arrivals.{PassedTells, PassedsTell, NoteTells, value_tells}
+use Rattle.law_fate.specs.Name.Names.{PassedOk, PassedsOk, NoteOk}
+use Rattle.law_reference.specs.Reference.GiftPassing.{IsProvidedBy, PassesFrom, AllPassFrom, Provides}
+use Rattle.law_reference.specs.Reference.Hiding.{IsNotOf, Spares}
+use Rattle.law_reference.proofs.Reference.Arrivals.{PassedTells, PassedsTell, NoteTells, value_tells}
 
 module _ (i : ℕ) (P : ℕ → ℕ) (d : List ℕ) (other : (j p : ℕ) → IsProvidedBy P d j p → j ≡ i → ⊥) (v w : ℕ) where
   mutual

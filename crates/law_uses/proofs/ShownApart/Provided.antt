@@ -3,26 +3,26 @@ use Rattle.std.proofs.Common.{◌≡◌, ℕ, zero, Bool, true, false, List, Som
 use Rattle.std.specs.Prelude.{slice_get}
 use Rattle.def_machine.specs.Values.{Name, word_of, provider_of}
 use Rattle.def_machine.specs.State.{Note, Deliver, Open, Ask, SettledTo, Elsewhere, Shorten, Put, GiftEntry, Vat, Done, Gives, is_in}
-use Rattle.law_machine.specs.Steps.{Step, Opens as Starts, Takes, Receives, Notices, does, After}
+use Rattle.law_machine.specs.Machine.Steps.{Step, Opens as Starts, Takes, Receives, Notices, does, After}
 use Rattle.def_run.specs.Draws.{draw_word}
 use Rattle.def_run.specs.World as world
 use Rattle.def_run.specs.World.{Script, Link, World, names, names_of, read_note, readied, put_at, push_all}
-use Rattle.law_fate.specs.Lasting.{Each}
-use Rattle.law_name.specs.Names.{WasDrawn, NoteOk, Everywhere}
-use Rattle.law_name.proofs.Facts.{nothing}
-use Rattle.law_name.proofs.Care.{Ends, Sound}
-use Rattle.law_name.proofs.Run.{Stands}
-use Rattle.law_reference.specs.GiftPassing.{gifts_in_note, IsProvidedBy, Provides, IsProvided}
-use Rattle.law_reference.specs.Hiding.{Shuns, Spares}
-use Rattle.law_reference.proofs.Arrivals.{IsNews}
-use Rattle.law_reference.proofs.Moves.{IsAlone, Does}
-use Rattle.law_reference.proofs.Follow.{put_cases}
-use Rattle.law_reference.proofs.GiftLinks.{LinkTells, push_all_tells}
-use Rattle.law_reference.proofs.Puts.{AllStay, Fair, each_up, provides_up, in_among, among_in}
-use Rattle.law_reference.proofs.ArrivePuts.{told_host, news_of_gone, news_of_view, fair_notice}
-use Rattle.law_reference.proofs.StepsPuts.{later, later_new, later_up, fair_taking, fair_opening, arrival_ends}
-use Rattle.law_reference.proofs.HideCare.{Hides, note_hides}
-use Rattle.law_reference.proofs.HideMoves.{HiddenAt, new_hidden, hidden_next, note_old}
+use Rattle.law_fate.specs.Fates.Lasting.{Each}
+use Rattle.law_fate.specs.Name.Names.{WasDrawn, NoteOk, Everywhere}
+use Rattle.law_fate.proofs.Name.Facts.{nothing}
+use Rattle.law_fate.proofs.Name.Care.{Ends, Sound}
+use Rattle.law_fate.proofs.Name.Run.{Stands}
+use Rattle.law_reference.specs.Reference.GiftPassing.{gifts_in_note, IsProvidedBy, Provides, IsProvided}
+use Rattle.law_reference.specs.Reference.Hiding.{Shuns, Spares}
+use Rattle.law_reference.proofs.Reference.Arrivals.{IsNews}
+use Rattle.law_reference.proofs.Reference.Moves.{IsAlone, Does}
+use Rattle.law_reference.proofs.Reference.Follow.{put_cases}
+use Rattle.law_reference.proofs.Reference.GiftLinks.{LinkTells, push_all_tells}
+use Rattle.law_reference.proofs.Reference.Puts.{AllStay, Fair, each_up, provides_up, in_among, among_in}
+use Rattle.law_reference.proofs.Reference.ArrivePuts.{told_host, news_of_gone, news_of_view, fair_notice}
+use Rattle.law_reference.proofs.Reference.StepsPuts.{later, later_new, later_up, fair_taking, fair_opening, arrival_ends}
+use Rattle.law_reference.proofs.Reference.HideCare.{Hides, note_hides}
+use Rattle.law_reference.proofs.Reference.HideMoves.{HiddenAt, new_hidden, hidden_next, note_old}
 use Rattle.law_uses.proofs.ShownApart.NotesSpare.{note_spares}
 use Rattle.law_uses.proofs.ShownApart.NewsHides.{news_by}
 

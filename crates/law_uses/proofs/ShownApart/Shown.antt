@@ -8,18 +8,18 @@ use Rattle.def_machine.specs.State.{GiftEntry, Vat}
 use Rattle.def_machine.proofs.Keys.{key_of}
 use Rattle.def_run.specs.World.{Script, Program, Entry, World, Goes, begins, open_from, steps_from}
 use Rattle.def_run.specs.Shown.{place_of, shown_name, shown_gift, msg_of}
-use Rattle.law_fate.specs.Lasting.{Each}
-use Rattle.law_name.specs.Names.{IsAmong, AllOf, WasDrawn, IsEventual, names_in}
-use Rattle.law_name.specs.Runs.{KnowsOnce}
-use Rattle.law_name.proofs.Run.{Had, name_had}
-use Rattle.law_reference.specs.Cuts.{NoticesFollowCuts}
-use Rattle.law_reference.specs.GiftPassing.{IsProvidedBy, IsProvided}
-use Rattle.law_reference.specs.Hiding.{Shuns}
-use Rattle.law_reference.specs.Standing.{IsEntered}
-use Rattle.law_reference.proofs.LegRuns.{stands_of}
-use Rattle.law_reference.proofs.AskRuns.{Past}
-use Rattle.law_reference.proofs.AskHolds.{opened_past, stepped_past}
-use Rattle.law_reference.proofs.ApartWhole.{own_stand}
+use Rattle.law_fate.specs.Fates.Lasting.{Each}
+use Rattle.law_fate.specs.Name.Names.{IsAmong, AllOf, WasDrawn, IsEventual, names_in}
+use Rattle.law_fate.specs.Name.Runs.{KnowsOnce}
+use Rattle.law_fate.proofs.Name.Run.{Had, name_had}
+use Rattle.law_reference.specs.Reference.Cuts.{NoticesFollowCuts}
+use Rattle.law_reference.specs.Reference.GiftPassing.{IsProvidedBy, IsProvided}
+use Rattle.law_reference.specs.Reference.Hiding.{Shuns}
+use Rattle.law_reference.specs.Reference.Standing.{IsEntered}
+use Rattle.law_reference.proofs.Reference.LegRuns.{stands_of}
+use Rattle.law_reference.proofs.Reference.AskRuns.{Past}
+use Rattle.law_reference.proofs.Reference.AskHolds.{opened_past, stepped_past}
+use Rattle.law_reference.proofs.Reference.ApartWhole.{own_stand}
 use Rattle.law_uses.specs.ShownApart.ShownApart.{KnowsProviders, EachKnownGiftTellsItsProvider, ShownApart}
 use Rattle.law_uses.proofs.ShownApart.Provided.{Keyed}
 use Rattle.law_uses.proofs.ShownApart.Moving.{opened_keyed, stepped_keyed}

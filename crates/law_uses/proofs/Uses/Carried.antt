@@ -6,8 +6,8 @@ use Rattle.def_machine.specs.Values.{Value, Items, Ref, Name, Gift, word_of}
 use Rattle.def_machine.specs.State.{Passed, Passeds, Plain, AGift, Many, NoMore, More, Happened, Settles, Views}
 use Rattle.def_run.specs.World.{Event, Here}
 use Rattle.def_run.specs.Shown as show
-use Rattle.law_connected.specs.Stems.{LeadsTo, itself, settled, viewed, PassesAs, PassAll, ComesAs, ComeAll}
-use Rattle.def_trace.specs.Uses.{IsAmong, Listed, Settled, Thing, AName, AList, Reaches, onward, things_of, things, parts, all_parts, is_gift}
+use Rattle.law_uses.specs.Connectivity.Stems.{LeadsTo, itself, settled, viewed, PassesAs, PassAll, ComesAs, ComeAll}
+use Rattle.def_event.specs.Uses.{IsAmong, Listed, Settled, Thing, AName, AList, Reaches, onward, things_of, things, parts, all_parts, is_gift}
 use Rattle.law_uses.proofs.Uses.Shown.{among_left, among_right, among_either, lines, LeadsOn, settles_lead, views_lead, ListTold, list_leads}
 use Rattle.law_uses.proofs.Uses.Comes.{NoItems, NoList, NoLists, many_parts, gift_parts, plain_parts}
 

@@ -11,8 +11,8 @@ use Rattle.def_machine.specs.Values.{Value, Null, Items, Ref, Name, Gift}
 use Rattle.def_machine.specs.State.{Passed, Passeds, Plain, AGift, Many, NoMore, More, Happened}
 use Rattle.def_run.specs.World.{Event}
 use Rattle.def_run.specs.Shown as show
-use Rattle.law_connected.specs.Stems.{PassesAs, PassAll, ComesAs, ComeAll}
-use Rattle.def_trace.specs.Uses.{IsAmong, Lead, Listed, Thing, AName, AList, Reaches, start, onward, IsListed, StandsIn, things_of, things, parts, all_parts}
+use Rattle.law_uses.specs.Connectivity.Stems.{PassesAs, PassAll, ComesAs, ComeAll}
+use Rattle.def_event.specs.Uses.{IsAmong, Lead, Listed, Thing, AName, AList, Reaches, start, onward, IsListed, StandsIn, things_of, things, parts, all_parts}
 use Rattle.law_uses.proofs.Uses.Shown.{among_left, among_right, among_either, lines, ListTold, list_leads, leads_listed}
 
 -- ---- no list passes by its number

@@ -12,10 +12,10 @@ use Rattle.def_machine.specs.Values.{Words}
 use Rattle.def_run.specs.World.{Event, Here, Carried}
 use Rattle.def_run.specs.Shown as show
 use Rattle.def_run.specs.Text.{shown_events}
-use Rattle.law_connected.specs.Known.{IsAmong}
-use Rattle.law_fate.specs.Fate.{once, one, total, sent_by, sent_here, of_note, in_note}
-use Rattle.law_fate.specs.Carry.{carried_by}
-use Rattle.def_trace.specs.Uses.{AName, all_parts, had, carried_with, delivered_with, delivered, sent_with, of_message, same_message, or_else, first_of, last_of}
+use Rattle.law_uses.specs.Connectivity.Known.{IsAmong}
+use Rattle.law_fate.specs.Fates.Fate.{once, one, total, sent_by, sent_here, of_note, in_note}
+use Rattle.law_fate.specs.Fates.Carry.{carried_by}
+use Rattle.def_event.specs.Uses.{AName, all_parts, had, carried_with, delivered_with, delivered, sent_with, of_message, same_message, or_else, first_of, last_of}
 use Rattle.law_uses.proofs.Uses.Lines.{last_join, first_join}
 
 -- ---- messages by their names

@@ -10,21 +10,21 @@ use Rattle.def_run.specs.World as world
 use Rattle.def_run.specs.World.{Event, Here, LostCut, Carried, Link, World}
 use Rattle.def_run.specs.Shown as show
 use Rattle.def_run.specs.Text.{shown_events}
-use Rattle.law_machine.specs.Steps.{Step}
-use Rattle.law_fate.specs.Fate.{total, places, takes, sent as sendings, sent_by, sent_here, of_note, in_note, one}
-use Rattle.law_fate.specs.Carry.{carried_by}
-use Rattle.law_fate.proofs.RunCounts.{pick, total_append, numbered_once}
-use Rattle.law_fate.proofs.RunAccount.{Fated}
-use Rattle.law_connected.specs.Known.{IsAmong, AllOf}
-use Rattle.law_connected.specs.News.{list_made, Adds}
-use Rattle.law_connected.specs.Stems.{LeadsTo, itself, HasLine, HasList, HasOpened, ComeAll}
-use Rattle.law_connected.proofs.Passing.{Kept, kept_all, all_map, all_end, leads_map, leads_on, pass_all_map}
-use Rattle.law_connected.proofs.Moments.{Past, Line, Members, Offers, Came, Fine, ReactionFine, QueuedFine, NoteFine, KnownFine, Good, IsTaken, TookFine, stand_map}
-use Rattle.law_connected.proofs.Events.{among_either, events_here, here_event, IsNobodys, all_at}
-use Rattle.law_connected.proofs.FineSteps.{among_left, among_right}
-use Rattle.law_connected.proofs.RunStems.{Grows, push_stems, put_each}
-use Rattle.def_trace.specs.Uses as uses
-use Rattle.def_trace.specs.Uses.{Line as TextLine, and_lines, place_of, Thing, AName, parts, all_parts, arguments_in, had, carried_with, sent_with, StandsIn, CarriesSent, delivered, delivered_with, first_of, last_of, or_else}
+use Rattle.law_machine.specs.Machine.Steps.{Step}
+use Rattle.law_fate.specs.Fates.Fate.{total, places, takes, sent as sendings, sent_by, sent_here, of_note, in_note, one}
+use Rattle.law_fate.specs.Fates.Carry.{carried_by}
+use Rattle.law_fate.proofs.Fates.RunCounts.{pick, total_append, numbered_once}
+use Rattle.law_fate.proofs.Fates.RunAccount.{Fated}
+use Rattle.law_uses.specs.Connectivity.Known.{IsAmong, AllOf}
+use Rattle.law_uses.specs.Connectivity.News.{list_made, Adds}
+use Rattle.law_uses.specs.Connectivity.Stems.{LeadsTo, itself, HasLine, HasList, HasOpened, ComeAll}
+use Rattle.law_uses.proofs.Connectivity.Passing.{Kept, kept_all, all_map, all_end, leads_map, leads_on, pass_all_map}
+use Rattle.law_uses.proofs.Connectivity.Moments.{Past, Line, Members, Offers, Came, Fine, ReactionFine, QueuedFine, NoteFine, KnownFine, Good, IsTaken, TookFine, stand_map}
+use Rattle.law_uses.proofs.Connectivity.Events.{among_either, events_here, here_event, IsNobodys, all_at}
+use Rattle.law_uses.proofs.Connectivity.FineSteps.{among_left, among_right}
+use Rattle.law_uses.proofs.Connectivity.RunStems.{Grows, push_stems, put_each}
+use Rattle.def_event.specs.Uses as uses
+use Rattle.def_event.specs.Uses.{Line as TextLine, and_lines, place_of, Thing, AName, parts, all_parts, arguments_in, had, carried_with, sent_with, StandsIn, CarriesSent, delivered, delivered_with, first_of, last_of, or_else}
 use Rattle.law_uses.proofs.Uses.Lines.{last_join, first_join}
 use Rattle.law_uses.proofs.Uses.Shown.{among_left as left, lines, ListTold, shown_join}
 use Rattle.law_uses.proofs.Uses.Comes.{NoLists}

@@ -1,7 +1,7 @@
 -- The lines of a history one behind the other: what stands before each, what they tell, and what they lead to.
 use Rattle.std.proofs.Common.{◌≡◌, ℕ, List, [], ◌∷◌, ◌++◌, Option, Some, None, refl, sym, ap, ◌∙◌, subst, map, ◌⊎◌, inl, inr}
 use Rattle.def_event.specs.declared.event.Event.{Event}
-use Rattle.def_trace.specs.Uses.{Line, line_after, and_lines, IsAmong, Lead, leads, IsLead, or_else, first_of, last_of}
+use Rattle.def_event.specs.Uses.{Line, line_after, and_lines, IsAmong, Lead, leads, IsLead, or_else, first_of, last_of}
 
 -- ---- one history behind another
 

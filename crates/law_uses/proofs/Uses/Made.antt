@@ -6,10 +6,10 @@ use Rattle.def_machine.specs.Values.{Name}
 use Rattle.def_machine.specs.State.{Happened, Posted, Note, Vat}
 use Rattle.def_run.specs.World as world
 use Rattle.def_run.specs.World.{Script, Event, Opens, Turned, Carried, NoticedAt, LostCut, Link, World, names}
-use Rattle.law_fate.specs.Fate.{once, total}
-use Rattle.law_fate.proofs.RunCounts.{pick, total_append}
-use Rattle.law_connected.specs.Activations.{Rises}
-use Rattle.law_connected.specs.News.{thing_made}
+use Rattle.law_fate.specs.Fates.Fate.{once, total}
+use Rattle.law_fate.proofs.Fates.RunCounts.{pick, total_append}
+use Rattle.law_uses.specs.Connectivity.Activations.{Rises}
+use Rattle.law_uses.specs.Connectivity.News.{thing_made}
 use Rattle.law_uses.specs.Uses.Made.{made_one, where_so, makes}
 use Rattle.law_uses.proofs.Uses.Kept.{put_either}
 

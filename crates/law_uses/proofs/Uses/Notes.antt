@@ -10,9 +10,9 @@ use Rattle.def_machine.specs.State.{Message, Passeds, Delivery, Note, Deliver, H
 use Rattle.def_run.specs.World.{Event, Here, World}
 use Rattle.def_run.specs.Shown as show
 use Rattle.def_run.specs.Text.{shown_events}
-use Rattle.law_connected.specs.Stems.{HasLine, HasList, HasOpened}
-use Rattle.def_trace.specs.Uses as uses
-use Rattle.def_trace.specs.Uses.{Thing, AName, Reaches, start, parts, all_parts, things_of, is_gift, had, carried_with, sent_with, StandsIn, arguments_in, CarriesThese, CarriesSent, delivered, line_before, first_of, last_of, or_else}
+use Rattle.law_uses.specs.Connectivity.Stems.{HasLine, HasList, HasOpened}
+use Rattle.def_event.specs.Uses as uses
+use Rattle.def_event.specs.Uses.{Thing, AName, Reaches, start, parts, all_parts, things_of, is_gift, had, carried_with, sent_with, StandsIn, arguments_in, CarriesThese, CarriesSent, delivered, line_before, first_of, last_of, or_else}
 use Rattle.law_uses.proofs.Uses.Lines.{first_lines, first_join}
 use Rattle.law_uses.proofs.Uses.Shown.{among_left as left, among_right as right, lines, ListTold, shown_join}
 use Rattle.law_uses.proofs.Uses.Comes.{stands_same, value_parts}

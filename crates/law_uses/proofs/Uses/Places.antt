@@ -6,9 +6,9 @@ use Rattle.def_run.specs.World as world
 use Rattle.def_run.specs.World.{Event, Opens, Turned, Carried, NoticedAt, LostCut, Link}
 use Rattle.def_run.specs.Shown as show
 use Rattle.def_run.specs.Text.{shown_events}
-use Rattle.law_fate.proofs.RunCounts.{pick}
-use Rattle.law_connected.specs.Known.{AllOf}
-use Rattle.def_trace.specs.Uses.{Line, and_lines, place_after, place_of}
+use Rattle.law_fate.proofs.Fates.RunCounts.{pick}
+use Rattle.law_uses.specs.Connectivity.Known.{AllOf}
+use Rattle.def_event.specs.Uses.{Line, and_lines, place_after, place_of}
 use Rattle.law_uses.proofs.Uses.Lines.{lines_join}
 use Rattle.law_uses.proofs.Uses.Shown.{lines, shown_join}
 

@@ -9,31 +9,31 @@ use Rattle.def_run.specs.World as world
 use Rattle.def_run.specs.World.{Script, Program, Opens, Entry, Turn, Carry, CutLink, NoticeLink, Event, Turned, Idle, Carried, CutAt, NoticedAt, LeftQueue, LeftHeld, LeftWait, LeftLink, Ends as IsEnd, Link, World, Run, Goes, Stopped, names, names_of, read_note, begins}
 use Rattle.def_run.specs.Shown as show
 use Rattle.def_run.specs.Text.{shown_events}
-use Rattle.law_machine.specs.Steps.{Step, Opens as Starts, Takes, Receives, Notices, does, After}
-use Rattle.law_fate.specs.Fate.{total, places, takes, sent as sendings, sent_by, of_note, on_link}
-use Rattle.law_fate.specs.Carry.{carried_by}
-use Rattle.law_fate.specs.FateRuns.{Reached}
-use Rattle.law_fate.proofs.RunCounts.{pick, total_append, with_link_changes, with_link_apart}
-use Rattle.law_fate.proofs.RunAccount.{Fated, step_fated, open_fated, no_cut_line}
-use Rattle.law_fate.proofs.RunFates.{begins_fated, none_vats, none_links}
-use Rattle.law_connected.specs.Known.{IsAmong, AllOf}
-use Rattle.law_connected.specs.News.{list_made, Adds, MadeNew}
-use Rattle.law_connected.specs.Liveness.{live_at, LeavesDead}
-use Rattle.law_connected.specs.Runs.{NothingLive}
-use Rattle.law_connected.specs.Stems.{LeadsTo, itself, HasLine, HasList, HasOpened, ComeAll}
-use Rattle.law_connected.proofs.StepDies.{steps_leave_dead}
-use Rattle.law_connected.proofs.RunDies.{opened_still}
-use Rattle.law_connected.proofs.FineSteps.{steps_make_new, among_left}
-use Rattle.law_connected.proofs.FineRuns.{own_spots}
-use Rattle.law_connected.proofs.Passing.{kept_all, all_map, come_all_map}
-use Rattle.law_connected.proofs.Moments.{Past, Line, Later, Members, Came, Fine, ReactionFine, QueuedFine, KnownFine, Good, Ends, Any, IsTaken, stand_map}
-use Rattle.law_connected.proofs.Events.{IsNobodys, all_at, lost_on_nobodys, nobodys_join, vats_nobodys, links_nobodys}
-use Rattle.law_connected.proofs.Links.{opened_with, with_link_all, found_link, link_from}
-use Rattle.law_connected.proofs.RunStems.{Grows, step_brings, next_grows, kept_lines, next_list, next_opened, put_each, all_read, value_read, was_queued, one_line, less_grows, moved_grows}
+use Rattle.law_machine.specs.Machine.Steps.{Step, Opens as Starts, Takes, Receives, Notices, does, After}
+use Rattle.law_fate.specs.Fates.Fate.{total, places, takes, sent as sendings, sent_by, of_note, on_link}
+use Rattle.law_fate.specs.Fates.Carry.{carried_by}
+use Rattle.law_fate.specs.Fates.FateRuns.{Reached}
+use Rattle.law_fate.proofs.Fates.RunCounts.{pick, total_append, with_link_changes, with_link_apart}
+use Rattle.law_fate.proofs.Fates.RunAccount.{Fated, step_fated, open_fated, no_cut_line}
+use Rattle.law_fate.proofs.Fates.RunFates.{begins_fated, none_vats, none_links}
+use Rattle.law_uses.specs.Connectivity.Known.{IsAmong, AllOf}
+use Rattle.law_uses.specs.Connectivity.News.{list_made, Adds, MadeNew}
+use Rattle.law_uses.specs.Connectivity.Liveness.{live_at, LeavesDead}
+use Rattle.law_uses.specs.Connectivity.Runs.{NothingLive}
+use Rattle.law_uses.specs.Connectivity.Stems.{LeadsTo, itself, HasLine, HasList, HasOpened, ComeAll}
+use Rattle.law_uses.proofs.Connectivity.StepDies.{steps_leave_dead}
+use Rattle.law_uses.proofs.Connectivity.RunDies.{opened_still}
+use Rattle.law_uses.proofs.Connectivity.FineSteps.{steps_make_new, among_left}
+use Rattle.law_uses.proofs.Connectivity.FineRuns.{own_spots}
+use Rattle.law_uses.proofs.Connectivity.Passing.{kept_all, all_map, come_all_map}
+use Rattle.law_uses.proofs.Connectivity.Moments.{Past, Line, Later, Members, Came, Fine, ReactionFine, QueuedFine, KnownFine, Good, Ends, Any, IsTaken, stand_map}
+use Rattle.law_uses.proofs.Connectivity.Events.{IsNobodys, all_at, lost_on_nobodys, nobodys_join, vats_nobodys, links_nobodys}
+use Rattle.law_uses.proofs.Connectivity.Links.{opened_with, with_link_all, found_link, link_from}
+use Rattle.law_uses.proofs.Connectivity.RunStems.{Grows, step_brings, next_grows, kept_lines, next_list, next_opened, put_each, all_read, value_read, was_queued, one_line, less_grows, moved_grows}
 use Rattle.law_uses.proofs.Uses.Shown.{ListTold}
 use Rattle.law_uses.proofs.Uses.Comes.{NoLists, pass_no_lists}
 use Rattle.law_uses.proofs.Uses.Sources.{all_in, Alive, queued_alive, held_alive, reacts_alive, Source, Reacting, Queued, KnownWell, NoteWell, LinkWell, Silent, note_grow}
-use Rattle.def_trace.specs.Uses.{Line as TextLine, and_lines, place_of}
+use Rattle.def_event.specs.Uses.{Line as TextLine, and_lines, place_of}
 use Rattle.law_uses.specs.Uses.Made.{makes}
 use Rattle.law_uses.proofs.Uses.Made.{MadeOnce, made_still, made_next, opens_make, turned_makes, carried_makes, noticed_makes}
 use Rattle.law_uses.proofs.Uses.Places.{opens_place, turned_place, noticed_place, carried_place}

@@ -7,7 +7,7 @@ use Rattle.def_machine.specs.State.{Message, Happened, ListMade, ListCame, Sends
 use Rattle.def_run.specs.World.{Event, Here, Carried}
 use Rattle.def_run.specs.Shown as show
 use Rattle.def_run.specs.Text.{shown_events}
-use Rattle.def_trace.specs.Uses.{Line, and_lines, IsAmong, Lead, Way, Listed, Settled, Thing, AName, AList, leads, led, IsLead, things_of, things}
+use Rattle.def_event.specs.Uses.{Line, and_lines, IsAmong, Lead, Way, Listed, Settled, Thing, AName, AList, leads, led, IsLead, things_of, things}
 use Rattle.law_uses.proofs.Uses.Lines.{among_map, map_among, lead_told, lead_from, no_lead}
 
 append_joined : {A : Type 0} (xs ys zs : List A) → (xs ++ ys) ++ zs ≡ xs ++ (ys ++ zs)

@@ -7,18 +7,18 @@ use Rattle.def_machine.specs.State.{Message, Known, Passeds, Delivery, Note, Del
 use Rattle.def_run.specs.World.{Event, Here, Link, World}
 use Rattle.def_run.specs.Shown as show
 use Rattle.def_run.specs.Text.{shown_events}
-use Rattle.law_name.proofs.SameNames.{same_self}
-use Rattle.law_fate.specs.Fate.{once, one, total, among, at_names, at_vat, in_note, of_note, on_link, places, sent_by, took_by, took_here, takes}
-use Rattle.law_fate.specs.Carry.{carried_by}
-use Rattle.law_fate.proofs.RunCounts.{all_numbered}
-use Rattle.law_fate.specs.FateLaws.{numbered}
-use Rattle.law_connected.specs.Known.{IsAmong, AllOf}
-use Rattle.law_connected.specs.Stems.{LeadsTo, HasLine, HasList, ArgsPass, ComeAll}
-use Rattle.law_connected.specs.MessageLaws.{IsToldStanding}
-use Rattle.law_connected.proofs.Passing.{come_all_map}
-use Rattle.law_connected.proofs.RunStems.{Grows, leads_grow, args_grow}
-use Rattle.def_trace.specs.Uses as uses
-use Rattle.def_trace.specs.Uses.{Thing, AName, parts, all_parts, had, carried_with, sent_with, or_else, first_of, last_of}
+use Rattle.law_fate.proofs.Name.SameNames.{same_self}
+use Rattle.law_fate.specs.Fates.Fate.{once, one, total, among, at_names, at_vat, in_note, of_note, on_link, places, sent_by, took_by, took_here, takes}
+use Rattle.law_fate.specs.Fates.Carry.{carried_by}
+use Rattle.law_fate.proofs.Fates.RunCounts.{all_numbered}
+use Rattle.law_fate.specs.Fates.FateLaws.{numbered}
+use Rattle.law_uses.specs.Connectivity.Known.{IsAmong, AllOf}
+use Rattle.law_uses.specs.Connectivity.Stems.{LeadsTo, HasLine, HasList, ArgsPass, ComeAll}
+use Rattle.law_uses.specs.Connectivity.MessageLaws.{IsToldStanding}
+use Rattle.law_uses.proofs.Connectivity.Passing.{come_all_map}
+use Rattle.law_uses.proofs.Connectivity.RunStems.{Grows, leads_grow, args_grow}
+use Rattle.def_event.specs.Uses as uses
+use Rattle.def_event.specs.Uses.{Thing, AName, parts, all_parts, had, carried_with, sent_with, or_else, first_of, last_of}
 use Rattle.law_uses.proofs.Uses.Lines.{last_join, first_join}
 use Rattle.law_uses.proofs.Uses.Shown.{shown_join}
 use Rattle.law_uses.proofs.Uses.Comes.{NoLists}

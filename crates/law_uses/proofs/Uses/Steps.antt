@@ -4,8 +4,8 @@ use Rattle.std.specs.Prelude.{slice_get}
 use Rattle.def_machine.specs.Values.{Value, Name}
 use Rattle.def_machine.specs.State.{Happened, ListMade, ListCame, Vat}
 use Rattle.def_run.specs.World.{Event, Here}
-use Rattle.law_connected.specs.Known.{IsAmong}
-use Rattle.law_connected.specs.News.{list_made, Adds}
+use Rattle.law_uses.specs.Connectivity.Known.{IsAmong}
+use Rattle.law_uses.specs.Connectivity.News.{list_made, Adds}
 use Rattle.law_uses.proofs.Uses.Shown.{among_left as left, ListTold}
 
 -- ---- lists

@@ -9,8 +9,8 @@ use Rattle.def_machine.specs.State.{Message, Note, Happened, Took, Sends, Reacts
 use Rattle.def_run.specs.World.{Script, Program, Event, Here, Carried, World, Run, Goes, Stopped, begins, open_from, steps_from, run}
 use Rattle.def_run.specs.Shown as show
 use Rattle.def_run.specs.Text.{shown_events, history_of}
-use Rattle.law_fate.specs.FateRuns.{Reached}
-use Rattle.def_trace.specs.Uses.{Line, line_after, and_lines, place_of, all_parts, arguments_in, StandsIn, TakesSent, CarriesSent}
+use Rattle.law_fate.specs.Fates.FateRuns.{Reached}
+use Rattle.def_event.specs.Uses.{Line, line_after, and_lines, place_of, all_parts, arguments_in, StandsIn, TakesSent, CarriesSent}
 use Rattle.law_uses.specs.Uses.Messages.{MessagesAreAsSent, LinesStandAtTheirVats, SaysList, ListsAreTold, ListsAreToldInRuns}
 use Rattle.law_uses.specs.Uses.Made.{ThingsAreMadeOnceInRuns}
 use Rattle.law_uses.proofs.Uses.Lines.{lines_join}

@@ -2,9 +2,9 @@
 use Rattle.std.specs.Prelude.{ℕ, List, None}
 use Rattle.def_run.specs.World.{Script, run}
 use Rattle.def_run.specs.Text.{draws_of, shown_events, history_of}
-use Rattle.law_name.specs.Runs.{KnowsOnce}
-use Rattle.law_reference.specs.Cuts.{NoticesFollowCuts}
-use Rattle.def_trace.specs.Uses.{HoldsAt, UsesKnown, BackKnown, JudgesUses}
+use Rattle.law_fate.specs.Name.Runs.{KnowsOnce}
+use Rattle.law_reference.specs.Reference.Cuts.{NoticesFollowCuts}
+use Rattle.def_event.specs.Uses.{HoldsAt, UsesKnown, BackKnown, JudgesUses}
 use Rattle.law_uses.specs.KnownUses.Told.{IsShownApart}
 
 -- each line of the run, shown with these draws, uses only what is known by the lines before it

@@ -4,13 +4,13 @@ use Rattle.def_machine.specs.Values.{Value, Name}
 use Rattle.def_machine.specs.State.{Happened}
 use Rattle.def_run.specs.World.{Script, Program, Entry, Event, World, Goes, events_of, begins, open_from, steps_from}
 use Rattle.def_run.specs.Shown as show
-use Rattle.law_name.specs.Runs.{KnowsOnce}
-use Rattle.law_reference.specs.Cuts.{NoticesFollowCuts}
-use Rattle.law_connected.specs.Known.{Holdings}
-use Rattle.law_connected.specs.Connected.{held_from}
-use Rattle.law_connected.specs.Begotten.{LineOf}
+use Rattle.law_fate.specs.Name.Runs.{KnowsOnce}
+use Rattle.law_reference.specs.Reference.Cuts.{NoticesFollowCuts}
+use Rattle.law_uses.specs.Connectivity.Known.{Holdings}
+use Rattle.law_uses.specs.Connectivity.Connected.{held_from}
+use Rattle.law_uses.specs.Connectivity.Begotten.{LineOf}
 use Rattle.law_uses.specs.Running.Running.{SettledApart}
-use Rattle.def_trace.specs.Uses.{Thing, things_of}
+use Rattle.def_event.specs.Uses.{Thing, things_of}
 
 -- a world that the run of the script comes to: after some of its opening turns, or after all of them and some of its entries
 abbrev pub IsPassed : Script → World → Type 0

@@ -5,10 +5,10 @@ use Rattle.def_machine.specs.State.{Happened, AuditionMade}
 use Rattle.def_run.specs.World.{Script, Event, Opens, Here, run}
 use Rattle.def_run.specs.Shown.{shown_name, shown_value}
 use Rattle.def_run.specs.Text.{shown_events, history_of}
-use Rattle.law_connected.specs.Activations.{begun_by}
-use Rattle.law_connected.specs.Known as machine
-use Rattle.law_connected.specs.Known.{AValue, tells}
-use Rattle.def_trace.specs.Uses.{Line, and_lines, Activation, Thing, Begun, Opened, Given, Audition, IsTold, IsAmong, things_of}
+use Rattle.law_uses.specs.Connectivity.Activations.{begun_by}
+use Rattle.law_uses.specs.Connectivity.Known as machine
+use Rattle.law_uses.specs.Connectivity.Known.{AValue, tells}
+use Rattle.def_event.specs.Uses.{Line, and_lines, Activation, Thing, Begun, Opened, Given, Audition, IsTold, IsAmong, things_of}
 
 -- the lines that show these events
 abbrev pub lines_of : List ℕ → List Event → List Line

@@ -3,11 +3,11 @@ use Rattle.std.specs.Prelude.{◌≡◌, ℕ, ◌<◌, List, Some, slice_get}
 use Rattle.def_machine.specs.Values.{Value, Name, Object, Answer}
 use Rattle.def_machine.specs.State.{Message, Known, Resolver, Viewed, Settled, Happened, PromiseMade}
 use Rattle.def_machine.specs.Refs.{standing_of}
-use Rattle.law_machine.specs.Steps.{Step, Opens, Takes, Receives, Notices}
+use Rattle.law_machine.specs.Machine.Steps.{Step, Opens, Takes, Receives, Notices}
 use Rattle.def_run.specs.World.{Script, World, names}
-use Rattle.law_connected.specs.Known.{IsAmong}
-use Rattle.law_connected.specs.Settlings.{Owes}
-use Rattle.law_connected.specs.Begotten.{LineOf}
+use Rattle.law_uses.specs.Connectivity.Known.{IsAmong}
+use Rattle.law_uses.specs.Connectivity.Settlings.{Owes}
+use Rattle.law_uses.specs.Connectivity.Begotten.{LineOf}
 
 -- an opening turn, or one that takes a message
 abbrev pub IsTurn : Step Name Name → Type 0

@@ -6,14 +6,14 @@ use Rattle.def_machine.specs.Refs.{standing_of}
 use Rattle.def_run.specs.World.{Script, Event, Here, World, names, events_of, run}
 use Rattle.def_run.specs.Shown.{shown_name}
 use Rattle.def_run.specs.Text.{history_of}
-use Rattle.law_connected.specs.Known.{IsAmong, AreOne, Reaches, Runs}
-use Rattle.law_connected.specs.Connected.{held_from}
-use Rattle.law_connected.specs.Begotten.{LineOf}
-use Rattle.law_connected.specs.Stems.{HasLine}
-use Rattle.law_name.specs.Runs.{KnowsOnce}
+use Rattle.law_uses.specs.Connectivity.Known.{IsAmong, AreOne, Reaches, Runs}
+use Rattle.law_uses.specs.Connectivity.Connected.{held_from}
+use Rattle.law_uses.specs.Connectivity.Begotten.{LineOf}
+use Rattle.law_uses.specs.Connectivity.Stems.{HasLine}
+use Rattle.law_fate.specs.Name.Runs.{KnowsOnce}
 use Rattle.law_uses.specs.Running.Runs.{IsRun}
 use Rattle.law_uses.specs.Running.Facts.{lines_of, activation}
-use Rattle.def_trace.specs.Uses as uses
+use Rattle.def_event.specs.Uses as uses
 
 -- ---- ways by settlings alone
 

@@ -1,7 +1,7 @@
 -- Worlds of runs whose notices stand behind their cuts.
 use Rattle.std.specs.Prelude.{◌≡◌, ℕ, zero, List, ◌++◌, ◌⊎◌}
 use Rattle.def_run.specs.World.{Script, Program, Entry, World, Goes, begins, open_from, steps_from}
-use Rattle.law_reference.specs.Cuts.{NoticesFollowCuts}
+use Rattle.law_reference.specs.Reference.Cuts.{NoticesFollowCuts}
 
 -- after all opening turns and these entries
 abbrev pub IsEntered : Script → World → Type 0

@@ -4,8 +4,8 @@ use Rattle.def_machine.specs.Values.{Value, Name}
 use Rattle.def_machine.specs.State.{Settled, Settles, Vat}
 use Rattle.def_machine.specs.Refs.{standing_of}
 use Rattle.def_run.specs.World.{Script, Here, World, Goes, names, run}
-use Rattle.law_connected.specs.Known.{IsAmong}
-use Rattle.law_connected.specs.Begotten.{InEachRun}
+use Rattle.law_uses.specs.Connectivity.Known.{IsAmong}
+use Rattle.law_uses.specs.Connectivity.Begotten.{InEachRun}
 
 -- to what a line of vat v says that a name settled, it is settled at the vat
 abbrev pub SettlingsStand : Script → World → Type 0

@@ -4,13 +4,13 @@ use Rattle.def_machine.specs.Values.{Name, Gift, provider_of}
 use Rattle.def_machine.specs.State.{Vat}
 use Rattle.def_run.specs.World.{Script, World, run}
 use Rattle.def_run.specs.Shown.{shown_name}
-use Rattle.law_fate.specs.FateRuns.{Reached}
-use Rattle.law_fate.specs.Lasting.{Each}
-use Rattle.law_name.specs.Names.{IsAmong, names_in}
-use Rattle.law_name.specs.Runs.{KnowsOnce}
-use Rattle.law_reference.specs.ApartAsking.{InRunsBehindCuts}
-use Rattle.law_reference.specs.Cuts.{NoticesFollowCuts}
-use Rattle.law_reference.specs.GiftPassing.{IsProvidedBy, IsProvided, LinkProvides}
+use Rattle.law_fate.specs.Fates.FateRuns.{Reached}
+use Rattle.law_fate.specs.Fates.Lasting.{Each}
+use Rattle.law_fate.specs.Name.Names.{IsAmong, names_in}
+use Rattle.law_fate.specs.Name.Runs.{KnowsOnce}
+use Rattle.law_reference.specs.Reference.ApartAsking.{InRunsBehindCuts}
+use Rattle.law_reference.specs.Reference.Cuts.{NoticesFollowCuts}
+use Rattle.law_reference.specs.Reference.GiftPassing.{IsProvidedBy, IsProvided, LinkProvides}
 
 -- there is one provider for each word, of whom all notes, all gifts at their hosts and all gifts that vats know tell
 abbrev pub KnowsProviders : World → Type 0

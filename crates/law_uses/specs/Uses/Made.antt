@@ -3,9 +3,9 @@ use Rattle.std.specs.Prelude.{◌≡◌, ℕ, ◌≤◌, Bool, true, false, Opti
 use Rattle.def_machine.specs.State.{Vat}
 use Rattle.def_machine.specs.Values.{Name}
 use Rattle.def_run.specs.World.{Script, Event, Here, World, names}
-use Rattle.law_fate.specs.Fate.{once, total}
-use Rattle.law_connected.specs.News.{thing_made}
-use Rattle.law_connected.specs.Begotten.{InEachRun}
+use Rattle.law_fate.specs.Fates.Fate.{once, total}
+use Rattle.law_uses.specs.Connectivity.News.{thing_made}
+use Rattle.law_uses.specs.Connectivity.Begotten.{InEachRun}
 
 -- one where it is that number
 unfoldable pub made_one : ℕ → Option ℕ → ℕ

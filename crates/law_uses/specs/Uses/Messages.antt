@@ -5,9 +5,9 @@ use Rattle.def_machine.specs.Values.{Value, Name}
 use Rattle.def_machine.specs.State.{Happened, ListMade, ListCame, Vat}
 use Rattle.def_run.specs.World.{Script, Event, Here, World, run}
 use Rattle.def_run.specs.Text.{shown_events, history_of}
-use Rattle.law_connected.specs.Known.{IsAmong}
-use Rattle.law_connected.specs.Begotten.{InEachRun}
-use Rattle.def_trace.specs.Uses.{Line, and_lines, place_of, TakesSent, CarriesSent, HoldsAt}
+use Rattle.law_uses.specs.Connectivity.Known.{IsAmong}
+use Rattle.law_uses.specs.Connectivity.Begotten.{InEachRun}
+use Rattle.def_event.specs.Uses.{Line, and_lines, place_of, TakesSent, CarriesSent, HoldsAt}
 
 -- of a line of a whole history, after those before it: a message is taken with the arguments that it was sent with, and what is carried was there in the line before of the message, or is what that leads to, or a gift
 abbrev pub MessageHolds : List ShownEvent → List Line → Line → Type 0

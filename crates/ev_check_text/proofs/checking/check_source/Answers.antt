@@ -1,7 +1,7 @@
 use Rattle.std.proofs.Common.{string_bytes, subst, List, ℕ}
 use Rattle.ev_check_text.specs.Due.{IsDueOfInput}
-use Rattle.ev_reply.proofs.PayLemmas.{finished_left, plain}
-use Rattle.ev_reply.specs.Paying.{Finishes}
+use Rattle.ev_io.proofs.PayLemmas.{finished_left, plain}
+use Rattle.ev_io.specs.Paying.{Finishes}
 use Rattle.ev_check_text.proofs.checking.check_source.Goals as goal
 
 pub returns-in-Ok-clause-due : goal.returns-in-Ok-clause-due

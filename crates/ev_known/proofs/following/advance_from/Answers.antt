@@ -1,5 +1,5 @@
 use Rattle.std.proofs.Common.{◌≡◌, false, Some, sym, ap, ◌∙◌}
-use Rattle.def_trace.specs.Uses.{is_object}
+use Rattle.def_event.specs.Uses.{is_object}
 use Rattle.ev_known.specs.Following.{is_object_label}
 use Rattle.ev_known.proofs.Naming.{object_label}
 use Rattle.ev_known.proofs.following.advance_from.Goals as goal

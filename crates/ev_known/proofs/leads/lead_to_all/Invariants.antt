@@ -1,6 +1,6 @@
 -- The values so far.
 use Rattle.std.proofs.Common.{map, take}
-use Rattle.def_trace.specs.Uses.{things}
+use Rattle.def_event.specs.Uses.{things}
 use Rattle.ev_links.specs.Label.{label}
 use Rattle.ev_known.specs.Leads.{AddsEach}
 use Rattle.ev_known.proofs.leads.lead_to_all.Given as goal

@@ -1,7 +1,7 @@
 use Rattle.std.proofs.Common.{[], ◌∷◌, sym, ap, subst, ◌∙◌}
 use Rattle.std.proofs.lemmas.Result.{on_ok_weaker}
 use Rattle.def_event.specs.declared.event.Event.{Event}
-use Rattle.def_trace.specs.Uses.{AName, Settled, leads}
+use Rattle.def_event.specs.Uses.{AName, Settled, leads}
 use Rattle.ev_links.specs.declared.label.Label.{Label}
 use Rattle.ev_links.specs.declared.links.Way.TheVariants.{Settled as Settling}
 use Rattle.ev_known.specs.Leads.{AddsLeads}

@@ -1,4 +1,4 @@
-use Rattle.ev_eventual.specs.Eventual.{message_in}
+use Rattle.ev_steps.specs.Eventual.{message_in}
 use Rattle.ev_refs.specs.Follow.{followed}
 use Rattle.ev_steps.specs.Steps.{again_by, evaluator}
 use Rattle.ev_frames.proofs.Native.{calls_with}

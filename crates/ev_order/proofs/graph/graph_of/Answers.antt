@@ -1,7 +1,7 @@
 -- What joins the places keeps to the walk, and what it leaves is the graph.
 use Rattle.std.proofs.Common.{◌≡◌, List, Option, length, drop, sym, ap, ◌∙◌, subst}
 use Rattle.std.proofs.lemmas.List.{take_at}
-use Rattle.def_trace.specs.declared.reference.Reference.{Reference}
+use Rattle.def_event.specs.declared.reference.Reference.{Reference}
 use Rattle.ev_order.specs.declared.spread.Place.{Place}
 use Rattle.ev_order.specs.Over.{FitIn, Joins, IsJoined}
 use Rattle.ev_order.specs.Walk.{Walked, IsWalked}

@@ -1,6 +1,6 @@
 use Rattle.std.proofs.Common.{Some, sym, ap, ◌∙◌}
 use Rattle.def_event.specs.declared.event.Addressed.{Addressed}
-use Rattle.def_trace.specs.Order.{Taking, taking, is_object}
+use Rattle.def_event.specs.Order.{Taking, taking, is_object}
 use Rattle.ev_order.proofs.Early.{takes_at, takes_not}
 use Rattle.ev_order.proofs.judge.taken_early.Goals as goal
 

@@ -3,7 +3,7 @@ use denote.Enum.Declared.{tag_of}
 use Rattle.def_syntax.specs.contracts.token.TokenKind.{the_type}
 use Rattle.def_syntax.specs.declared.token.TokenKind.{TokenKind}
 use Rattle.def_syntax.specs.declared.token.TokenKind.TheVariants as kinds
-use Rattle.def_grammar.specs.Kinds.{code}
+use Rattle.def_syntax.specs.Kinds.{code}
 use Rattle.ev_parse_table.proofs.picks.is_same.Goals as goal
 
 -- the number of a variant is that of its kind

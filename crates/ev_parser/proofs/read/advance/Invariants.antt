@@ -1,5 +1,5 @@
 use Rattle.std.proofs.Common.{Option, length}
-use Rattle.def_grammar.specs.Machine.{State}
+use Rattle.def_syntax.specs.Machine.{State}
 use Rattle.ev_parser.specs.Draft.{Comes, turns_left}
 use Rattle.ev_parser.specs.declared.draft.Turn.TheVariants.{At}
 use Rattle.ev_parser.proofs.read.advance.Given as goal

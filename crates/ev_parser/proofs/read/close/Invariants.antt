@@ -1,5 +1,5 @@
 use Rattle.std.proofs.Common.{Option, length}
-use Rattle.def_grammar.specs.Grammar.{Tree}
+use Rattle.def_syntax.specs.Grammar.{Tree}
 use Rattle.ev_parser.specs.Draft.{Ends, turns_left}
 use Rattle.ev_parser.specs.declared.draft.Turn.TheVariants.{At}
 use Rattle.ev_parser.proofs.read.close.Given as goal

@@ -1,7 +1,7 @@
 use Rattle.std.proofs.Common.{◌≡◌, refl, length, drop_of_length-le, arith, Some, None, subst}
-use Rattle.def_grammar.specs.Machine.{started}
-use Rattle.def_grammar.specs.Heights.{no_spelling, ended_with}
-use Rattle.def_grammar.specs.Exact.{IsAnswer}
+use Rattle.def_syntax.specs.Machine.{started}
+use Rattle.def_syntax.specs.Heights.{no_spelling, ended_with}
+use Rattle.def_syntax.specs.Exact.{IsAnswer}
 use Rattle.ev_parser.specs.Parsed.{numbered}
 use Rattle.ev_parser.proofs.Reading.{read_on, read_stuck, read_ended, drop_here}
 use Rattle.ev_parser.proofs.read.read.Goals as goal

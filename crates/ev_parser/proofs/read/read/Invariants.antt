@@ -1,6 +1,6 @@
 use Rattle.std.proofs.Common.{◌≡◌, drop}
-use Rattle.def_grammar.specs.Machine.{State}
-use Rattle.def_grammar.specs.Heights.{answer_from, answer}
+use Rattle.def_syntax.specs.Machine.{State}
+use Rattle.def_syntax.specs.Heights.{answer_from, answer}
 use Rattle.ev_parser.specs.Draft.{ShowsState}
 use Rattle.ev_parser.specs.Parsed.{numbered}
 use Rattle.ev_parser.proofs.read.read.Given as goal

@@ -1,5 +1,5 @@
 use Rattle.std.proofs.Common.{◌≤◌, length, arith}
-use Rattle.ev_naming.proofs.Each.{each_at, each_done}
+use Rattle.ev_resident.proofs.Each.{each_at, each_done}
 use Rattle.ev_resident.specs.Brought.{learnt_tells}
 use Rattle.ev_resident.proofs.hearing.tell_gifts.Goals as goal
 

@@ -1,11 +1,11 @@
 use Rattle.std.proofs.Common.{List, sym, subst}
-use Rattle.def_local.specs.Numbers.{brought}
-use Rattle.ev_naming.specs.Names.{Entry}
-use Rattle.ev_naming.specs.Standing.{Says}
+use Rattle.def_run.specs.Numbers.{brought}
+use Rattle.ev_resident.specs.Names.{Entry}
+use Rattle.ev_resident.specs.NamesStanding.{Says}
 use Rattle.ev_resident.specs.Brought.{exported_name}
 use Rattle.ev_resident.proofs.Brought.{brought_says, exported_shown}
 use Rattle.ev_resident.proofs.Exporting.{connection_between, exports_refer}
-use Rattle.ev_write.specs.Putting.{table_for}
+use Rattle.ev_wire.specs.Putting.{table_for}
 use Rattle.ev_resident.proofs.hearing.told_of.Goals as goal
 
 pub returns : goal.returns

@@ -1,4 +1,4 @@
-use Rattle.ev_naming.specs.Names.{names_first}
+use Rattle.ev_resident.specs.Names.{names_first}
 use Rattle.ev_resident.specs.Starting.{with_roots}
 use Rattle.ev_resident.proofs.Roots.{roots_done, roots_on}
 use Rattle.ev_resident.proofs.starting.first_names.Goals as goal

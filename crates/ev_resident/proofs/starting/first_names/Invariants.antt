@@ -1,6 +1,6 @@
 -- The roots so far are there, and then the rest.
 use Rattle.std.proofs.Common.{◌≡◌, drop}
-use Rattle.ev_naming.specs.Names.{names_first}
+use Rattle.ev_resident.specs.Names.{names_first}
 use Rattle.ev_resident.specs.Starting.{with_roots}
 use Rattle.ev_resident.proofs.starting.first_names.Given as goal
 

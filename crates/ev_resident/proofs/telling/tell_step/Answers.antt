@@ -1,7 +1,7 @@
 use Rattle.std.proofs.Common.{ℕ, List, sym, ap, subst, ◌∙◌, map}
-use Rattle.def_local.specs.Names.{names_after}
-use Rattle.def_local.specs.Numbers.{frames_of}
-use Rattle.ev_outcome.specs.Standing.{ObjectsStand}
+use Rattle.def_run.specs.Names.{names_after}
+use Rattle.def_run.specs.Numbers.{frames_of}
+use Rattle.ev_resident.specs.OutcomeStanding.{ObjectsStand}
 use Rattle.ev_pass.specs.Notes.{Sent, sent}
 use Rattle.ev_resident.specs.Framing.{AreOutgoing, all_outgoing}
 use Rattle.ev_resident.specs.Telling.{naming_then}

@@ -1,5 +1,5 @@
 use Rattle.std.proofs.Common.{◌≡◌, ◌++◌, drop}
-use Rattle.ev_told.specs.Told.{read}
+use Rattle.ev_heap.specs.Told.{read}
 use Rattle.ev_step_lines.specs.Lines.{lines_of}
 use Rattle.ev_step_lines.proofs.lines.push_all.Given as goal
 

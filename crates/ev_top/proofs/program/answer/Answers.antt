@@ -1,12 +1,12 @@
 use Rattle.std.proofs.Common.{◌≡◌, refl, subst, Option, Some, IfSome, IsSome}
 use Rattle.ev_top.specs.Commands.{command_of}
-use Rattle.ev_run.specs.Due.{debt_of}
-use Rattle.ev_reply.specs.Paying.{IsOfRead}
+use Rattle.ev_top.specs.RunDue.{debt_of}
+use Rattle.ev_io.specs.Paying.{IsOfRead}
 use Rattle.ev_top.specs.Due.{IsDue, Pays}
 use Rattle.ev_top.specs.declared.command.Command.{Command}
-use Rattle.ev_reply.specs.declared.status.Status.{Status}
-use Rattle.ev_reply.specs.declared.status.Status.TheVariants.{ReadFault}
-use Rattle.ev_reply.proofs.PayLemmas.{plain, settled_left, settles_as}
+use Rattle.ev_io.specs.declared.status.Status.{Status}
+use Rattle.ev_io.specs.declared.status.Status.TheVariants.{ReadFault}
+use Rattle.ev_io.proofs.PayLemmas.{plain, settled_left, settles_as}
 use Rattle.ev_top.proofs.DueLemmas.{pays_usage}
 use Rattle.ev_top.proofs.program.answer.Goals as goal
 

@@ -1,6 +1,6 @@
 use Rattle.std.proofs.Common.{string_bytes}
 use Rattle.std.proofs.lemmas.Result.{IfOk-weaker}
-use Rattle.ev_run.specs.Due.{debt_of}
+use Rattle.ev_top.specs.RunDue.{debt_of}
 use Rattle.ev_top.specs.declared.command.Command.TheVariants.{Run, Sum}
 use Rattle.ev_top.proofs.DueLemmas.{whole}
 use Rattle.ev_top.proofs.program.reply_bytes.Goals as goal

@@ -1,6 +1,6 @@
 use Rattle.std.proofs.Common.{subst, Some, List, ℕ}
-use Rattle.ev_reply.specs.Debt.{Debt}
-use Rattle.ev_run.specs.Due.{debt_of}
+use Rattle.ev_io.specs.Debt.{Debt}
+use Rattle.ev_top.specs.RunDue.{debt_of}
 use Rattle.ev_top.specs.Due.{IsDue}
 use Rattle.ev_top.proofs.DueLemmas.{due_read}
 use Rattle.ev_top.proofs.program.reply_to.Goals as goal

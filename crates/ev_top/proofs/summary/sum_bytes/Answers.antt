@@ -1,7 +1,7 @@
 use Rattle.std.proofs.Common.{ℕ, Result, string_bytes, sym, subst}
 use Rattle.std.proofs.lemmas.Result.{IfOk-weaker}
 use Rattle.ev_script.specs.declared.script.Script.{Script}
-use Rattle.ev_run.specs.Due.{IsDueOfScript}
+use Rattle.ev_top.specs.RunDue.{IsDueOfScript}
 use Rattle.ev_top.specs.Summary.{summary_of}
 use Rattle.ev_top.proofs.summary.sum_bytes.Goals as goal
 

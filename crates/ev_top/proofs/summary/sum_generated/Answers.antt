@@ -1,6 +1,6 @@
 use Rattle.std.proofs.Common.{ℕ, List, ◌∙◌, string_bytes, subst}
 use Rattle.std.proofs.lemmas.Result.{IfOk-weaker}
-use Rattle.ev_run.specs.Due.{IsDueOfScript}
+use Rattle.ev_top.specs.RunDue.{IsDueOfScript}
 use Rattle.ev_script.specs.Script.{read as script_from}
 use Rattle.ev_top.specs.Summary.{summary_of}
 use Rattle.ev_top.proofs.summary.sum_generated.Goals as goal

@@ -1,6 +1,6 @@
 use Rattle.std.proofs.Common.{◌∙◌, ap, ℕ}
 use Rattle.ev_top.specs.Ends.{summed_by}
-use Rattle.ev_run.proofs.ReadLemmas.{count_is}
+use Rattle.ev_top.proofs.ReadLemmas.{count_is}
 use Rattle.ev_top.proofs.Summed.{script_summed}
 use Rattle.ev_top.proofs.summary.sum_run.Goals as goal
 

@@ -1,7 +1,7 @@
 use Rattle.std.proofs.Common.{[], string_bytes}
 use Rattle.std.proofs.lemmas.Result.{IfOk-weaker}
 use Rattle.ev_top.specs.Summary.{summary_of}
-use Rattle.ev_run.proofs.ReadLemmas.{due_of_trees}
+use Rattle.ev_top.proofs.ReadLemmas.{due_of_trees}
 use Rattle.ev_top.proofs.summary.sum_script.Goals as goal
 
 pub returns-in-Ok : goal.returns-in-Ok

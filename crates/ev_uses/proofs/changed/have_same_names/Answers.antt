@@ -1,5 +1,5 @@
 use Rattle.std.proofs.Common.{◌≡◌, sym, ap, ◌∙◌}
-use Rattle.def_trace.specs.Uses.{all_parts, arguments_in}
+use Rattle.def_event.specs.Uses.{all_parts, arguments_in}
 use Rattle.ev_uses.specs.declared.sought.Sought.TheVariants.{Names}
 use Rattle.ev_uses.specs.Sought.{has_sought}
 use Rattle.ev_uses.proofs.Deciding.{stands_in, takes_alike, takes_other, takes_same}

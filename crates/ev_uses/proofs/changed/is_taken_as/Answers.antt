@@ -1,6 +1,6 @@
 use Rattle.std.proofs.Common.{List, subst}
 use Rattle.def_event.specs.declared.shown.Shown.{Shown}
-use Rattle.def_trace.specs.Uses.{all_parts, arguments_in}
+use Rattle.def_event.specs.Uses.{all_parts, arguments_in}
 use Rattle.ev_links.specs.declared.label.Label.{Label}
 use Rattle.ev_uses.specs.Lines.{AddsThings}
 use Rattle.ev_uses.proofs.changed.is_taken_as.Goals as goal

@@ -3,7 +3,7 @@ use Rattle.std.specs.Prelude.{◌↔◌, IfOk, IsTrue}
 use Rattle.def_event.specs.declared.event.Addressed.{Addressed}
 use Rattle.def_event.specs.declared.event.Event.{Event}
 use Rattle.def_event.specs.declared.event.Event.TheVariants.{Take}
-use Rattle.def_trace.specs.Uses.{TakesSent}
+use Rattle.def_event.specs.Uses.{TakesSent}
 use Rattle.ev_uses.proofs.changed.takes_sent.Goals as goal
 
 pub returns-in-Take : goal.returns-in-Take

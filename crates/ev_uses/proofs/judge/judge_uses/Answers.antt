@@ -1,6 +1,6 @@
 use Rattle.std.proofs.Common.{◌∙◌, List, sym, ap, subst}
 use Rattle.def_event.specs.declared.event.Event.{Event}
-use Rattle.def_trace.specs.Uses.{JudgesUses}
+use Rattle.def_event.specs.Uses.{JudgesUses}
 use Rattle.ev_uses.specs.Earlier.{earlier}
 use Rattle.ev_uses.proofs.Least.{uses_judged}
 use Rattle.ev_uses.proofs.judge.judge_uses.Goals as goal

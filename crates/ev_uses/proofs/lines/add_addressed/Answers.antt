@@ -1,6 +1,6 @@
 use Rattle.std.proofs.Common.{◌∷◌, []}
 use Rattle.std.proofs.lemmas.Result.{on_ok_weaker}
-use Rattle.def_trace.specs.Uses.{AName, all_parts}
+use Rattle.def_event.specs.Uses.{AName, all_parts}
 use Rattle.ev_uses.proofs.Adding.{both_added}
 use Rattle.ev_uses.proofs.lines.add_addressed.Goals as goal
 

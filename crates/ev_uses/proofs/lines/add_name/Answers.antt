@@ -1,5 +1,5 @@
 use Rattle.std.proofs.lemmas.Result.{on_ok_weaker}
-use Rattle.def_trace.specs.Uses.{AName}
+use Rattle.def_event.specs.Uses.{AName}
 use Rattle.ev_uses.proofs.Adding.{one_added}
 use Rattle.ev_uses.proofs.lines.add_name.Goals as goal
 

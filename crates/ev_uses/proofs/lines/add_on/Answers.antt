@@ -1,5 +1,5 @@
 use Rattle.std.proofs.lemmas.Result.{on_ok_weaker}
-use Rattle.def_trace.specs.Uses.{all_parts, parts}
+use Rattle.def_event.specs.Uses.{all_parts, parts}
 use Rattle.ev_uses.proofs.Adding.{both_added}
 use Rattle.ev_uses.proofs.lines.add_on.Goals as goal
 

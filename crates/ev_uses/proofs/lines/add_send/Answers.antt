@@ -1,7 +1,7 @@
 use Rattle.std.proofs.Common.{List, ◌∷◌, ◌++◌, [], subst}
 use Rattle.std.proofs.lemmas.Result.{on_ok_weaker}
 use Rattle.def_event.specs.declared.shown.Shown.{Shown}
-use Rattle.def_trace.specs.Uses.{AName, all_parts, parts}
+use Rattle.def_event.specs.Uses.{AName, all_parts, parts}
 use Rattle.ev_uses.specs.Lines.{AddsThings}
 use Rattle.ev_uses.proofs.Adding.{both_added}
 use Rattle.ev_uses.proofs.lines.add_send.Goals as goal

@@ -1,6 +1,6 @@
 -- The members so far.
 use Rattle.std.proofs.Common.{map, take}
-use Rattle.def_trace.specs.Uses.{things}
+use Rattle.def_event.specs.Uses.{things}
 use Rattle.ev_links.specs.Label.{label}
 use Rattle.ev_links.specs.declared.links.Way.TheVariants.{Listed}
 use Rattle.ev_uses.specs.Onward.{LeadsTo}

@@ -1,6 +1,6 @@
 use Rattle.std.proofs.Common.{List, subst}
 use Rattle.std.proofs.lemmas.Result.{on_ok_weaker}
-use Rattle.def_trace.specs.Uses.{all_parts}
+use Rattle.def_event.specs.Uses.{all_parts}
 use Rattle.ev_links.specs.declared.label.Label.{Label}
 use Rattle.ev_uses.specs.Lines.{AddsThings}
 use Rattle.ev_uses.proofs.Adding.{members_added}

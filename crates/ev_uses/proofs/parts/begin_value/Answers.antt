@@ -1,6 +1,6 @@
 use Rattle.std.proofs.Common.{sym, subst}
 use Rattle.def_event.specs.declared.shown.Shown.{Shown}
-use Rattle.def_trace.specs.Uses.{AList, AName, parts}
+use Rattle.def_event.specs.Uses.{AList, AName, parts}
 use Rattle.ev_uses.specs.Lines.{AddsThings}
 use Rattle.ev_uses.proofs.Adding.{one_added}
 use Rattle.ev_uses.proofs.parts.begin_value.Goals as goal

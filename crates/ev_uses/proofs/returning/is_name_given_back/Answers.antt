@@ -1,7 +1,7 @@
 use Rattle.std.proofs.Common.{◌≡◌, ℕ, Bool, true, refl, sym, subst, ◌∙◌}
 use Rattle.std.specs.Prelude.{◌↔◌}
 use Rattle.std.proofs.lemmas.Result.{IfOk-weaker}
-use Rattle.def_trace.specs.Uses.{KnowsName, open_calls}
+use Rattle.def_event.specs.Uses.{KnowsName, open_calls}
 use Rattle.ev_uses.specs.Calls.{stack}
 use Rattle.ev_uses.proofs.Giving.{asked_inside, begun_inside, none_inside}
 use Rattle.ev_uses.proofs.returning.is_name_given_back.Goals as goal

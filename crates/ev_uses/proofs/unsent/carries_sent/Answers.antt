@@ -2,7 +2,7 @@ use Rattle.std.proofs.Common.{sym, subst}
 use Rattle.std.specs.Prelude.{◌↔◌, IfOk, IsTrue}
 use Rattle.def_event.specs.declared.note.ShownNote.{ShownNote}
 use Rattle.def_event.specs.declared.event.Event.{Event}
-use Rattle.def_trace.specs.Uses.{CarriesSent, CarriesThese, delivered}
+use Rattle.def_event.specs.Uses.{CarriesSent, CarriesThese, delivered}
 use Rattle.ev_uses.proofs.unsent.carries_sent.Goals as goal
 
 pub returns-in-Carry : goal.returns-in-Carry

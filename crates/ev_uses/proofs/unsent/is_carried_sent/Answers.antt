@@ -1,7 +1,7 @@
 use Rattle.std.proofs.Common.{ℕ, List, [], Option, sym, ap, subst, ◌∙◌}
 use Rattle.std.specs.Prelude.{unwrap_or}
 use Rattle.std.proofs.lemmas.Result.{IfOk-weaker}
-use Rattle.def_trace.specs.Uses.{delivered}
+use Rattle.def_event.specs.Uses.{delivered}
 use Rattle.ev_links.specs.declared.label.Label.{Label}
 use Rattle.ev_uses.specs.Finding.{found_at}
 use Rattle.ev_uses.specs.Lines.{AddsThings, holds, things_with}

@@ -1,6 +1,6 @@
 use Rattle.std.proofs.Common.{subst}
 use Rattle.std.proofs.lemmas.Result.{IfOk-weaker}
-use Rattle.def_trace.specs.Uses.{names}
+use Rattle.def_event.specs.Uses.{names}
 use Rattle.ev_uses.specs.Using.{DecidesAll}
 use Rattle.ev_uses.proofs.Known.{decides_both, decides_left}
 use Rattle.ev_uses.proofs.using.are_all_known.Goals as goal

@@ -1,6 +1,6 @@
 use Rattle.std.proofs.Common.{length, refl, subst}
 use Rattle.std.proofs.lemmas.Option.{slice_get_read}
-use Rattle.def_trace.specs.Uses.{names_of}
+use Rattle.def_event.specs.Uses.{names_of}
 use Rattle.ev_uses.specs.Using.{DecidesAll}
 use Rattle.ev_uses.proofs.Known.{values_fail, values_next}
 use Rattle.ev_uses.proofs.using.are_known.Goals as goal

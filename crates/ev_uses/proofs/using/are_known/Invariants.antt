@@ -1,6 +1,6 @@
 -- Those so far are known or made.
 use Rattle.std.proofs.Common.{take, true}
-use Rattle.def_trace.specs.Uses.{names}
+use Rattle.def_event.specs.Uses.{names}
 use Rattle.ev_uses.specs.Using.{DecidesAll}
 use Rattle.ev_uses.proofs.using.are_known.Given as goal
 

@@ -1,10 +1,10 @@
 use Rattle.std.proofs.Common.{Result, sym, subst}
 use Rattle.def_machine.specs.Receive as theirs
-use Rattle.ev_receive.specs.Hearing.{heard_by}
+use Rattle.ev_arrive.specs.Hearing.{heard_by}
 use Rattle.ev_room.specs.Reading.{names, texts_of}
 use Rattle.ev_vat.specs.Vat.{ArrivalIs}
 use Rattle.ev_vat.specs.declared.vat.VatStop.{VatStop}
-use Rattle.law_arrivals.specs.Arrivals.{vat_in}
+use Rattle.law_evaluation.specs.Arrivals.Arrivals.{vat_in}
 use Rattle.ev_vat.proofs.Arrivals.{heard}
 use Rattle.ev_vat.proofs.vat.hear.Goals as goal
 

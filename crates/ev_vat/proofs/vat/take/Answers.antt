@@ -3,7 +3,7 @@ use Rattle.ev_base.specs.declared.values.Value.{Value as Held}
 use Rattle.def_machine.specs.Calls.{turn_value}
 use Rattle.def_machine.specs.Eval.{evaluator}
 use Rattle.def_machine.specs.Values.{Words}
-use Rattle.ev_eval.specs.Turn.{Ends, turn_of}
+use Rattle.ev_vat.specs.Turn.{Ends, turn_of}
 use Rattle.ev_room.specs.Reading.{World, names, texts_of, value_of, values_of, vat_of}
 use Rattle.ev_vat.proofs.Steps.{told_sound, takes, takes_grown, takes_stays, takes_sound}
 use Rattle.ev_vat.proofs.vat.take.Goals as goal

@@ -1,5 +1,5 @@
 use Rattle.std.proofs.Common.{Bool, subst, sym}
-use Rattle.def_local.specs.Numbers.{steps_from}
+use Rattle.def_run.specs.Numbers.{steps_from}
 use Rattle.ev_world.specs.Writing.{GoesTo, IsWritten}
 use Rattle.ev_world.proofs.WrittenLoops.{goes_behind}
 use Rattle.ev_world.proofs.going.go_on.Goals as goal

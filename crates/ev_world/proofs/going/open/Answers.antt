@@ -1,7 +1,7 @@
 use Rattle.std.proofs.Common.{Bool, subst, sym}
 use Rattle.std.specs.Prelude.{slice_get}
 use Rattle.std.specs.Io.KnownBytes.{Appends}
-use Rattle.def_local.specs.Numbers.{Course, open_member}
+use Rattle.def_run.specs.Numbers.{Course, open_member}
 use Rattle.ev_world.specs.Writing.{IsCourse, text_at, untold}
 use Rattle.ev_world.proofs.WrittenLoops.{opens_so}
 use Rattle.ev_world.proofs.WrittenSteps.{untold_opens}

@@ -1,5 +1,5 @@
 use Rattle.std.proofs.Common.{◌+◌, ◌<◌, ◌≤◌, ℕ, Ok, Err, refl, sym, subst, ◌∙◌, arith}
-use Rattle.def_local.specs.Numbers.{Vats}
+use Rattle.def_run.specs.Numbers.{Vats}
 use Rattle.ev_world.specs.Standing.{Comes}
 use Rattle.ev_world.specs.Writing.{IsWritten}
 use Rattle.ev_world.proofs.Loops.{all_opened, none_opened}

@@ -1,6 +1,6 @@
 use Rattle.std.proofs.Common.{ℕ, Bool, subst, sym}
 use Rattle.std.specs.Io.KnownBytes.{Appends}
-use Rattle.def_local.specs.Numbers.{Course, step}
+use Rattle.def_run.specs.Numbers.{Course, step}
 use Rattle.ev_world.specs.Standing.{CourseIs}
 use Rattle.ev_world.specs.Writing.{IsCourse, text_at, untold}
 use Rattle.ev_world.proofs.WrittenLoops.{steps_so}

@@ -1,9 +1,9 @@
 -- So many entries were gone through, what they told is written, and the others are left.
 use Rattle.std.proofs.Common.{◌≡◌, ◌≤◌, ℕ, List, length, map, zero}
 use Rattle.std.specs.declared.option.Option.{Option}
-use Rattle.def_local.specs.Numbers.{Runs, Vats, begins, open_from}
+use Rattle.def_run.specs.Numbers.{Runs, Vats, begins, open_from}
 use Rattle.def_run.specs.World.{Script}
-use Rattle.law_peers.specs.Steady.{RunsSteadily}
+use Rattle.ev_wire.specs.Steady.{RunsSteadily}
 use Rattle.law_schedule.specs.Scripts.{machine_entry}
 use Rattle.ev_world.specs.Standing.{AreReady, Comes}
 use Rattle.ev_world.specs.Writing.{IsWritten}

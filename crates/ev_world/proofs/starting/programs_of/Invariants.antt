@@ -1,5 +1,5 @@
 use Rattle.std.proofs.Common.{◌≡◌, ◌++◌, length, map}
-use Rattle.ev_scope.specs.declared.accepted.Scoped.{Scoped as Tree}
+use Rattle.ev_reader.specs.declared.accepted.Scoped.{Scoped as Tree}
 use Rattle.ev_world.proofs.starting.programs_of.Given as goal
 
 -- the programs made so far, and behind them those of the trees that are left

@@ -1,5 +1,5 @@
 use Rattle.std.proofs.Common.{Bool, List, ap, length, map, subst, sym, ◌∙◌}
-use Rattle.def_local.specs.Numbers.{run}
+use Rattle.def_run.specs.Numbers.{run}
 use Rattle.def_machine.specs.Values.{Words}
 use Rattle.ev_script.specs.declared.script.VatScript.{VatScript}
 use Rattle.ev_world.specs.Running.{script_of, told_text}

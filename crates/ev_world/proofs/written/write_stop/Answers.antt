@@ -1,6 +1,6 @@
 use Rattle.std.proofs.Common.{ℕ, List, subst}
 use Rattle.std.specs.Io.KnownBytes.{Appends}
-use Rattle.def_local.specs.Numbers.{run}
+use Rattle.def_run.specs.Numbers.{run}
 use Rattle.def_machine.specs.Values.{Words}
 use Rattle.ev_world.specs.Writing.{AppendsFront, StopsAs}
 use Rattle.ev_world.proofs.WrittenRuns.{stop_cut, stop_short, stop_written}

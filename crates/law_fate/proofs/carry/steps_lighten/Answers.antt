@@ -1,4 +1,4 @@
-use Rattle.law_fate.proofs.StepsLight.{steps_lighten}
+use Rattle.law_fate.proofs.Fates.StepsLight.{steps_lighten}
 use Rattle.law_fate.proofs.carry.steps_lighten.Goals as goal
 
 pub returns : goal.returns

@@ -1,4 +1,4 @@
-use Rattle.law_fate.proofs.RunFates.{each_sent_once}
+use Rattle.law_fate.proofs.Fates.RunFates.{each_sent_once}
 use Rattle.law_fate.proofs.fate.each_sent_once.Goals as goal
 
 pub returns : goal.returns

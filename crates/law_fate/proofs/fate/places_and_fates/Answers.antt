@@ -1,4 +1,4 @@
-use Rattle.law_fate.proofs.RunFates.{places_and_fates}
+use Rattle.law_fate.proofs.Fates.RunFates.{places_and_fates}
 use Rattle.law_fate.proofs.fate.places_and_fates.Goals as goal
 
 pub returns : goal.returns

@@ -1,4 +1,4 @@
-use Rattle.law_fate.proofs.RunWell.{runs_stay_well}
+use Rattle.law_fate.proofs.Fates.RunWell.{runs_stay_well}
 use Rattle.law_fate.proofs.fate.runs_stay_well.Goals as goal
 
 pub returns : goal.returns

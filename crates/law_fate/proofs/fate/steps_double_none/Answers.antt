@@ -1,4 +1,4 @@
-use Rattle.law_fate.proofs.TurnAccount.{steps_double_none}
+use Rattle.law_fate.proofs.Fates.TurnAccount.{steps_double_none}
 use Rattle.law_fate.proofs.fate.steps_double_none.Goals as goal
 
 pub returns : goal.returns

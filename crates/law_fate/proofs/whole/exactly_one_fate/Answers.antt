@@ -1,4 +1,4 @@
-use Rattle.law_fate.proofs.WholeFateLaws.{exactly_one_fate}
+use Rattle.law_fate.proofs.Fates.WholeFateLaws.{exactly_one_fate}
 use Rattle.law_fate.proofs.whole.exactly_one_fate.Goals as goal
 
 pub returns : goal.returns

@@ -1,4 +1,4 @@
-use Rattle.law_fate.proofs.WholeFateLaws.{views_end_in_runs}
+use Rattle.law_fate.proofs.Fates.WholeFateLaws.{views_end_in_runs}
 use Rattle.law_fate.proofs.whole.views_end_in_runs.Goals as goal
 
 pub returns : goal.returns

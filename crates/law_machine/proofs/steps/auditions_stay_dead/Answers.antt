@@ -1,4 +1,4 @@
-use Rattle.law_machine.proofs.StepLaws.{auditions_stays}
+use Rattle.law_machine.proofs.Machine.StepLaws.{auditions_stays}
 use Rattle.law_machine.proofs.steps.auditions_stay_dead.Goals as goal
 
 pub returns : goal.returns

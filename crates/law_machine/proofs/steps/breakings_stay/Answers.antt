@@ -1,4 +1,4 @@
-use Rattle.law_machine.proofs.StepLaws.{broken_stays}
+use Rattle.law_machine.proofs.Machine.StepLaws.{broken_stays}
 use Rattle.law_machine.proofs.steps.breakings_stay.Goals as goal
 
 pub returns : goal.returns

@@ -1,4 +1,4 @@
-use Rattle.law_machine.proofs.StepLaws.{draws_stays}
+use Rattle.law_machine.proofs.Machine.StepLaws.{draws_stays}
 use Rattle.law_machine.proofs.steps.draws_stay.Goals as goal
 
 pub returns : goal.returns

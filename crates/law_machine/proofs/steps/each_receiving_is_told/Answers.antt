@@ -1,4 +1,4 @@
-use Rattle.law_machine.proofs.ReceivingLaws.{each_receiving}
+use Rattle.law_machine.proofs.Machine.ReceivingLaws.{each_receiving}
 use Rattle.law_machine.proofs.steps.each_receiving_is_told.Goals as goal
 
 pub returns : goal.returns

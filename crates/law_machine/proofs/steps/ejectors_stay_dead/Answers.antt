@@ -1,4 +1,4 @@
-use Rattle.law_machine.proofs.StepLaws.{ejectors_stays}
+use Rattle.law_machine.proofs.Machine.StepLaws.{ejectors_stays}
 use Rattle.law_machine.proofs.steps.ejectors_stay_dead.Goals as goal
 
 pub returns : goal.returns

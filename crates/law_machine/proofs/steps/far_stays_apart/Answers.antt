@@ -1,4 +1,4 @@
-use Rattle.law_machine.proofs.BreakLaws.{apart_stays}
+use Rattle.law_machine.proofs.Machine.BreakLaws.{apart_stays}
 use Rattle.law_machine.proofs.steps.far_stays_apart.Goals as goal
 
 pub returns : goal.returns

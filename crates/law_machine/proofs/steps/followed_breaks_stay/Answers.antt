@@ -1,4 +1,4 @@
-use Rattle.law_machine.proofs.BreakLaws.{followed_break_stays}
+use Rattle.law_machine.proofs.Machine.BreakLaws.{followed_break_stays}
 use Rattle.law_machine.proofs.steps.followed_breaks_stay.Goals as goal
 
 pub returns : goal.returns

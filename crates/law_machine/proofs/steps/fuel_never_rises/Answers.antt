@@ -1,4 +1,4 @@
-use Rattle.law_machine.proofs.StepLaws.{fuel_stays}
+use Rattle.law_machine.proofs.Machine.StepLaws.{fuel_stays}
 use Rattle.law_machine.proofs.steps.fuel_never_rises.Goals as goal
 
 pub returns : goal.returns

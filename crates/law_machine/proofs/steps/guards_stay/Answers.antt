@@ -1,4 +1,4 @@
-use Rattle.law_machine.proofs.StepLaws.{guards_stays}
+use Rattle.law_machine.proofs.Machine.StepLaws.{guards_stays}
 use Rattle.law_machine.proofs.steps.guards_stay.Goals as goal
 
 pub returns : goal.returns

@@ -1,4 +1,4 @@
-use Rattle.law_machine.proofs.StepLaws.{history_stays}
+use Rattle.law_machine.proofs.Machine.StepLaws.{history_stays}
 use Rattle.law_machine.proofs.steps.history_grows.Goals as goal
 
 pub returns : goal.returns

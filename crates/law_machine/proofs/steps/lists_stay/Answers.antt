@@ -1,4 +1,4 @@
-use Rattle.law_machine.proofs.StepLaws.{lists_stays}
+use Rattle.law_machine.proofs.Machine.StepLaws.{lists_stays}
 use Rattle.law_machine.proofs.steps.lists_stay.Goals as goal
 
 pub returns : goal.returns

@@ -1,4 +1,4 @@
-use Rattle.law_machine.proofs.StepLaws.{mails_stays}
+use Rattle.law_machine.proofs.Machine.StepLaws.{mails_stays}
 use Rattle.law_machine.proofs.steps.mails_stay.Goals as goal
 
 pub returns : goal.returns

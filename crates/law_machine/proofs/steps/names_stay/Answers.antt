@@ -1,4 +1,4 @@
-use Rattle.law_machine.proofs.StepLaws.{names_stays}
+use Rattle.law_machine.proofs.Machine.StepLaws.{names_stays}
 use Rattle.law_machine.proofs.steps.names_stay.Goals as goal
 
 pub returns : goal.returns

@@ -1,4 +1,4 @@
-use Rattle.law_machine.proofs.ReceivingLaws.{it_arrives}
+use Rattle.law_machine.proofs.Machine.ReceivingLaws.{it_arrives}
 use Rattle.law_machine.proofs.steps.new_notes_arrive.Goals as goal
 
 pub returns : goal.returns

@@ -1,4 +1,4 @@
-use Rattle.law_machine.proofs.ReceivingLaws.{does_nothing}
+use Rattle.law_machine.proofs.Machine.ReceivingLaws.{does_nothing}
 use Rattle.law_machine.proofs.steps.nothing_new_does_nothing.Goals as goal
 
 pub returns : goal.returns

@@ -1,4 +1,4 @@
-use Rattle.law_machine.proofs.NoticeLaws.{notice_breaks}
+use Rattle.law_machine.proofs.Machine.NoticeLaws.{notice_breaks}
 use Rattle.law_machine.proofs.steps.notices_break.Goals as goal
 
 pub returns : goal.returns

@@ -1,4 +1,4 @@
-use Rattle.law_machine.proofs.BreakLaws.{notice_severs}
+use Rattle.law_machine.proofs.Machine.BreakLaws.{notice_severs}
 use Rattle.law_machine.proofs.steps.notices_sever.Goals as goal
 
 pub returns : goal.returns

@@ -1,4 +1,4 @@
-use Rattle.law_machine.proofs.StepLaws.{noticed_stays}
+use Rattle.law_machine.proofs.Machine.StepLaws.{noticed_stays}
 use Rattle.law_machine.proofs.steps.notices_stay.Goals as goal
 
 pub returns : goal.returns

@@ -1,4 +1,4 @@
-use Rattle.law_machine.proofs.StepLaws.{objects_stays}
+use Rattle.law_machine.proofs.Machine.StepLaws.{objects_stays}
 use Rattle.law_machine.proofs.steps.objects_stay.Goals as goal
 
 pub returns : goal.returns

@@ -1,4 +1,4 @@
-use Rattle.law_machine.proofs.ReceivingLaws.{undoes_nothing}
+use Rattle.law_machine.proofs.Machine.ReceivingLaws.{undoes_nothing}
 use Rattle.law_machine.proofs.steps.receivings_undo_nothing.Goals as goal
 
 pub returns : goal.returns

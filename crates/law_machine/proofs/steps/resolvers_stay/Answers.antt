@@ -1,4 +1,4 @@
-use Rattle.law_machine.proofs.StepLaws.{resolvers_stays}
+use Rattle.law_machine.proofs.Machine.StepLaws.{resolvers_stays}
 use Rattle.law_machine.proofs.steps.resolvers_stay.Goals as goal
 
 pub returns : goal.returns

@@ -1,4 +1,4 @@
-use Rattle.law_machine.proofs.Restless.{rest_needed}
+use Rattle.law_machine.proofs.Machine.Restless.{rest_needed}
 use Rattle.law_machine.proofs.steps.rest_is_needed.Goals as goal
 
 pub returns : goal.returns

@@ -1,4 +1,4 @@
-use Rattle.law_machine.proofs.BreakLaws.{settled_break_stays}
+use Rattle.law_machine.proofs.Machine.BreakLaws.{settled_break_stays}
 use Rattle.law_machine.proofs.steps.settled_breaks_stay.Goals as goal
 
 pub returns : goal.returns

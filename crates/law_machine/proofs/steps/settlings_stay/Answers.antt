@@ -1,4 +1,4 @@
-use Rattle.law_machine.proofs.StepLaws.{settled_stays}
+use Rattle.law_machine.proofs.Machine.StepLaws.{settled_stays}
 use Rattle.law_machine.proofs.steps.settlings_stay.Goals as goal
 
 pub returns : goal.returns

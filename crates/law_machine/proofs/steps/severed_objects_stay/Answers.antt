@@ -1,4 +1,4 @@
-use Rattle.law_machine.proofs.BreakLaws.{object_break_stays}
+use Rattle.law_machine.proofs.Machine.BreakLaws.{object_break_stays}
 use Rattle.law_machine.proofs.steps.severed_objects_stay.Goals as goal
 
 pub returns : goal.returns

@@ -1,4 +1,4 @@
-use Rattle.law_machine.proofs.BreakLaws.{severing_stays}
+use Rattle.law_machine.proofs.Machine.BreakLaws.{severing_stays}
 use Rattle.law_machine.proofs.steps.severings_stay.Goals as goal
 
 pub returns : goal.returns

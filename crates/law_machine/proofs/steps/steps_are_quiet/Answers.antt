@@ -1,4 +1,4 @@
-use Rattle.law_machine.proofs.StepEnds.{step_ends}
+use Rattle.law_machine.proofs.Machine.StepEnds.{step_ends}
 use Rattle.law_machine.proofs.steps.steps_are_quiet.Goals as goal
 
 pub returns : goal.returns

@@ -1,4 +1,4 @@
-use Rattle.law_order.proofs.Agreeing.{agreeing_keeps}
+use Rattle.law_order.proofs.Ordering.Agreeing.{agreeing_keeps}
 use Rattle.law_order.proofs.arrive.agreeing_keeps.Goals as goal
 
 pub returns : goal.returns

@@ -1,4 +1,4 @@
-use Rattle.law_order.proofs.Arrived.{carried_messages_are_lost}
+use Rattle.law_order.proofs.Ordering.Arrived.{carried_messages_are_lost}
 use Rattle.law_order.proofs.arrive.carried_messages_are_lost.Goals as goal
 
 pub returns : goal.returns

@@ -1,4 +1,4 @@
-use Rattle.law_order.proofs.Arrived.{carried_messages_go_on}
+use Rattle.law_order.proofs.Ordering.Arrived.{carried_messages_go_on}
 use Rattle.law_order.proofs.arrive.carried_messages_go_on.Goals as goal
 
 pub returns : goal.returns

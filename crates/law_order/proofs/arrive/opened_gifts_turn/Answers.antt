@@ -1,4 +1,4 @@
-use Rattle.law_order.proofs.Opened.{opened_gifts_turn}
+use Rattle.law_order.proofs.Ordering.Opened.{opened_gifts_turn}
 use Rattle.law_order.proofs.arrive.opened_gifts_turn.Goals as goal
 
 pub returns : goal.returns

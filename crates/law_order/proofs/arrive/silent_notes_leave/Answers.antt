@@ -1,4 +1,4 @@
-use Rattle.law_order.proofs.OrderKeeping.{silent_notes_leave}
+use Rattle.law_order.proofs.Ordering.OrderKeeping.{silent_notes_leave}
 use Rattle.law_order.proofs.arrive.silent_notes_leave.Goals as goal
 
 pub returns : goal.returns

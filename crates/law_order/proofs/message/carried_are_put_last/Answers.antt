@@ -1,4 +1,4 @@
-use Rattle.law_order.proofs.Leavings.{carried_are_put_last}
+use Rattle.law_order.proofs.Ordering.Leavings.{carried_are_put_last}
 use Rattle.law_order.proofs.message.carried_are_put_last.Goals as goal
 
 pub returns : goal.returns

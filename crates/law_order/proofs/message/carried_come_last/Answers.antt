@@ -1,4 +1,4 @@
-use Rattle.law_order.proofs.Comings.{carried_come_last}
+use Rattle.law_order.proofs.Ordering.Comings.{carried_come_last}
 use Rattle.law_order.proofs.message.carried_come_last.Goals as goal
 
 pub returns : goal.returns

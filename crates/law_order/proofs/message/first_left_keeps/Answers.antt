@@ -1,4 +1,4 @@
-use Rattle.law_order.proofs.Leavings.{first_left_keeps}
+use Rattle.law_order.proofs.Ordering.Leavings.{first_left_keeps}
 use Rattle.law_order.proofs.message.first_left_keeps.Goals as goal
 
 pub returns : goal.returns

@@ -1,4 +1,4 @@
-use Rattle.law_order.proofs.FoundPlaces.{found_places_keep}
+use Rattle.law_order.proofs.Ordering.FoundPlaces.{found_places_keep}
 use Rattle.law_order.proofs.message.found_places_keep.Goals as goal
 
 pub returns : goal.returns

@@ -1,4 +1,4 @@
-use Rattle.law_order.proofs.Messages.{gone_on_is_behind}
+use Rattle.law_order.proofs.Ordering.Messages.{gone_on_is_behind}
 use Rattle.law_order.proofs.message.gone_on_is_behind.Goals as goal
 
 pub returns : goal.returns

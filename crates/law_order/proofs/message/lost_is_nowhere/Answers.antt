@@ -1,4 +1,4 @@
-use Rattle.law_order.proofs.Messages.{lost_is_nowhere}
+use Rattle.law_order.proofs.Ordering.Messages.{lost_is_nowhere}
 use Rattle.law_order.proofs.message.lost_is_nowhere.Goals as goal
 
 pub returns : goal.returns

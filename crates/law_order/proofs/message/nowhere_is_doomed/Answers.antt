@@ -1,4 +1,4 @@
-use Rattle.law_order.proofs.FoundPlaces.{nowhere_is_doomed}
+use Rattle.law_order.proofs.Ordering.FoundPlaces.{nowhere_is_doomed}
 use Rattle.law_order.proofs.message.nowhere_is_doomed.Goals as goal
 
 pub returns : goal.returns

@@ -1,4 +1,4 @@
-use Rattle.law_order.proofs.Messages.{places_are_found}
+use Rattle.law_order.proofs.Ordering.Messages.{places_are_found}
 use Rattle.law_order.proofs.message.places_are_found.Goals as goal
 
 pub returns : goal.returns

@@ -1,4 +1,4 @@
-use Rattle.law_order.proofs.Comings.{sends_come_last}
+use Rattle.law_order.proofs.Ordering.Comings.{sends_come_last}
 use Rattle.law_order.proofs.message.sends_come_last.Goals as goal
 
 pub returns : goal.returns

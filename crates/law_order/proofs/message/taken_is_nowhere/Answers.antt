@@ -1,4 +1,4 @@
-use Rattle.law_order.proofs.Leavings.{taken_is_nowhere}
+use Rattle.law_order.proofs.Ordering.Leavings.{taken_is_nowhere}
 use Rattle.law_order.proofs.message.taken_is_nowhere.Goals as goal
 
 pub returns : goal.returns

@@ -1,4 +1,4 @@
-use Rattle.law_order.proofs.Amid.{adding_grows}
+use Rattle.law_order.proofs.Ordering.Amid.{adding_grows}
 use Rattle.law_order.proofs.order.adding_grows.Goals as goal
 
 pub returns : goal.returns

@@ -1,4 +1,4 @@
-use Rattle.law_order.proofs.Coming.{coming_grows}
+use Rattle.law_order.proofs.Ordering.Coming.{coming_grows}
 use Rattle.law_order.proofs.order.coming_grows.Goals as goal
 
 pub returns : goal.returns

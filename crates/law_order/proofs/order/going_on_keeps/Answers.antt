@@ -1,4 +1,4 @@
-use Rattle.law_order.proofs.Changes.{going_on_keeps}
+use Rattle.law_order.proofs.Ordering.Changes.{going_on_keeps}
 use Rattle.law_order.proofs.order.going_on_keeps.Goals as goal
 
 pub returns : goal.returns

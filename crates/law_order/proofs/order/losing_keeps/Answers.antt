@@ -1,4 +1,4 @@
-use Rattle.law_order.proofs.Changes.{losing_keeps}
+use Rattle.law_order.proofs.Ordering.Changes.{losing_keeps}
 use Rattle.law_order.proofs.order.losing_keeps.Goals as goal
 
 pub returns : goal.returns

@@ -1,4 +1,4 @@
-use Rattle.law_order.proofs.Turned.{passing_by_keeps}
+use Rattle.law_order.proofs.Ordering.Turned.{passing_by_keeps}
 use Rattle.law_order.proofs.order.passing_by_keeps.Goals as goal
 
 pub returns : goal.returns

@@ -1,4 +1,4 @@
-use Rattle.law_order.proofs.Sends.{sent_messages_are_ahead}
+use Rattle.law_order.proofs.Ordering.Sends.{sent_messages_are_ahead}
 use Rattle.law_order.proofs.order.sent_messages_are_ahead.Goals as goal
 
 pub returns : goal.returns

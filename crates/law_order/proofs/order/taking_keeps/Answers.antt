@@ -1,4 +1,4 @@
-use Rattle.law_order.proofs.Changes.{taking_keeps}
+use Rattle.law_order.proofs.Ordering.Changes.{taking_keeps}
 use Rattle.law_order.proofs.order.taking_keeps.Goals as goal
 
 pub returns : goal.returns

@@ -1,4 +1,4 @@
-use Rattle.law_order.proofs.Brought.{passed_name_is_behind}
+use Rattle.law_order.proofs.Ordering.Brought.{passed_name_is_behind}
 use Rattle.law_order.proofs.passing.passed_name_is_behind.Goals as goal
 
 pub returns : goal.returns

@@ -1,4 +1,4 @@
-use Rattle.law_order.proofs.OrderSendKeeping.{courses_keep}
+use Rattle.law_order.proofs.Ordering.OrderSendKeeping.{courses_keep}
 use Rattle.law_order.proofs.send.courses_keep.Goals as goal
 
 pub returns : goal.returns

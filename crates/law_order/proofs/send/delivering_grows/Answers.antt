@@ -1,4 +1,4 @@
-use Rattle.law_order.proofs.Sendings.{delivering_grows}
+use Rattle.law_order.proofs.Ordering.Sendings.{delivering_grows}
 use Rattle.law_order.proofs.send.delivering_grows.Goals as goal
 
 pub returns : goal.returns

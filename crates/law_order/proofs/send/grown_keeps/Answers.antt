@@ -1,4 +1,4 @@
-use Rattle.law_order.proofs.OrderSendKeeping.{grown_keeps}
+use Rattle.law_order.proofs.Ordering.OrderSendKeeping.{grown_keeps}
 use Rattle.law_order.proofs.send.grown_keeps.Goals as goal
 
 pub returns : goal.returns

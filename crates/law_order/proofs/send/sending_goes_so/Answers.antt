@@ -1,4 +1,4 @@
-use Rattle.law_order.proofs.Sendings.{sending_goes_so}
+use Rattle.law_order.proofs.Ordering.Sendings.{sending_goes_so}
 use Rattle.law_order.proofs.send.sending_goes_so.Goals as goal
 
 pub returns : goal.returns

@@ -1,4 +1,4 @@
-use Rattle.law_order.proofs.Resolving.{resolving_keeps}
+use Rattle.law_order.proofs.Ordering.Resolving.{resolving_keeps}
 use Rattle.law_order.proofs.settle.resolving_keeps.Goals as goal
 
 pub returns : goal.returns

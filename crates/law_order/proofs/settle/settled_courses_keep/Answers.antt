@@ -1,4 +1,4 @@
-use Rattle.law_order.proofs.Resolving.{settled_courses_keep}
+use Rattle.law_order.proofs.Ordering.Resolving.{settled_courses_keep}
 use Rattle.law_order.proofs.settle.settled_courses_keep.Goals as goal
 
 pub returns : goal.returns

@@ -1,4 +1,4 @@
-use Rattle.law_order.proofs.Onward.{settling_here_keeps}
+use Rattle.law_order.proofs.Ordering.Onward.{settling_here_keeps}
 use Rattle.law_order.proofs.settle.settling_here_keeps.Goals as goal
 
 pub returns : goal.returns

@@ -1,4 +1,4 @@
-use Rattle.law_order.proofs.Settling.{settling_keeps}
+use Rattle.law_order.proofs.Ordering.Settling.{settling_keeps}
 use Rattle.law_order.proofs.settle.settling_keeps.Goals as goal
 
 pub returns : goal.returns

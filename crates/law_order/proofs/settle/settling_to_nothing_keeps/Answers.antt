@@ -1,4 +1,4 @@
-use Rattle.law_order.proofs.Onward.{settling_to_nothing_keeps}
+use Rattle.law_order.proofs.Ordering.Onward.{settling_to_nothing_keeps}
 use Rattle.law_order.proofs.settle.settling_to_nothing_keeps.Goals as goal
 
 pub returns : goal.returns

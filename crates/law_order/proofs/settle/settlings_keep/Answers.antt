@@ -1,4 +1,4 @@
-use Rattle.law_order.proofs.Whole.{settlings_keep}
+use Rattle.law_order.proofs.Ordering.Whole.{settlings_keep}
 use Rattle.law_order.proofs.settle.settlings_keep.Goals as goal
 
 pub returns : goal.returns

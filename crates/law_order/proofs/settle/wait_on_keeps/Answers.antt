@@ -1,4 +1,4 @@
-use Rattle.law_order.proofs.Resolving.{wait_on_keeps}
+use Rattle.law_order.proofs.Ordering.Resolving.{wait_on_keeps}
 use Rattle.law_order.proofs.settle.wait_on_keeps.Goals as goal
 
 pub returns : goal.returns

@@ -1,4 +1,4 @@
-use Rattle.law_order.proofs.Loose.{waiting_keeps}
+use Rattle.law_order.proofs.Ordering.Loose.{waiting_keeps}
 use Rattle.law_order.proofs.settle.waiting_keeps.Goals as goal
 
 pub returns : goal.returns

@@ -1,4 +1,4 @@
-use Rattle.law_reference.proofs.FollowRuns.{answers_follow_messages}
+use Rattle.law_reference.proofs.Reference.FollowRuns.{answers_follow_messages}
 use Rattle.law_reference.proofs.answers.answers_follow_messages.Goals as goal
 
 pub returns : goal.returns

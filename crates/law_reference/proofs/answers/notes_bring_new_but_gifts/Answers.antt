@@ -1,4 +1,4 @@
-use Rattle.law_reference.proofs.SingleRuns.{notes_bring_new_but_gifts}
+use Rattle.law_reference.proofs.Reference.SingleRuns.{notes_bring_new_but_gifts}
 use Rattle.law_reference.proofs.answers.notes_bring_new_but_gifts.Goals as goal
 
 pub returns : goal.returns

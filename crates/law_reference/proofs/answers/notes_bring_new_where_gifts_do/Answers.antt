@@ -1,4 +1,4 @@
-use Rattle.law_reference.proofs.AnswerWhole.{notes_bring_new_where_gifts_do}
+use Rattle.law_reference.proofs.Reference.AnswerWhole.{notes_bring_new_where_gifts_do}
 use Rattle.law_reference.proofs.answers.notes_bring_new_where_gifts_do.Goals as goal
 
 pub returns : goal.returns

@@ -1,4 +1,4 @@
-use Rattle.law_reference.proofs.ApartWhole.{stand_apart}
+use Rattle.law_reference.proofs.Reference.ApartWhole.{stand_apart}
 use Rattle.law_reference.proofs.apart.gifts_stand_apart.Goals as goal
 
 pub returns : goal.returns

@@ -1,4 +1,4 @@
-use Rattle.law_reference.proofs.ApartWhole.{bring_new}
+use Rattle.law_reference.proofs.Reference.ApartWhole.{bring_new}
 use Rattle.law_reference.proofs.apart.notes_bring_new.Goals as goal
 
 pub returns : goal.returns

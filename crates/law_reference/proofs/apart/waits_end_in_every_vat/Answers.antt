@@ -1,4 +1,4 @@
-use Rattle.law_reference.proofs.ApartWhole.{waits_end}
+use Rattle.law_reference.proofs.Reference.ApartWhole.{waits_end}
 use Rattle.law_reference.proofs.apart.waits_end_in_every_vat.Goals as goal
 
 pub returns : goal.returns

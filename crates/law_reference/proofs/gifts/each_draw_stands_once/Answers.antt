@@ -1,4 +1,4 @@
-use Rattle.law_reference.proofs.GiftLaws.{draws_once}
+use Rattle.law_reference.proofs.Reference.GiftLaws.{draws_once}
 use Rattle.law_reference.proofs.gifts.each_draw_stands_once.Goals as goal
 
 pub returns : goal.returns

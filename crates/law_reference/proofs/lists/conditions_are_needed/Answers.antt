@@ -1,4 +1,4 @@
-use Rattle.law_reference.proofs.Needed.{conditions_needed}
+use Rattle.law_reference.proofs.Reference.Needed.{conditions_needed}
 use Rattle.law_reference.proofs.lists.conditions_are_needed.Goals as goal
 
 pub returns : goal.returns

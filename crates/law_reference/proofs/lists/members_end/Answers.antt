@@ -1,4 +1,4 @@
-use Rattle.law_reference.proofs.Stacked.{members_end}
+use Rattle.law_reference.proofs.Reference.Stacked.{members_end}
 use Rattle.law_reference.proofs.lists.members_end.Goals as goal
 
 pub returns : goal.returns

@@ -1,4 +1,4 @@
-use Rattle.law_reference.proofs.ListLaws.{new_names_close_no_ring}
+use Rattle.law_reference.proofs.Reference.ListLaws.{new_names_close_no_ring}
 use Rattle.law_reference.proofs.lists.new_names_close_no_ring.Goals as goal
 
 pub returns : goal.returns

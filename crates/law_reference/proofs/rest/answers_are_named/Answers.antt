@@ -1,4 +1,4 @@
-use Rattle.law_reference.proofs.AnswerNames.{answers_named}
+use Rattle.law_reference.proofs.Reference.AnswerNames.{answers_named}
 use Rattle.law_reference.proofs.rest.answers_are_named.Goals as goal
 
 pub returns : goal.returns

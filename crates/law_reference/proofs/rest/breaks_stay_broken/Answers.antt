@@ -1,4 +1,4 @@
-use Rattle.law_reference.proofs.RestLaws.{breaks_stay}
+use Rattle.law_reference.proofs.Reference.RestLaws.{breaks_stay}
 use Rattle.law_reference.proofs.rest.breaks_stay_broken.Goals as goal
 
 pub returns : goal.returns

@@ -1,4 +1,4 @@
-use Rattle.law_reference.proofs.HostsRuns.{hosts_rest_in_runs}
+use Rattle.law_reference.proofs.Reference.HostsRuns.{hosts_rest_in_runs}
 use Rattle.law_reference.proofs.rest.hosts_rest.Goals as goal
 
 pub returns : goal.returns

@@ -1,4 +1,4 @@
-use Rattle.law_reference.proofs.NotesRuns.{notes_carry_ends}
+use Rattle.law_reference.proofs.Reference.NotesRuns.{notes_carry_ends}
 use Rattle.law_reference.proofs.rest.notes_carry_their_ends.Goals as goal
 
 pub returns : goal.returns

@@ -1,4 +1,4 @@
-use Rattle.law_reference.proofs.RestLaws.{vats_rest}
+use Rattle.law_reference.proofs.Reference.RestLaws.{vats_rest}
 use Rattle.law_reference.proofs.rest.vats_rest.Goals as goal
 
 pub returns : goal.returns

@@ -1,4 +1,4 @@
-use Rattle.law_reference.proofs.OwnRuns.{own_in_runs}
+use Rattle.law_reference.proofs.Reference.OwnRuns.{own_in_runs}
 use Rattle.law_reference.proofs.rest.what_a_vat_has_is_its_own.Goals as goal
 
 pub returns : goal.returns

@@ -1,4 +1,4 @@
-use Rattle.law_reference.proofs.NameTableLaws.{exports_are_distinct}
+use Rattle.law_reference.proofs.Reference.NameTableLaws.{exports_are_distinct}
 use Rattle.law_reference.proofs.tables.exports_are_distinct.Goals as goal
 
 pub returns : goal.returns

@@ -1,4 +1,4 @@
-use Rattle.law_reference.proofs.VatTables.{tables_tell_things_apart}
+use Rattle.law_reference.proofs.Reference.VatTables.{tables_tell_things_apart}
 use Rattle.law_reference.proofs.tables.tables_tell_things_apart.Goals as goal
 
 pub returns : goal.returns

@@ -1,6 +1,6 @@
 use Rattle.std.proofs.Common.{sym, subst}
 use Rattle.std.proofs.lemmas.Result.{on_ok_weaker}
-use Rattle.def_trace.specs.Uses.{settles}
+use Rattle.def_event.specs.Uses.{settles}
 use Rattle.ev_known.specs.Following.{Tables, TablesStand}
 use Rattle.ev_known.proofs.Chained.{chains_noted}
 use Rattle.ev_known.proofs.Followed.{line_followed}

@@ -1,6 +1,6 @@
 -- It stands for the same lines.
 use Rattle.std.proofs.Common.{List}
-use Rattle.def_trace.specs.Uses.{Line}
+use Rattle.def_event.specs.Uses.{Line}
 use Rattle.ev_known.specs.Knowing.{KnownStand}
 use Rattle.ev_known.proofs.knowledge.Knowledge.keep_back.Given as goal
 

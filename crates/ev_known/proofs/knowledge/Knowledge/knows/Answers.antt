@@ -1,6 +1,6 @@
 use Rattle.std.proofs.Common.{refl, sym, ◌∙◌}
-use Rattle.def_trace.specs.Uses as uses
-use Rattle.def_trace.specs.Uses.{AName}
+use Rattle.def_event.specs.Uses as uses
+use Rattle.def_event.specs.Uses.{AName}
 use Rattle.ev_known.proofs.Knowing.{had_known}
 use Rattle.ev_known.proofs.knowledge.Knowledge.knows.Goals as goal
 

@@ -1,5 +1,5 @@
 use Rattle.std.proofs.Common.{◌≡◌, ℕ, List, [], Option, Some, None, true, false, refl, ap, subst, ◌∙◌}
-use Rattle.def_trace.specs.Uses as uses
+use Rattle.def_event.specs.Uses as uses
 use Rattle.ev_links.specs.declared.label.Label.{Label}
 use Rattle.ev_links.specs.Links.{with_label}
 use Rattle.ev_known.specs.Knowing.{Searched}

@@ -1,6 +1,6 @@
 use Rattle.std.proofs.Common.{List, ◌∷◌, sym, subst}
 use Rattle.std.proofs.lemmas.Result.{on_ok_weaker}
-use Rattle.def_trace.specs.Uses.{Line}
+use Rattle.def_event.specs.Uses.{Line}
 use Rattle.ev_known.specs.Knowing.{Known, KnownStand}
 use Rattle.ev_known.proofs.Growing.{found_grows}
 use Rattle.ev_known.proofs.Marking.{marks_grow}

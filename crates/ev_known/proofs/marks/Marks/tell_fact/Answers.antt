@@ -1,5 +1,5 @@
 use Rattle.std.proofs.Common.{subst}
-use Rattle.def_trace.specs.Uses.{IsAmong}
+use Rattle.def_event.specs.Uses.{IsAmong}
 use Rattle.ev_known.specs.declared.facts.Fact.{Fact}
 use Rattle.ev_known.proofs.Marking.{captured_held, given_held}
 use Rattle.ev_known.proofs.marks.Marks.tell_fact.Goals as goal

@@ -1,6 +1,6 @@
 -- What is marked so far is held, and what the facts so far tell is marked.
 use Rattle.std.proofs.Common.{List}
-use Rattle.def_trace.specs.Uses.{Line}
+use Rattle.def_event.specs.Uses.{Line}
 use Rattle.ev_known.specs.Marks.{AreMarked, MarksStand}
 use Rattle.ev_known.specs.Telling.{StandsFor}
 use Rattle.ev_known.proofs.marks.Marks.tell_from.Given as goal

@@ -1,6 +1,6 @@
 use Rattle.std.proofs.Common.{Some, None, inl, inr, refl, sym, subst, ◌∙◌}
 use Rattle.std.proofs.lemmas.Result.{on_ok_weaker}
-use Rattle.def_trace.specs.Uses as uses
+use Rattle.def_event.specs.Uses as uses
 use Rattle.ev_known.specs.Telling.{key}
 use Rattle.ev_known.specs.Following.{FollowedAs}
 use Rattle.ev_known.proofs.Running.{told_is, not_told}

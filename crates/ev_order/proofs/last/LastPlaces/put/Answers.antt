@@ -1,5 +1,5 @@
 use Rattle.std.proofs.Common.{subst}
-use Rattle.def_trace.specs.declared.reference.Reference.{Reference}
+use Rattle.def_event.specs.declared.reference.Reference.{Reference}
 use Rattle.ev_order.specs.Last.{LastList, Sets}
 use Rattle.ev_order.proofs.Same.{sets}
 use Rattle.ev_order.proofs.last.LastPlaces.put.Goals as goal

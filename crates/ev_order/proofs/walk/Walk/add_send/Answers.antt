@@ -1,7 +1,7 @@
 use Rattle.std.proofs.Common.{List, [], ◌∷◌, Option, map, ◌++◌, refl, ap, ◌∙◌, subst, append_assoc}
 use Rattle.def_event.specs.declared.shown.Shown.{Shown}
-use Rattle.def_trace.specs.declared.reference.Reference.{Reference}
-use Rattle.def_trace.specs.Order.{Sending}
+use Rattle.def_event.specs.declared.reference.Reference.{Reference}
+use Rattle.def_event.specs.Order.{Sending}
 use Rattle.ev_order.specs.declared.mentions.Mention.{Mention}
 use Rattle.ev_order.specs.Mentions.{IsAdded}
 use Rattle.ev_order.specs.Chains.{reference}

@@ -1,5 +1,5 @@
 use Rattle.std.proofs.Common.{◌≡◌, ℕ, List, ◌-◌, sym, ap, ◌∙◌, take, arith}
-use Rattle.def_grammar.specs.Heights.{low}
+use Rattle.def_syntax.specs.Heights.{low}
 use Rattle.ev_parse_table.specs.Table.{capped}
 use Rattle.ev_parser.specs.declared.draft.Waiting.{Waiting}
 use Rattle.ev_parser.specs.declared.draft.Waiting.TheVariants as waits

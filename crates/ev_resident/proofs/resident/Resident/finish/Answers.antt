@@ -1,8 +1,8 @@
 use Rattle.std.proofs.Common.{sym, subst, ◌∙◌, ap}
 use Rattle.ev_arrive.specs.declared.host.Host.{Host}
-use Rattle.ev_naming.specs.Standing.{Says}
-use Rattle.ev_outcome.specs.Standing.{IsAfter}
-use Rattle.ev_member.specs.declared.Vat.{Vat}
+use Rattle.ev_resident.specs.NamesStanding.{Says}
+use Rattle.ev_resident.specs.OutcomeStanding.{IsAfter}
+use Rattle.ev_vat.specs.declared.Vat.{Vat}
 use Rattle.ev_resident.proofs.Worlds.{is_after, world_then}
 use Rattle.ev_resident.proofs.resident.Resident.finish.Goals as goal
 

@@ -3,8 +3,8 @@ use Rattle.def_machine.specs.Eval.{opening}
 use Rattle.def_machine.specs.Values.{Prom}
 use Rattle.ev_room.specs.Reading.{roots_from}
 use Rattle.ev_intro.specs.Word.{Drawn}
-use Rattle.ev_member.specs.Steps.{Steps, own}
-use Rattle.ev_member.specs.declared.sending.Sending.{Sending}
+use Rattle.ev_vat.specs.MemberSteps.{Steps, own}
+use Rattle.ev_vat.specs.declared.sending.Sending.{Sending}
 use Rattle.ev_pass.specs.Acts.{words_by}
 use Rattle.ev_pass.specs.Reading.{names_under}
 use Rattle.ev_resident.proofs.Worlds.{under}

@@ -1,7 +1,7 @@
 use Rattle.std.proofs.Common.{ℕ, List, ap, subst, ◌∙◌}
 use Rattle.ev_intro.specs.Word.{Drawn}
-use Rattle.ev_member.specs.Hearing.{Hears, frame_heard}
-use Rattle.ev_member.specs.declared.hearing.Arrival.{Arrival}
+use Rattle.ev_vat.specs.Hearing.{Hears, frame_heard}
+use Rattle.ev_vat.specs.declared.hearing.Arrival.{Arrival}
 use Rattle.ev_pass.specs.Acts.{words_by}
 use Rattle.ev_pass.specs.Reading.{names_under}
 use Rattle.ev_resident.proofs.Worlds.{under}

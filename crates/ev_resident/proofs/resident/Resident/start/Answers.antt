@@ -1,7 +1,7 @@
 use Rattle.std.proofs.Common.{[], ◌∷◌, map, sym, subst}
 use Rattle.def_machine.specs.Values.{Root}
-use Rattle.ev_naming.specs.Names.{Named}
-use Rattle.ev_outcome.specs.Standing.{NamesStand}
+use Rattle.ev_resident.specs.Names.{Named}
+use Rattle.ev_resident.specs.OutcomeStanding.{NamesStand}
 use Rattle.ev_resident.proofs.Roots.{first_stand}
 use Rattle.ev_resident.proofs.resident.Resident.start.Goals as goal
 

@@ -1,6 +1,6 @@
 use Rattle.std.proofs.Common.{List, subst}
 use Rattle.std.proofs.lemmas.Result.{on_ok_weaker}
-use Rattle.def_trace.specs.Uses.{Thing}
+use Rattle.def_event.specs.Uses.{Thing}
 use Rattle.ev_uses.specs.Lines.{AddsThings}
 use Rattle.ev_uses.proofs.Adding.{none_added}
 use Rattle.ev_uses.proofs.Finding.{source_carried, source_none, source_sent}

@@ -1,11 +1,11 @@
 use Rattle.std.proofs.Common.{◌≡◌, ◌++◌, sym, ap, subst}
 use Rattle.def_machine.specs.Receive as theirs
 use Rattle.ev_arrive.specs.declared.host.Host.{Host}
-use Rattle.ev_receive.specs.Hearing.{heard_by}
+use Rattle.ev_arrive.specs.Hearing.{heard_by}
 use Rattle.ev_room.specs.Reading.{names, texts_of}
 use Rattle.ev_vat.specs.Vat.{ArrivalIs}
 use Rattle.ev_vat.specs.declared.vat.Vat.{Vat}
-use Rattle.law_arrivals.specs.Arrivals.{vat_in}
+use Rattle.law_evaluation.specs.Arrivals.Arrivals.{vat_in}
 use Rattle.ev_vat.proofs.vat.Vat.receive.Goals as goal
 
 pub returns-clause-step : goal.returns-clause-step

@@ -1,5 +1,5 @@
 use Rattle.std.proofs.Common.{List, [], ◌∷◌, ◌++◌, ℕ, sym, ap, ◌∙◌}
-use Rattle.ev_link.specs.Way.{put}
+use Rattle.ev_ways.specs.Way.{put}
 use Rattle.ev_ways.specs.Labels.{label_of}
 use Rattle.ev_ways.specs.declared.frame.Label.{Label}
 use Rattle.ev_ways.proofs.Labels.{pushed_is}

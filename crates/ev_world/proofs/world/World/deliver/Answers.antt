@@ -1,5 +1,5 @@
 use Rattle.std.proofs.Common.{ℕ, List, subst, sym}
-use Rattle.def_local.specs.Numbers.{step, step_number}
+use Rattle.def_run.specs.Numbers.{step, step_number}
 use Rattle.def_run.specs.World.{Carry}
 use Rattle.ev_world.specs.Midway.{IsMidway}
 use Rattle.ev_world.proofs.Acting.{stops_with}

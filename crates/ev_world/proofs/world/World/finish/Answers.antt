@@ -1,9 +1,9 @@
 use Rattle.std.proofs.Common.{◌≡◌, ℕ, Bool, false, List, Some, ◌∙◌, get_or, length, map, refl, slice_get, slice_set, subst, sym, ap}
 use Rattle.std.proofs.lemmas.Bool.{ltb-true}
 use Rattle.std.proofs.lemmas.Option.{slice_get_read}
-use Rattle.def_local.specs.Numbers.{link_of}
+use Rattle.def_run.specs.Numbers.{link_of}
 use Rattle.ev_resident.specs.declared.Member.{Member}
-use Rattle.ev_naming.specs.Printing.{TellsCuts}
+use Rattle.ev_resident.specs.Printing.{TellsCuts}
 use Rattle.ev_resident.specs.declared.resident.Resident.{Resident}
 use Rattle.ev_resident.specs.Vat.{IsReady}
 use Rattle.ev_ways.proofs.Links.{cuts_stand}

@@ -1,4 +1,4 @@
-use Rattle.def_local.specs.Numbers.{Vats}
+use Rattle.def_run.specs.Numbers.{Vats}
 use Rattle.ev_world.specs.Standing.{IsWorld}
 use Rattle.ev_world.proofs.Wholes.{halted_first, opened_then}
 use Rattle.ev_world.proofs.world.World.go_on.Goals as goal

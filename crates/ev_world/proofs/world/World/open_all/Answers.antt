@@ -1,5 +1,5 @@
 use Rattle.std.proofs.Common.{◌+◌, ◌<◌, ◌≤◌, ℕ, refl, sym, subst, ◌∙◌}
-use Rattle.def_local.specs.Numbers.{Course, Vats}
+use Rattle.def_run.specs.Numbers.{Course, Vats}
 use Rattle.ev_world.specs.Standing.{Comes, HaltsAs, IsWorld}
 use Rattle.ev_world.proofs.Loops.{all_opened, none_opened, opened_halts, opened_next}
 use Rattle.ev_world.proofs.world.World.open_all.Goals as goal

@@ -1,8 +1,8 @@
 -- So many vats have opened, and the others are left.
 use Rattle.std.proofs.Common.{◌≡◌, length}
-use Rattle.def_local.specs.Numbers.{Vats, begins}
+use Rattle.def_run.specs.Numbers.{Vats, begins}
 use Rattle.def_run.specs.World.{Script}
-use Rattle.law_peers.specs.Steady.{RunsSteadily}
+use Rattle.ev_wire.specs.Steady.{RunsSteadily}
 use Rattle.ev_world.specs.Standing.{AreReady, Comes, IsWorld}
 use Rattle.ev_world.proofs.Loops.{OpenedBy}
 use Rattle.ev_world.proofs.world.World.open_all.Given as goal

@@ -1,5 +1,5 @@
 use Rattle.std.proofs.Common.{◌+◌, ◌<◌, ◌≤◌, ℕ, refl, sym, subst, ◌∙◌}
-use Rattle.def_local.specs.Numbers.{Course, Vats, step}
+use Rattle.def_run.specs.Numbers.{Course, Vats, step}
 use Rattle.ev_world.specs.Standing.{Comes, HaltsAs, IsWorld}
 use Rattle.ev_world.proofs.Loops.{all_stepped, entry_read, many_read, none_stepped, number_of, stepped_halts, stepped_next, steps_by}
 use Rattle.ev_world.proofs.world.World.step_all.Goals as goal

@@ -3,10 +3,10 @@ use Rattle.std.proofs.lemmas.Bool.{ltb-true}
 use Rattle.std.proofs.lemmas.Option.{slice_get_read}
 use Rattle.std.specs.Vec.{with_item}
 use Rattle.def_kernel.specs.declared.node.Node.{Node}
-use Rattle.def_local.specs.Numbers.{nothing_brought, step, step_number}
+use Rattle.def_run.specs.Numbers.{nothing_brought, step, step_number}
 use Rattle.def_run.specs.World.{Turn, Turned}
 use Rattle.ev_resident.specs.declared.Sending.{Sending}
-use Rattle.ev_naming.specs.Names.{Entry}
+use Rattle.ev_resident.specs.Names.{Entry}
 use Rattle.ev_world.specs.Exporting.{AreCounted}
 use Rattle.ev_world.specs.Midway.{IsMidway}
 use Rattle.ev_world.specs.declared.world.World.{World}

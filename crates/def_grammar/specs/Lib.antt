@@ -1,5 +1,0 @@
-pub mod Kinds
-pub mod Grammar
-pub mod Machine
-pub mod Heights
-pub mod Exact

@@ -1,4 +1,0 @@
-pub mod Names
-pub mod Vats
-pub mod Numbers
-pub mod Text

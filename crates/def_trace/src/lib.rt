@@ -1,8 +1,0 @@
-//! What the text of a run says: its events, the names of its vats, and the line with which it stopped.
-#![tactic(auto)]
-
-pub mod reference;
-pub mod trace;
-
-pub use reference::Reference;
-pub use trace::Trace;

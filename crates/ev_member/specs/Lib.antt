@@ -1,9 +1,0 @@
-pub mod Sending
-pub mod Fitting
-pub mod Standing
-pub mod Starting
-pub mod Steps
-pub mod Hearing
-pub use Rattle.ev_vat.specs.Vat
-pub use Rattle.ev_vat.specs.Rooted
-pub use Rattle.ev_vat.specs.Closing

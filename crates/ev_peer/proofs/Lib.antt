@@ -1,4 +1,0 @@
-pub mod Places
-pub mod Described
-pub mod Kept
-pub mod Numbered

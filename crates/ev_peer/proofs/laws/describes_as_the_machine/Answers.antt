@@ -1,5 +1,0 @@
-use Rattle.ev_peer.proofs.Described.{describes as law}
-use Rattle.ev_peer.proofs.laws.describes_as_the_machine.Goals as goal
-
-pub returns : goal.returns
-returns c = law

@@ -1,5 +1,0 @@
-use Rattle.ev_read.proofs.Fitting as fitting
-use Rattle.ev_read.proofs.laws.what_is_heard_fits.Goals as goal
-
-pub returns : goal.returns
-returns c = λ i t l o x s is e. fitting.what_is_heard_fits i t l o x s is e

@@ -1,0 +1,6 @@
+-- the names so far were copied
+use Rattle.std.proofs.Common.{◌≡◌, take}
+use Rattle.ev_reader.proofs.checker.copy_names.Given as goal
+
+abbrev pub invariant-loop-name : goal.invariant-loop-name
+invariant-loop-name l = l.copy ≡ take l.name-index l.names

@@ -1,5 +1,0 @@
-use Rattle.ev_receive.proofs.Arrives.{deliver_is}
-use Rattle.ev_receive.proofs.laws.delivers_notes_as_the_machine.Goals as goal
-
-pub returns : goal.returns
-returns c = λ ts key line s h n from m asks x verb ps tells lists good. deliver_is ts key line s tells lists n from m asks x verb ps h good

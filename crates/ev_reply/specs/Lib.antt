@@ -1,4 +1,0 @@
-pub mod Words
-pub mod Codes
-pub mod Debt
-pub mod Paying

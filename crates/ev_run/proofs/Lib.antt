@@ -1,4 +1,0 @@
-pub mod ReadLemmas
-pub mod Steady
-pub mod Ended
-pub mod WholeInput

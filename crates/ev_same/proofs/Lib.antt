@@ -1,2 +1,0 @@
-mod Opens
-mod Alikes

@@ -1,4 +1,0 @@
-pub mod Names
-pub mod TaskLemmas
-pub mod Weights
-mod Rows

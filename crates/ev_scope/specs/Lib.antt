@@ -1,5 +1,0 @@
-pub mod Bindings
-pub mod Scopes
-pub mod Tasks
-pub mod Answers
-pub mod Faults

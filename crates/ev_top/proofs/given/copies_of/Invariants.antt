@@ -1,0 +1,6 @@
+-- copies of the texts so far
+use Rattle.std.proofs.Common.{◌≡◌, map, take}
+use Rattle.ev_top.proofs.given.copies_of.Given as goal
+
+abbrev pub invariant-loop-text : goal.invariant-loop-text
+invariant-loop-text l = l.copies ≡ map (λ text. text.now) (take l.text-index l.texts)

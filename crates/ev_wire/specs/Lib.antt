@@ -1,0 +1,15 @@
+pub mod Writing
+pub mod WritingStatements
+pub mod Putting
+pub mod Standing
+pub mod Steady
+pub mod Asking
+pub mod PeerStatements
+pub mod Learnt
+pub mod Bringing
+pub mod Hearing
+pub mod Reading
+pub mod HearingStatements
+pub mod Taking
+pub mod Sight
+pub mod Fitting

@@ -1,3 +1,0 @@
-mod Loops
-pub mod Machine
-pub mod Puts

@@ -1,5 +1,0 @@
-use Rattle.law_acts.proofs.Follows.{follows}
-use Rattle.law_acts.proofs.values.follows_inside.Goals as goal
-
-pub returns : goal.returns
-returns c = λ kind base i ground good v a. follows kind base i ground good v a

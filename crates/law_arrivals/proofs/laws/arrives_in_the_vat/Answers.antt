@@ -1,5 +1,0 @@
-use Rattle.law_arrivals.proofs.Machine.{arrives}
-use Rattle.law_arrivals.proofs.laws.arrives_in_the_vat.Goals as goal
-
-pub returns : goal.returns
-returns c = λ w more h n x there from note sound fits front key. arrives w more h n x there from note sound fits front key

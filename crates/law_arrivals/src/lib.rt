@@ -1,4 +1,0 @@
-//! What arrives at a vat leaves it sound, and is what arrives in the machine.
-#![tactic(auto)]
-
-pub mod laws;

@@ -1,6 +1,0 @@
-use Rattle.def_machine.specs.Values.{naming, numbering}
-use Rattle.law_connected.proofs.StepNests.{steps_nest}
-use Rattle.law_connected.proofs.connected.calls_nest.Goals as goal
-
-pub returns : goal.returns
-returns c = (λ word v step s e. steps_nest (naming word v) step s e, λ word step s e. steps_nest (numbering word) step s e)

@@ -1,5 +1,0 @@
-use Rattle.law_connected.proofs.Rows.{escape_is}
-use Rattle.law_connected.proofs.connected.escape_is_connected.Goals as goal
-
-pub returns : goal.returns
-returns c = λ word. escape_is word

@@ -1,5 +1,0 @@
-use Rattle.law_connected.proofs.Rows.{handed_is}
-use Rattle.law_connected.proofs.connected.handed_is_connected.Goals as goal
-
-pub returns : goal.returns
-returns c = λ word. handed_is word

@@ -1,5 +1,0 @@
-use Rattle.law_connected.proofs.Rows.{kept_is_not}
-use Rattle.law_connected.proofs.connected.kept_is_not_connected.Goals as goal
-
-pub returns : goal.returns
-returns c = λ word connected. kept_is_not word connected

@@ -1,5 +1,0 @@
-use Rattle.law_connected.proofs.Rows.{leak_is_not}
-use Rattle.law_connected.proofs.connected.leak_is_not_connected.Goals as goal
-
-pub returns : goal.returns
-returns c = λ word connected. leak_is_not word connected

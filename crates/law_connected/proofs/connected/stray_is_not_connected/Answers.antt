@@ -1,5 +1,0 @@
-use Rattle.law_connected.proofs.Rows.{stray_is_not}
-use Rattle.law_connected.proofs.connected.stray_is_not_connected.Goals as goal
-
-pub returns : goal.returns
-returns c = λ word c. stray_is_not word c

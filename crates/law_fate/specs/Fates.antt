@@ -1,0 +1,14 @@
+pub mod Fate
+pub mod FateLaws
+pub mod FateRuns
+pub mod Lasting
+pub mod Wellness
+pub mod Finding
+pub mod FateExample
+pub mod Carry
+pub mod Sound
+pub mod CarryLaws
+pub mod CarryRuns
+pub mod CarryExample
+pub mod Steps
+pub mod WholeFateRuns

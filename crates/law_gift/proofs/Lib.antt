@@ -1,2 +1,0 @@
-pub mod Gift
-pub mod OwnWaits

@@ -1,5 +1,0 @@
-use Rattle.law_gift.proofs.Gift.Broken.{breaks_for_good}
-use Rattle.law_gift.proofs.unopened.notices_break_unopened_gifts.Goals as goal
-
-pub returns : goal.returns
-returns c = breaks_for_good

@@ -1,5 +1,0 @@
-use Rattle.law_gift.proofs.OwnWaits.Runs.{waits_in_runs}
-use Rattle.law_gift.proofs.waits_are_own.Goals as goal
-
-pub returns : goal.returns
-returns c = waits_in_runs

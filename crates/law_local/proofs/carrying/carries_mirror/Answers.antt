@@ -1,5 +1,0 @@
-use Rattle.law_local.proofs.Local.Carries.{carries_mirror}
-use Rattle.law_local.proofs.carrying.carries_mirror.Goals as goal
-
-pub returns : goal.returns
-returns c = carries_mirror

@@ -1,5 +1,0 @@
-use Rattle.law_local.proofs.Local.Puts.{each_puts_so}
-use Rattle.law_local.proofs.parts.each_puts_so.Goals as goal
-
-pub returns : goal.returns
-returns c = each_puts_so

@@ -1,5 +1,0 @@
-use Rattle.law_local.proofs.Local.Starts.{start_mirrors}
-use Rattle.law_local.proofs.parts.start_mirrors.Goals as goal
-
-pub returns : goal.returns
-returns c = start_mirrors

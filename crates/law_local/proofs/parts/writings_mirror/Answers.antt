@@ -1,5 +1,0 @@
-use Rattle.law_local.proofs.Local.Writing.{writings_mirror}
-use Rattle.law_local.proofs.parts.writings_mirror.Goals as goal
-
-pub returns : goal.returns
-returns c = writings_mirror

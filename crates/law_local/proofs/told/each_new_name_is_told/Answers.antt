@@ -1,5 +1,0 @@
-use Rattle.law_local.proofs.Local.ToldLaws.{names_told}
-use Rattle.law_local.proofs.told.each_new_name_is_told.Goals as goal
-
-pub returns : goal.returns
-returns c = names_told

@@ -1,5 +1,0 @@
-use Rattle.law_local.proofs.Local.ToldLaws.{lines_named}
-use Rattle.law_local.proofs.told.lines_name_answers.Goals as goal
-
-pub returns : goal.returns
-returns c = lines_named

@@ -1,5 +1,0 @@
-use Rattle.law_local.proofs.Local.JoinedRuns.{runs_so}
-use Rattle.law_local.proofs.whole.runs_mirror_where_carries_do.Goals as goal
-
-pub returns : goal.returns
-returns c = runs_so

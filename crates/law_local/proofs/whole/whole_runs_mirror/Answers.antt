@@ -1,5 +1,0 @@
-use Rattle.law_local.proofs.Local.WholeRuns.{whole_runs_mirror}
-use Rattle.law_local.proofs.whole.whole_runs_mirror.Goals as goal
-
-pub returns : goal.returns
-returns c = whole_runs_mirror

@@ -1,5 +1,0 @@
-use Rattle.law_local.proofs.Local.WholeRuns.{whole_texts_mirror}
-use Rattle.law_local.proofs.whole.whole_texts_mirror.Goals as goal
-
-pub returns : goal.returns
-returns c = whole_texts_mirror

@@ -1,0 +1,4 @@
+pub mod Steps
+pub mod Laws
+pub mod Breaks
+pub mod Receiving

@@ -1,5 +1,0 @@
-use Rattle.law_name.proofs.Laws.{own_known}
-use Rattle.law_name.proofs.names.own_promises_are_known.Goals as goal
-
-pub returns : goal.returns
-returns c = own_known

@@ -1,5 +1,0 @@
-use Rattle.law_name.proofs.Laws.{plain_once}
-use Rattle.law_name.proofs.names.roots_and_promises_are_known_once.Goals as goal
-
-pub returns : goal.returns
-returns c = plain_once

@@ -1,5 +1,0 @@
-use Rattle.law_name.proofs.Laws.{severed_broken}
-use Rattle.law_name.proofs.names.severed_objects_stay_broken.Goals as goal
-
-pub returns : goal.returns
-returns c = severed_broken

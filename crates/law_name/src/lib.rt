@@ -1,4 +1,0 @@
-//! Laws of names over every run of the machine.
-#![tactic(auto)]
-
-pub mod names;

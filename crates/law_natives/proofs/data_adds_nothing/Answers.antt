@@ -1,6 +1,0 @@
-use Rattle.law_natives.proofs.Natives.{data_has}
-use Rattle.law_natives.specs.Natives.{In}
-use Rattle.law_natives.proofs.data_adds_nothing.Goals as goal
-
-pub returns : goal.returns
-returns c = (λ set lists pl all. data_has (In set) pl lists all, λ set lists pl all. data_has (In set) pl lists all)

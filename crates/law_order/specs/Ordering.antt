@@ -1,0 +1,17 @@
+pub mod Ways
+pub mod Changes
+pub mod Turns
+pub mod Order
+pub mod Example
+pub mod Places
+pub mod Messages
+pub mod Worlds
+pub mod Growing
+pub mod Settle
+pub mod Settlings
+pub mod Resolve
+pub mod Arrivals
+pub mod Steps
+pub mod OrderSendPassing
+pub mod Comings
+pub mod Leavings

@@ -1,5 +1,0 @@
-use Rattle.law_order_history.proofs.History.Passed.{arguments_pass_behind}
-use Rattle.law_order_history.proofs.arguments_pass_behind.Goals as goal
-
-pub returns : goal.returns
-returns c = arguments_pass_behind

@@ -1,5 +1,0 @@
-use Rattle.law_order_history.proofs.Came.Runs.{held_messages_came}
-use Rattle.law_order_history.proofs.held_messages_came.Goals as goal
-
-pub returns : goal.returns
-returns c = held_messages_came

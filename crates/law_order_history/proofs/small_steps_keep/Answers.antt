@@ -1,5 +1,0 @@
-use Rattle.law_order_history.proofs.History.Kept.{small_steps_keep}
-use Rattle.law_order_history.proofs.small_steps_keep.Goals as goal
-
-pub returns : goal.returns
-returns c = small_steps_keep

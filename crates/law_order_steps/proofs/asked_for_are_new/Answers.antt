@@ -1,5 +1,0 @@
-use Rattle.law_order_steps.proofs.Asked.AskRuns.{asked_for_are_new}
-use Rattle.law_order_steps.proofs.asked_for_are_new.Goals as goal
-
-pub returns : goal.returns
-returns c = asked_for_are_new

@@ -1,5 +1,0 @@
-use Rattle.law_order_steps.proofs.Asked.Asked.{asked_for_are_opened}
-use Rattle.law_order_steps.proofs.asked_for_are_opened.Goals as goal
-
-pub returns : goal.returns
-returns c = asked_for_are_opened

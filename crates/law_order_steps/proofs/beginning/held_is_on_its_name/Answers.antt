@@ -1,5 +1,0 @@
-use Rattle.law_order_steps.proofs.Runs.Beginnings.{held_is_on_its_name}
-use Rattle.law_order_steps.proofs.beginning.held_is_on_its_name.Goals as goal
-
-pub returns : goal.returns
-returns c = held_is_on_its_name

@@ -1,5 +1,0 @@
-use Rattle.law_order_steps.proofs.Runs.Beginnings.{vats_are_ready}
-use Rattle.law_order_steps.proofs.beginning.vats_are_ready.Goals as goal
-
-pub returns : goal.returns
-returns c = vats_are_ready

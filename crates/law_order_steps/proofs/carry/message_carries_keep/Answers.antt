@@ -1,5 +1,0 @@
-use Rattle.law_order_steps.proofs.Carries.Whole.{message_carries_keep}
-use Rattle.law_order_steps.proofs.carry.message_carries_keep.Goals as goal
-
-pub returns : goal.returns
-returns c = message_carries_keep

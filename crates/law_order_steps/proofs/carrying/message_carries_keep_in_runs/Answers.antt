@@ -1,5 +1,0 @@
-use Rattle.law_order_steps.proofs.Runs.CarryRuns.{message_carries_keep_in_runs}
-use Rattle.law_order_steps.proofs.carrying.message_carries_keep_in_runs.Goals as goal
-
-pub returns : goal.returns
-returns c = message_carries_keep_in_runs

@@ -1,5 +1,0 @@
-use Rattle.law_order_steps.proofs.Cuts.Shut.{cut_messages_doom}
-use Rattle.law_order_steps.proofs.cut.cut_messages_doom.Goals as goal
-
-pub returns : goal.returns
-returns c = cut_messages_doom

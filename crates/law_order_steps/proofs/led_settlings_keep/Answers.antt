@@ -1,5 +1,0 @@
-use Rattle.law_order_steps.proofs.Views.Wholes.{led_settlings_keep}
-use Rattle.law_order_steps.proofs.led_settlings_keep.Goals as goal
-
-pub returns : goal.returns
-returns c = led_settlings_keep

@@ -1,5 +1,0 @@
-use Rattle.law_order_steps.proofs.Cuts.Reached.{notes_are_logged}
-use Rattle.law_order_steps.proofs.letting.notes_are_logged.Goals as goal
-
-pub returns : goal.returns
-returns c = notes_are_logged

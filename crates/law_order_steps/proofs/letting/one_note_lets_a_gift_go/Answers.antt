@@ -1,5 +1,0 @@
-use Rattle.law_order_steps.proofs.Cuts.Reached.{one_note_lets_a_gift_go}
-use Rattle.law_order_steps.proofs.letting.one_note_lets_a_gift_go.Goals as goal
-
-pub returns : goal.returns
-returns c = one_note_lets_a_gift_go

@@ -1,5 +1,0 @@
-use Rattle.law_order_steps.proofs.Runs.OwnRuns.{own_names_end}
-use Rattle.law_order_steps.proofs.owning.own_names_end.Goals as goal
-
-pub returns : goal.returns
-returns c = own_names_end

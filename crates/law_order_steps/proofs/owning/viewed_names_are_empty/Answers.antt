@@ -1,5 +1,0 @@
-use Rattle.law_order_steps.proofs.Runs.OwnRuns.{viewed_names_are_empty}
-use Rattle.law_order_steps.proofs.owning.viewed_names_are_empty.Goals as goal
-
-pub returns : goal.returns
-returns c = viewed_names_are_empty

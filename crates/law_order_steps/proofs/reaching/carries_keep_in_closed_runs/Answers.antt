@@ -1,5 +1,0 @@
-use Rattle.law_order_steps.proofs.Runs.ClosedRuns.{carries_keep_in_closed_runs}
-use Rattle.law_order_steps.proofs.reaching.carries_keep_in_closed_runs.Goals as goal
-
-pub returns : goal.returns
-returns c = carries_keep_in_closed_runs

@@ -1,5 +1,0 @@
-use Rattle.law_order_steps.proofs.Runs.ClosedRuns.{links_are_there}
-use Rattle.law_order_steps.proofs.reaching.links_are_there.Goals as goal
-
-pub returns : goal.returns
-returns c = links_are_there

@@ -1,5 +1,0 @@
-use Rattle.law_order_steps.proofs.Views.Severed.{severed_names_break_quietly}
-use Rattle.law_order_steps.proofs.severed_names_break_quietly.Goals as goal
-
-pub returns : goal.returns
-returns c = severed_names_break_quietly

@@ -1,5 +1,0 @@
-use Rattle.law_order_steps.proofs.Asks.Shortens.{shorten_carries_keep}
-use Rattle.law_order_steps.proofs.shorten_carries_keep.Goals as goal
-
-pub returns : goal.returns
-returns c = shorten_carries_keep

@@ -1,5 +1,0 @@
-use Rattle.law_order_steps.proofs.Asks.ShortenRuns.{shorten_carries_keep_in_runs}
-use Rattle.law_order_steps.proofs.shorten_carries_keep_in_runs.Goals as goal
-
-pub returns : goal.returns
-returns c = shorten_carries_keep_in_runs

@@ -1,5 +1,0 @@
-use Rattle.law_order_steps.proofs.Asks.Wishes.{shortens_are_true}
-use Rattle.law_order_steps.proofs.shortens_are_true.Goals as goal
-
-pub returns : goal.returns
-returns c = shortens_are_true

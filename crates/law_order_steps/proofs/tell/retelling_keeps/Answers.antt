@@ -1,5 +1,0 @@
-use Rattle.law_order_steps.proofs.Arrivals.Retold.{retelling_keeps}
-use Rattle.law_order_steps.proofs.tell.retelling_keeps.Goals as goal
-
-pub returns : goal.returns
-returns c = retelling_keeps

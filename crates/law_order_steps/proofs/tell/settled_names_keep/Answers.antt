@@ -1,5 +1,0 @@
-use Rattle.law_order_steps.proofs.Arrivals.TrueNotes.{settled_names_keep}
-use Rattle.law_order_steps.proofs.tell.settled_names_keep.Goals as goal
-
-pub returns : goal.returns
-returns c = settled_names_keep

@@ -1,5 +1,0 @@
-use Rattle.law_order_steps.proofs.Arrivals.Beside.{told_passings_keep}
-use Rattle.law_order_steps.proofs.tell.told_passings_keep.Goals as goal
-
-pub returns : goal.returns
-returns c = told_passings_keep

@@ -1,5 +1,0 @@
-use Rattle.law_order_steps.proofs.Runs.ToldRuns.{elsewhere_is_true}
-use Rattle.law_order_steps.proofs.telling.elsewhere_is_true.Goals as goal
-
-pub returns : goal.returns
-returns c = elsewhere_is_true

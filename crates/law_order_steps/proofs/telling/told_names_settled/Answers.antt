@@ -1,5 +1,0 @@
-use Rattle.law_order_steps.proofs.Runs.ToldRuns.{told_names_settled}
-use Rattle.law_order_steps.proofs.telling.told_names_settled.Goals as goal
-
-pub returns : goal.returns
-returns c = told_names_settled

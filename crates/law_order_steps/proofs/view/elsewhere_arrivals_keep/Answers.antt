@@ -1,5 +1,0 @@
-use Rattle.law_order_steps.proofs.Arrivals.Views.{elsewhere_arrivals_keep}
-use Rattle.law_order_steps.proofs.view.elsewhere_arrivals_keep.Goals as goal
-
-pub returns : goal.returns
-returns c = elsewhere_arrivals_keep

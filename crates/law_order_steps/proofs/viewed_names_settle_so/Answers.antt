@@ -1,5 +1,0 @@
-use Rattle.law_order_steps.proofs.Views.Settling.{viewed_names_settle_so}
-use Rattle.law_order_steps.proofs.viewed_names_settle_so.Goals as goal
-
-pub returns : goal.returns
-returns c = viewed_names_settle_so

@@ -1,5 +1,0 @@
-use Rattle.law_order_steps.proofs.Views.Led.{views_settle_quietly}
-use Rattle.law_order_steps.proofs.views_settle_quietly.Goals as goal
-
-pub returns : goal.returns
-returns c = views_settle_quietly

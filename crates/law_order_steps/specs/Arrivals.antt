@@ -1,5 +1,0 @@
-pub mod Tellings
-pub mod Notes
-pub mod Wholes
-pub mod Example
-pub mod Views

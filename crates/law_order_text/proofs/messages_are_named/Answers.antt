@@ -1,5 +1,0 @@
-use Rattle.law_order_text.proofs.Told.Apart.{messages_named}
-use Rattle.law_order_text.proofs.messages_are_named.Goals as goal
-
-pub returns : goal.returns
-returns c = messages_named

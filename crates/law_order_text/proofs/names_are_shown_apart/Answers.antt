@@ -1,5 +1,0 @@
-use Rattle.law_order_text.proofs.Told.Apart.{names_apart}
-use Rattle.law_order_text.proofs.names_are_shown_apart.Goals as goal
-
-pub returns : goal.returns
-returns c = names_apart

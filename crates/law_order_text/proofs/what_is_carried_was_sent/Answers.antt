@@ -1,5 +1,0 @@
-use Rattle.law_order_text.proofs.Told.Whole.{carried_was_sent}
-use Rattle.law_order_text.proofs.what_is_carried_was_sent.Goals as goal
-
-pub returns : goal.returns
-returns c = carried_was_sent

@@ -1,5 +1,0 @@
-use Rattle.law_ordered.proofs.AskTales.AskTales.{asks_are_tales}
-use Rattle.law_ordered.proofs.asks_are_tales.Goals as goal
-
-pub returns : goal.returns
-returns c = asks_are_tales

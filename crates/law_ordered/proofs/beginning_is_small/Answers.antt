@@ -1,5 +1,0 @@
-use Rattle.law_ordered.proofs.Tales.Begun.{beginning_is_small}
-use Rattle.law_ordered.proofs.beginning_is_small.Goals as goal
-
-pub returns : goal.returns
-returns c = beginning_is_small

@@ -1,5 +1,0 @@
-use Rattle.law_ordered.proofs.MessageTales.Runs.{carries_of_messages_are_tales}
-use Rattle.law_ordered.proofs.carries_of_messages_are_tales.Goals as goal
-
-pub returns : goal.returns
-returns c = carries_of_messages_are_tales

@@ -1,5 +1,0 @@
-use Rattle.law_ordered.proofs.Sending.Agree.{earlier_states_agree}
-use Rattle.law_ordered.proofs.earlier_states_agree.Goals as goal
-
-pub returns : goal.returns
-returns c = earlier_states_agree

@@ -1,5 +1,0 @@
-use Rattle.law_ordered.proofs.Tales.Begun.{ending_is_small}
-use Rattle.law_ordered.proofs.ending_is_small.Goals as goal
-
-pub returns : goal.returns
-returns c = ending_is_small

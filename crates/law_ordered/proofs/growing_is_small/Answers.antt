@@ -1,5 +1,0 @@
-use Rattle.law_ordered.proofs.Tales.Middle.{growing_is_small}
-use Rattle.law_ordered.proofs.growing_is_small.Goals as goal
-
-pub returns : goal.returns
-returns c = growing_is_small

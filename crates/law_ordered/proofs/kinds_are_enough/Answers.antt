@@ -1,5 +1,0 @@
-use Rattle.law_ordered.proofs.Tales.Entries.{kinds_are_enough}
-use Rattle.law_ordered.proofs.kinds_are_enough.Goals as goal
-
-pub returns : goal.returns
-returns c = kinds_are_enough

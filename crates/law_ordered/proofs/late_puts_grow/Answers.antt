@@ -1,5 +1,0 @@
-use Rattle.law_ordered.proofs.MessageTales.Reorder.{late_puts_grow}
-use Rattle.law_ordered.proofs.late_puts_grow.Goals as goal
-
-pub returns : goal.returns
-returns c = late_puts_grow

@@ -1,5 +1,0 @@
-use Rattle.law_ordered.proofs.Notices.Marks.{marks_keep}
-use Rattle.law_ordered.proofs.marks_keep.Goals as goal
-
-pub returns : goal.returns
-returns c = marks_keep

@@ -1,5 +1,0 @@
-use Rattle.law_ordered.proofs.Sending.New.{next_messages_are_new}
-use Rattle.law_ordered.proofs.next_messages_are_new.Goals as goal
-
-pub returns : goal.returns
-returns c = next_messages_are_new

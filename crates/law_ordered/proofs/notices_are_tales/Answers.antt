@@ -1,5 +1,0 @@
-use Rattle.law_ordered.proofs.NoticeTales.Small.{notice_tales}
-use Rattle.law_ordered.proofs.notices_are_tales.Goals as goal
-
-pub returns : goal.returns
-returns c = notice_tales

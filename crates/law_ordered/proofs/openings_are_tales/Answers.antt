@@ -1,5 +1,0 @@
-use Rattle.law_ordered.proofs.TurnTales.Whole.{openings_are_tales}
-use Rattle.law_ordered.proofs.openings_are_tales.Goals as goal
-
-pub returns : goal.returns
-returns c = openings_are_tales

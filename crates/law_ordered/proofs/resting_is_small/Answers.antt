@@ -1,5 +1,0 @@
-use Rattle.law_ordered.proofs.Tales.Resting.{resting_is_small}
-use Rattle.law_ordered.proofs.resting_is_small.Goals as goal
-
-pub returns : goal.returns
-returns c = resting_is_small

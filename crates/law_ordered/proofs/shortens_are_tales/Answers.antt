@@ -1,5 +1,0 @@
-use Rattle.law_ordered.proofs.AskTales.Shortens.{shortens_are_tales}
-use Rattle.law_ordered.proofs.shortens_are_tales.Goals as goal
-
-pub returns : goal.returns
-returns c = shortens_are_tales

@@ -1,5 +1,0 @@
-use Rattle.law_ordered.proofs.Sending.Begins.{vats_can_pass}
-use Rattle.law_ordered.proofs.vats_can_pass.Goals as goal
-
-pub returns : goal.returns
-returns c = vats_can_pass

@@ -1,5 +1,0 @@
-use Rattle.law_ordered.proofs.Sending.Agree.{worlds_agree}
-use Rattle.law_ordered.proofs.worlds_agree.Goals as goal
-
-pub returns : goal.returns
-returns c = worlds_agree

@@ -1,4 +1,0 @@
-pub mod Lists
-pub mod Sights
-pub mod Stays
-pub mod Writes

@@ -1,4 +1,0 @@
-pub mod Standing
-pub mod Steady
-pub mod Asking
-pub mod Statements

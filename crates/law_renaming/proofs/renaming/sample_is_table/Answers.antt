@@ -1,5 +1,0 @@
-use Rattle.law_renaming.proofs.Example.{sample_is_table}
-use Rattle.law_renaming.proofs.renaming.sample_is_table.Goals as goal
-
-pub returns : goal.returns
-returns c = sample_is_table

@@ -1,6 +1,0 @@
-use Rattle.law_run.specs.Moves.{Nobody, AnyNotice}
-use Rattle.law_run.proofs.Told.{moves_told}
-use Rattle.law_run.proofs.moves.honest_moves_are_told.Goals as goal
-
-pub returns : goal.returns
-returns c = λ script w y m. moves_told script Nobody AnyNotice (λ w v s d. ⊥) (λ w v u s n. ⊥) w y m

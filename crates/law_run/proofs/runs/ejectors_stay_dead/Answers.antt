@@ -1,5 +1,0 @@
-use Rattle.law_run.proofs.RunLaws.{ejectors_open, ejectors_run}
-use Rattle.law_run.proofs.runs.ejectors_stay_dead.Goals as goal
-
-pub returns : goal.returns
-returns c = (ejectors_open, ejectors_run)

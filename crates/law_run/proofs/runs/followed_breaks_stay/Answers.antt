@@ -1,5 +1,0 @@
-use Rattle.law_run.proofs.BreakRuns.{followed_breaks_open, followed_breaks_run}
-use Rattle.law_run.proofs.runs.followed_breaks_stay.Goals as goal
-
-pub returns : goal.returns
-returns c = (followed_breaks_open, followed_breaks_run)

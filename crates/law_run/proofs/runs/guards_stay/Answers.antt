@@ -1,5 +1,0 @@
-use Rattle.law_run.proofs.RunLaws.{guards_open, guards_run}
-use Rattle.law_run.proofs.runs.guards_stay.Goals as goal
-
-pub returns : goal.returns
-returns c = (guards_open, guards_run)

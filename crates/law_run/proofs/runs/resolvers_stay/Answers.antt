@@ -1,5 +1,0 @@
-use Rattle.law_run.proofs.RunLaws.{resolvers_open, resolvers_run}
-use Rattle.law_run.proofs.runs.resolvers_stay.Goals as goal
-
-pub returns : goal.returns
-returns c = (resolvers_open, resolvers_run)

@@ -1,5 +1,0 @@
-use Rattle.law_run.proofs.BreakRuns.{begins_at_rest}
-use Rattle.law_run.proofs.runs.vats_begin_at_rest.Goals as goal
-
-pub returns : goal.returns
-returns c = λ script v p. begins_at_rest script v p
