@@ -16,7 +16,7 @@ STANDS_ON = {
     "bench_frames": "ev_base ev_io def_kernel ev_reader ev_vat",
     "bench_tables": "ev_base ev_intro ev_io def_op ev_op ev_tables",
     "bench_reading": "ev_base ev_expand ev_io def_syntax ev_lexer ev_parser ev_reader ev_script",
-    "bench_references": "ev_base ev_heap ev_heap ev_intro ev_refs ev_pass ev_settle",
+    "bench_references": "ev_base ev_heap ev_intro ev_refs ev_pass ev_settle",
 }
 
 

@@ -17,7 +17,7 @@ TOP = os.path.dirname(os.path.dirname(os.path.abspath(__file__)))
 PAGE = 'docs/PROVED.md'
 
 LAYERS = [
-    ('def_', 'Definitions', 'What is meant, as functions that compute and as types. No crate of code stands below a crate of definitions but `ev_base`, which has the numbers, names, lists and texts that all speak of, and `ev_base`, which has the nouns and verbs of trees.'),
+    ('def_', 'Definitions', 'What is meant, as functions that compute and as types. No crate of code stands below a crate of definitions but `ev_base`, which has the numbers, names, lists, texts, nouns and verbs that all speak of.'),
     ('ev', 'Code', 'What runs. Each public function has a contract that speaks of the definitions; `docs/proved.py NAME` prints its clauses by name.'),
     ('law_', 'Laws', 'Each public function has an empty body and no arguments: its contract is the law, and the check of the crate proves it. [LAWS.md](LAWS.md) asks and answers what the final ones say; the others lead to them.'),
     ('test_', 'Tests', 'Worked rows that are proved by computing, programs over examples, `#[test]` functions, and what `bench/` times. No other crate stands on them, but for the worked rows that laws read again.'),
