@@ -4,7 +4,7 @@
     docs/proved.py             writes docs/PROVED.md
     docs/proved.py NAME..      prints the public functions of these crates, each with its words and the names of its clauses
     docs/proved.py --check     ends with status 1 where PROVED.md is not what it would write, or where a page names a crate, a
-                               function, a page or a file that is not there
+                               function, a page, a heading or a file that is not there
 
 What it reads: crates.txt, the `//!` lines at the head of each crate, the `///` lines above each public function, and the
 files of the pages. It reads no proof and runs nothing.
@@ -20,7 +20,7 @@ LAYERS = [
     ('def_', 'Definitions', 'What is meant, as functions that compute and as types. No crate of code stands below a crate of definitions but `ev_base`, which has the numbers, names, lists, texts, nouns and verbs that all speak of.'),
     ('ev', 'Code', 'What runs. Each public function has a contract that speaks of the definitions; `docs/proved.py NAME` prints its clauses by name.'),
     ('law_', 'Laws', 'Each public function has an empty body and no arguments: its contract is the law, and the check of the crate proves it. [LAWS.md](LAWS.md) asks and answers what the final ones say; the others lead to them.'),
-    ('test_', 'Tests', 'Worked rows that are proved by computing, programs over examples, `#[test]` functions, and what `bench/` times. No other crate stands on them, but for the worked rows that laws read again.'),
+    ('test_', 'Tests', 'Worked rows that are proved by computing, programs over examples, `#[test]` functions, and what `bench/` times. No other crate stands on them but tests.'),
 ]
 
 
@@ -132,7 +132,7 @@ def page():
         '',
         'A crate is built only when each of its functions is proved to meet its contract, to be safe and to end. So what a crate proves are its contracts, and the words above each public function say them: `docs/proved.py NAME` prints these with the names of the clauses. Where a crate has a page of its own (`README.md` in its folder), its name leads there.',
         '',
-        'Want of memory is the one answer of the code that no clause ties to a cause. A *must-fail edit* changes a line or two of a crate\'s code to a wrong one; the gate applies each by itself, and the prover has to refuse it. Those of other crates stand in `edits/`, and `edits/try.py NAME` tries them.',
+        'Want of memory is the one answer of the code that no clause ties to a cause. A *must-fail edit* changes a line or two of a crate\'s code to a wrong one; the gate applies each by itself, and the prover has to refuse it. Those of other crates stand in `edits/`; `edits/try.py NAME` tries them, and `tools/deep` all of them.',
     ]
     for at, (prefix, title, words) in enumerate(LAYERS):
         names = sorted(it for it in all_of if layer_of(it) == at)
@@ -158,7 +158,7 @@ def page():
 
 def pages():
     """The pages that are kept by hand."""
-    found = ['README.md'] + [f'docs/{it}' for it in sorted(os.listdir(os.path.join(TOP, 'docs'))) if it.endswith('.md') and f'docs/{it}' != PAGE]
+    found = ['README.md', 'CONTRIBUTING.md', 'CHANGELOG.md'] + [f'docs/{it}' for it in sorted(os.listdir(os.path.join(TOP, 'docs'))) if it.endswith('.md') and f'docs/{it}' != PAGE]
     found += [f'crates/{it}/README.md' for it in sorted(os.listdir(os.path.join(TOP, 'crates'))) if os.path.isfile(os.path.join(TOP, 'crates', it, 'README.md'))]
     return found
 
@@ -175,6 +175,18 @@ def names_in(name):
     return found
 
 
+def anchors(path):
+    """The names by which the headings of a page can be linked to."""
+    heads = [line.lstrip('#').strip() for line in read(path).splitlines() if re.match(r'#+ ', line)]
+    return {re.sub(r'[^\w\- ]', '', it.lower()).replace(' ', '-') for it in heads}
+
+
+def lost_anchor(path, target, anchor):
+    """Whether a link of the page leads to a heading that is not there."""
+    file = os.path.normpath(os.path.join(os.path.dirname(path), target)) if target else path
+    return file.endswith('.md') and os.path.isfile(os.path.join(TOP, file)) and anchor not in anchors(file)
+
+
 def check():
     wrong = []
     all_of = listed()
@@ -189,6 +201,9 @@ def check():
             for target in re.findall(r'\]\(([^)#]+)(?:#[^)]*)?\)', line):
                 if '://' not in target and not os.path.exists(os.path.normpath(os.path.join(TOP, os.path.dirname(path), target))):
                     say(f'no {target}')
+            for target, anchor in re.findall(r'\]\(([^)#]*)#([^)]*)\)', line):
+                if '://' not in target and lost_anchor(path, target, anchor):
+                    say(f'no heading {target}#{anchor}')
             for crate in re.findall(r'`((?:ev|def|law|test)_[a-z_]+|evat)\b', line):
                 if crate not in all_of:
                     say(f'no crate {crate}')
@@ -204,6 +219,9 @@ def check():
                 for it in re.findall(r'\b(?:ev|def|law|test)_[a-z_]+', line):
                     near += [f'crates/{it}/{part}{file}' for part in ('', 'src/', 'specs/', 'proofs/')]
                 if 'NAME' not in file and not any(os.path.exists(os.path.join(TOP, it)) for it in near):
+                    say(f'no file {file}')
+            for file in re.findall(r'`(tools/\w+)', line):
+                if not os.path.isfile(os.path.join(TOP, file)):
                     say(f'no file {file}')
     for it in wrong:
         print(it)

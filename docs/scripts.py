@@ -4,7 +4,7 @@
 Run it at the top of the repository. Of each NAME.vats it writes the script NAME.json. NAME.vats has, in this order, some
 lines on what the script shows; for each vat a line `=== vat NAME`, with `knows` and the names of those that it knows where
 it knows some, and its source; and `=== schedule` with an entry in each line. With `--check` it writes nothing, and fails
-where a script is not the one that its text makes.
+where a script is not the one that its text makes. It writes what `evat_make script` writes, for a tree in which nothing was built yet.
 """
 import json
 import pathlib
@@ -28,7 +28,9 @@ def script_of(text: str) -> str:
             schedule = body.split("\n")
         else:
             vats.append(vat_of(head, body))
-    return json.dumps({"key": KEY, "vats": vats, "schedule": [entry for entry in schedule if entry]})
+    entries = [entry for entry in schedule if entry and not entry.startswith("#")]
+    script = {"key": KEY, "vats": vats, "schedule": entries}
+    return json.dumps(script, separators=(",", ":"), sort_keys=True, ensure_ascii=False)
 
 
 def main() -> None:

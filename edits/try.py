@@ -8,6 +8,7 @@ stand here, in the same form, and are to be tried when their crate changes. Each
 """
 import os
 import shutil
+import signal
 import subprocess
 import sys
 
@@ -34,4 +35,6 @@ def tried(name):
 if __name__ == '__main__':
     if not sys.argv[1:]:
         sys.exit(__doc__)
+    # who ends the script by a signal leaves no edit behind
+    signal.signal(signal.SIGTERM, lambda number, frame: sys.exit(1))
     sys.exit(0 if all([tried(it) for it in sys.argv[1:]]) else 1)

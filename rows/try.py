@@ -3,6 +3,8 @@
 
     rows/try.py [BINARY]    the rows of rows/*.rows, with crates/evat/out/evat where none is named
 
+A row may name another program, by a word `program=NAME`: crates/NAME/out/NAME. Such a row is left out, and counted, where that was not built.
+
 A file of rows is a text. A row begins with a line `NAME: WORD.. -> STATUS`: its name, the words of the command, and the exit status.
 Behind it stands the input, a line `---`, and what is written; a line `====` stands between two rows. An input or an output of one line
 `<FILE` is what that file of this folder holds. What a `run` writes that ends with 0 is judged by `check` too, which has to say yes twice.
@@ -15,6 +17,7 @@ Words of the form `KEY=NUMBER` are none of the command, and say how the program 
     fails     the input cannot be read (1)
     refuses   the output cannot be written (1)
     puts      so many writes are wanted
+    says      what is wanted is written to standard error, and nothing to standard output (1)
 
 The last line counts the rows. The status is 1 where a row comes out otherwise, and those are named.
 """
@@ -27,8 +30,9 @@ import sys
 import threading
 
 ROWS = pathlib.Path(__file__).resolve().parent
-BINARY = ROWS.parent / "crates" / "evat" / "out" / "evat"
-KEYS = {"spaces", "byte", "serves", "fails", "refuses", "puts"}
+CRATES = ROWS.parent / "crates"
+BINARY = CRATES / "evat" / "out" / "evat"
+KEYS = {"spaces", "byte", "serves", "fails", "refuses", "puts", "says"}
 # The most bytes that are one packet of a pipe of packets, of which a read takes one.
 PACKET = 4096
 # What a call may take, in seconds.
@@ -45,16 +49,17 @@ def part(text: str) -> bytes:
 
 def rows_of(path: pathlib.Path):
     """The rows of a file: name, words, keys, status, input and output."""
-    for text in path.read_text().split("====\n"):
+    for text in path.read_bytes().decode().split("====\n"):
         head, rest = text.split("\n", 1)
         name, call = head.split(": ", 1)
         words, status = call.rsplit(" -> ", 1)
         given, told = rest.split("---\n", 1) if rest.startswith("---\n") else rest.split("\n---\n", 1)
         keys = dict(it.split("=") for it in words.split() if "=" in it)
+        program = keys.pop("program", None)
         if not keys.keys() <= KEYS:
             sys.exit(f"{path.name}: {name}: no such key")
         keys = {key: int(number) for key, number in keys.items()}
-        yield name, [it for it in words.split() if "=" not in it], keys, int(status), part(given), part(told)
+        yield name, program, [it for it in words.split() if "=" not in it], keys, int(status), part(given), part(told)
 
 
 def with_keys(given: bytes, keys: dict) -> bytes:
@@ -82,6 +87,12 @@ def packets(end: int) -> list[bytes]:
     return found
 
 
+def called_for_what_it_says(binary: str, words: list[str], given: bytes) -> tuple[int, bytes, int]:
+    """The status, and what is written to standard error, where nothing is written to standard output."""
+    ran = subprocess.run([binary, *words], input=given, capture_output=True, timeout=SECONDS)
+    return ran.returncode, ran.stdout or ran.stderr, 0
+
+
 def called_where_streams_fail(binary: str, words: list[str], keys: dict, given: bytes) -> tuple[int, bytes, int]:
     """The same where the input is a folder, which cannot be read, or the output a device that is full."""
     how = {"stderr": subprocess.DEVNULL, "timeout": SECONDS}
@@ -96,6 +107,8 @@ def called_where_streams_fail(binary: str, words: list[str], keys: dict, given: 
 
 def called(binary: str, words: list[str], keys: dict, given: bytes) -> tuple[int, bytes, int]:
     """The status, what was written, and in how many writes (of at most PACKET bytes)."""
+    if "says" in keys:
+        return called_for_what_it_says(binary, words, given)
     if keys.keys() & {"fails", "refuses"}:
         return called_where_streams_fail(binary, words, keys, given)
     source, feed = os.pipe2(os.O_DIRECT | os.O_CLOEXEC)
@@ -123,15 +136,18 @@ def is_as_told(binary: str, words: list[str], keys: dict, status: int, given: by
 
 def main() -> None:
     binary = str(pathlib.Path(sys.argv[1] if sys.argv[1:] else BINARY).resolve())
-    passed, failed = 0, 0
+    passed, failed, left = 0, 0, 0
     for path in sorted(ROWS.glob("*.rows")):
-        for name, *row in rows_of(path):
-            if is_as_told(binary, *row):
+        for name, program, *row in rows_of(path):
+            called_by = str(CRATES / program / "out" / program) if program else binary
+            if program and not os.path.exists(called_by):
+                left += 1
+            elif is_as_told(called_by, *row):
                 passed += 1
             else:
                 failed += 1
                 print(f"{path.name}: {name} comes out otherwise")
-    print(f"rows: {passed} passed, {failed} failed")
+    print(f"rows: {passed} passed, {failed} failed" + (f", {left} of programs that were not built" if left else ""))
     sys.exit(failed > 0)
 
 

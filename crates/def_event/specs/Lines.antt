@@ -1,12 +1,12 @@
 -- The lines of a history.
-use Rattle.std.specs.Prelude.{ℕ, filter, Bool as Bools, ◌-◌, ◌/◌, ◌%◌, nat_lt, if◌then◌else◌, true, false, List, [], ◌∷◌, ◌++◌, slice_get, map, flat_map, codes, decimal, Option, Some, None, unwrap_or}
+use Rattle.std.specs.Prelude.{ℕ, zero, suc, filter, Bool as Bools, ◌-◌, ◌/◌, ◌%◌, nat_lt, if◌then◌else◌, true, false, List, [], ◌∷◌, ◌++◌, slice_get, map, flat_map, codes, decimal, Option, Some, None, unwrap_or}
 use Rattle.std.specs.Char.{digit_char}
 use Rattle.std.specs.Fmt.{signed_decimal, digits}
 use Rattle.std.specs.Str.{chars}
 use Rattle.std.specs.Char.{encode_utf8}
 use Rattle.ev_base.specs.SafeScope.{primitives}
 use Rattle.ev_base.specs.declared.names.Name.{Name}
-use Rattle.ev_base.specs.declared.names.Name.TheVariants.{Object, Own, Answer, Gift, Root}
+use Rattle.ev_base.specs.declared.names.Name.TheVariants.{Object, Own, Answer, Gift, Root, Claimed}
 use Rattle.ev_base.specs.declared.names.Msg.{Msg}
 use Rattle.def_text.specs.Quoting.{quoted_character, shortened}
 use Rattle.def_text.specs.Keywords.{printed_verb}
@@ -18,7 +18,9 @@ use denote.Hole.Carrier.{roll, hidden}
 use Rattle.def_event.specs.declared.note.ShownNote.{ShownNote}
 use Rattle.def_event.specs.declared.note.ShownNote.TheVariants.{Deliver, DeliverOnly, Settled, Elsewhere, Open as Opens, Ask, Shorten}
 use Rattle.def_event.specs.declared.event.Event.{Event}
-use Rattle.def_event.specs.declared.event.Event.TheVariants.{Open, Turn, Idle, Carry, Cut, Notice, Frame, Take, Call, Back, Thrown, Gone, Got, Slot as SlotMade, Read, Wrote, List as ListMade, Arrived, Ejector, Audition, Promise, Made, Send, SendOnly, When, Done, Threw, Settle, Wait, View, LostCut, LostBroken, LeftQueue, LeftHeld, LeftWait, LeftLink, End}
+use Rattle.def_event.specs.declared.event.Event.TheVariants.{Open, Turn, Idle, Carry, Cut, Notice, Frame, Take, Call, Back, Thrown, Gone, Got, Slot as SlotMade, Read, Wrote, List as ListMade, Arrived, Ejector, Audition, Promise, Made, Send, SendOnly, When, Done, Threw, Settle, Wait, View, LostCut, LostBroken, LeftQueue, LeftHeld, LeftWait, LeftLink, End, Raw}
+use Rattle.def_event.specs.declared.raw.RawLine.{RawLine}
+use Rattle.def_event.specs.declared.raw.RawLine.TheVariants.{Inject, InjectCut, Malformed, Bytes, LeftBytes}
 
 -- words with one space between them
 abbrev pub spaced : List (List ℕ) → List ℕ
@@ -28,6 +30,11 @@ spaced (w ∷ ws) = w ++ flat_map (λ v. 32 ∷ v) ws
 -- two hexadecimal digits for each byte
 abbrev pub hex : List ℕ → List ℕ
 hex bytes = flat_map (λ b. digit_char (b / 16) ∷ digit_char (b % 16) ∷ []) bytes
+
+-- so many bytes of a number, the lowest first
+unfoldable pub low_first : ℕ → ℕ → List ℕ
+low_first zero n = []
+low_first (suc k) n = (n % 256) ∷ low_first k (n / 256)
 
 -- the name of a primitive by its number: from 0 on those of the safe scope, and from 32 on `nullOk` with a guard of them
 abbrev pub primitive_name : ℕ → List ℕ
@@ -70,6 +77,7 @@ module _ (vats : List (List ℕ)) where
   name (Answer host m) = vat host ++ 63 ∷ message m
   name (Gift host i) = numbered host 94 i
   name (Root v) = 64 ∷ vat v
+  name (Claimed host provider word) = vat host ++ 94 ∷ (vat provider ++ 58 ∷ hex (low_first 16 word))
 
   abbrev mutual
     -- a value
@@ -109,6 +117,14 @@ module _ (vats : List (List ℕ)) where
   abbrev pub part : List ℕ → List Shown → List (List ℕ)
   part word [] = []
   part word (x ∷ xs) = word ∷ values (x ∷ xs)
+
+  -- the words of a line about an injected frame
+  abbrev pub raw_words : RawLine → List (List ℕ)
+  raw_words (Inject k v w bytes) = decimal k ∷ codes "inject" ∷ vat v ∷ vat w ∷ hex bytes ∷ []
+  raw_words (InjectCut k v w) = decimal k ∷ codes "inject" ∷ vat v ∷ vat w ∷ codes "cut" ∷ []
+  raw_words (Malformed k v w place) = decimal k ∷ codes "carry" ∷ vat v ∷ vat w ∷ codes "malformed" ∷ decimal place ∷ []
+  raw_words (Bytes k v w bytes) = decimal k ∷ codes "carry" ∷ vat v ∷ vat w ∷ codes "bytes" ∷ hex bytes ∷ []
+  raw_words (LeftBytes v w bytes) = codes "left" ∷ codes "link" ∷ vat v ∷ vat w ∷ codes "bytes" ∷ hex bytes ∷ []
 
   -- the words of a line
   abbrev pub words : Event → List (List ℕ)
@@ -153,6 +169,7 @@ module _ (vats : List (List ℕ)) where
   words (LeftWait v x m) = codes "left" ∷ codes "wait" ∷ vat v ∷ value x ∷ message m ∷ []
   words (LeftLink v w note) = codes "left" ∷ codes "link" ∷ vat v ∷ vat w ∷ note_words note
   words End = codes "end" ∷ []
+  words (Raw line) = raw_words line
 
   abbrev pub line_of : Event → List ℕ
   line_of event = spaced (words event)
@@ -167,5 +184,5 @@ module _ (vats : List (List ℕ)) where
 
 -- opens the definitions of this file that do not open by themselves, and what they stand on
 unfoldable pub opened_lines : Unit {0}
-unfolding digits chars encode_utf8 roll-Shown roll hidden-the_row-Shown-0 hidden
+unfolding low_first digits chars encode_utf8 roll-Shown roll hidden-the_row-Shown-0 hidden
 opened_lines = tt

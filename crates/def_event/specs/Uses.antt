@@ -2,7 +2,7 @@
 -- A line stands with those before it, the last of them first.
 use Rattle.std.specs.Prelude.{◌≡◌, ℕ, ◌+◌, ◌<◌, ◌==◌, bytes_eq, Bool, true, false, ◌&&◌, ◌||◌, if◌then◌else◌, ◌⊎◌, ◌↔◌, List, [], ◌∷◌, ◌++◌, map, take, drop, length, slice_get, codes, Option, Some, None, unwrap_or}
 use Rattle.ev_base.specs.declared.names.Name.{Name}
-use Rattle.ev_base.specs.declared.names.Name.TheVariants.{Object, Gift, Root}
+use Rattle.ev_base.specs.declared.names.Name.TheVariants.{Object, Gift, Root, Claimed}
 use Rattle.ev_base.specs.declared.names.Msg.{Msg}
 use Rattle.def_event.specs.declared.shown.Shown.{Shown, Null, Bool as Flag, Int, Char, Text, Broken, Prim, List as ListOf, Slot, Name as Named, Members', Row_of-Shown, end_of-Shown, more_of-Shown}
 use Rattle.def_event.specs.declared.note.ShownNote.{ShownNote}
@@ -446,6 +446,7 @@ line_before past m = unwrap_or (first_of (had m) (map (λ l. l.event) past)) []
 
 unfoldable pub is_gift : Name → Bool
 is_gift (Gift v n) = true
+is_gift (Claimed h p word) = true
 is_gift _ = false
 
 abbrev pub CarriesThese : List Line → Option (Msg × List Thing) → Type 0

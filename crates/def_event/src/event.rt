@@ -2,6 +2,7 @@
 
 use crate::boxed::Boxed;
 use crate::note::ShownNote;
+use crate::raw::RawLine;
 use crate::shown::Shown;
 use ev_base::{Msg, Name, Seq, Str, VatId};
 
@@ -188,6 +189,8 @@ pub enum Event {
     LeftLink(VatId, VatId, Boxed<ShownNote>),
     /// `end`
     End,
+    /// A line about an injected frame.
+    Raw(RawLine),
 }
 
 impl Drop for Event {
@@ -230,6 +233,7 @@ impl Drop for Event {
             Self::LeftWait(_, _shown, _) => {}
             Self::LeftLink(_, _, _shown_note) => {}
             Self::End => {}
+            Self::Raw(_line) => {}
         }
     }
 }

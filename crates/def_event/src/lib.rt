@@ -4,6 +4,7 @@
 pub mod boxed;
 pub mod event;
 pub mod note;
+pub mod raw;
 pub mod reference;
 pub mod shown;
 pub mod trace;
@@ -11,6 +12,7 @@ pub mod trace;
 pub use boxed::Boxed;
 pub use event::{Addressed, Called, Event, MadeObject, Reacting, Sent};
 pub use note::ShownNote;
+pub use raw::RawLine;
 pub use reference::Reference;
 pub use shown::Shown;
 pub use trace::Trace;

@@ -2,9 +2,15 @@ pub mod Draws
 pub mod Connections
 pub mod Wire
 pub mod World
+pub mod Marks
+pub mod Deeds
+pub mod Entered
 pub mod Shown
 pub mod Text
 pub mod Names
 pub mod Vats
 pub mod Numbers
 pub mod LocalText
+pub mod Seeing
+pub mod Asking
+pub mod Steady

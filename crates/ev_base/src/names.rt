@@ -22,4 +22,6 @@ pub enum Name {
     Gift(VatId, u64),
     /// `@v`, the root of a vat.
     Root(VatId),
+    /// `c^p:HEX`, the gift at its host of that provider under a number that a hostile vat named first.
+    Claimed(VatId, VatId, u128),
 }

@@ -102,13 +102,22 @@ impl Word {
 
     /// Whether it is that word.
     #[tactic(auto, using(crate::proofs::Kept::other_key))]
+    #[inline(always)]
     pub fn is(&self, other: &Word) -> bool
         ensures { result ≡ bytes_eq self.now other.now }
     {
         self.key == other.key && self.as_str() == other.as_str()
     }
 
+    /// The key, by which a table finds it.
+    pub fn key(&self) -> u32
+        ensures { result ≡ key_from 0 self.now }
+    {
+        self.key
+    }
+
     /// The text, lent.
+    #[inline(always)]
     pub fn as_str(&self) -> &str
         ensures { result.now ≡ self.now }
     {

@@ -1,10 +1,10 @@
 -- The lines of events by their kind: what references do, and what is neither that nor a step of evaluation.
 use Rattle.std.specs.Prelude.{ℕ, List, []}
 use Rattle.def_event.specs.declared.event.Event.{Event}
-use Rattle.def_event.specs.declared.event.Event.TheVariants.{Open, Turn, Idle, Carry, Cut, Notice, Frame, Take, Arrived, Promise, Send, SendOnly, When, Done, Threw, Settle, Wait, View, LostCut, LostBroken, LeftQueue, LeftHeld, LeftWait, LeftLink, End}
+use Rattle.def_event.specs.declared.event.Event.TheVariants.{Open, Turn, Idle, Carry, Cut, Notice, Frame, Take, Arrived, Promise, Send, SendOnly, When, Done, Threw, Settle, Wait, View, LostCut, LostBroken, LeftQueue, LeftHeld, LeftWait, LeftLink, End, Raw}
 use Rattle.def_event.specs.Lines.{line_of}
 
--- the line of an entry of a run, of what is left at its end or of the end, and none of another event
+-- the line of an entry of a run, of what is left at its end, of the end or about a frame, and none of another event
 abbrev pub run_line : List (List ℕ) → Event → List ℕ
 run_line vats (Open v) = line_of vats (Open v)
 run_line vats (Turn k v) = line_of vats (Turn k v)
@@ -18,6 +18,7 @@ run_line vats (LeftHeld v p m) = line_of vats (LeftHeld v p m)
 run_line vats (LeftWait v x m) = line_of vats (LeftWait v x m)
 run_line vats (LeftLink v w note) = line_of vats (LeftLink v w note)
 run_line vats End = line_of vats End
+run_line vats (Raw line) = line_of vats (Raw line)
 run_line vats _ = []
 
 -- the line of what references do, and of a run, and none of a step of evaluation

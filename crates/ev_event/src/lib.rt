@@ -1,10 +1,12 @@
 //! Histories, and how their lines are written.
 #![tactic(auto)]
 
+pub mod hex;
 pub mod history;
 pub mod line;
 pub mod names;
 pub mod notes;
+pub mod raw;
 pub mod values;
 pub mod words;
 

@@ -1,14 +1,15 @@
 //! The lines of events.
 
-ghost use Rattle.std.specs.Prelude.{◌≡◌, ◌/◌, ◌%◌, ◌++◌, ◌∷◌, [], IfOk, OnOk, string_bytes, decimal, codes, flat_map};
-ghost use Rattle.std.specs.Char.{digit_char};
+ghost use Rattle.std.specs.Prelude.{◌≡◌, ◌++◌, ◌∷◌, [], IfOk, OnOk, string_bytes, decimal, codes, flat_map};
 ghost use Rattle.def_text.specs.Keywords.{printed_verb};
 ghost use Rattle.def_event.specs.declared.event.Event.TheVariants.{Call, Made, Send, When};
 ghost use Rattle.def_event.specs.Lines.{activation, vat, numbered, name, message, value, note_words, begun_words, values, spaced, hex, line_of, render};
 ghost use Rattle.ev_event.specs.Kinds.{referred_line, run_line};
 
+use crate::hex::push_hex;
 use crate::names::{push_activation, push_number};
 use crate::notes::add_note;
+use crate::raw::push_raw;
 use crate::words::{
     add_message, add_name, add_numbered, add_part, add_value, add_values, add_vat, add_verb,
     add_word, push_name_and_value, push_names,
@@ -76,7 +77,7 @@ fn push_turn(out: &mut String, names: &[Str], entry: u64, host: VatId) -> Result
 }
 
 /// An entry of two vats.
-fn push_link_entry(
+pub(crate) fn push_link_entry(
     out: &mut String,
     names: &[Str],
     entry: u64,
@@ -108,7 +109,12 @@ fn push_carry(
 }
 
 /// An opening turn of a vat, or how the line begins of what is left at a vat.
-fn push_at_vat(out: &mut String, names: &[Str], word: &str, host: VatId) -> Result<(), AllocError>
+pub(crate) fn push_at_vat(
+    out: &mut String,
+    names: &[Str],
+    word: &str,
+    host: VatId,
+) -> Result<(), AllocError>
     ensures { OnOk result (string_bytes out.new ≡ string_bytes out.old ++ spaced (word.now ∷ vat names.now host ∷ [])) }
 {
     out.push_str(word)?;
@@ -192,7 +198,7 @@ fn push_addressed(
 }
 
 /// The activation that a call begins.
-fn add_begun(out: &mut String, begun: Option<u64>) -> Result<(), AllocError>
+pub fn add_begun(out: &mut String, begun: Option<u64>) -> Result<(), AllocError>
     ensures { OnOk result (string_bytes out.new ≡ string_bytes out.old ++ flat_map (λ v. 32 ∷ v) (begun_words begun)) }
 {
     match begun {
@@ -204,6 +210,21 @@ fn add_begun(out: &mut String, begun: Option<u64>) -> Result<(), AllocError>
     }
 }
 
+/// A call as far as its arguments.
+pub fn begin_call(
+    alloc: Global,
+    out: &mut String,
+    names: &[Str],
+    id: u64,
+    target: &Shown,
+    verb: &str,
+) -> Result<(), AllocError>
+    ensures { OnOk result (string_bytes out.new ≡ string_bytes out.old ++ spaced (activation id ∷ codes "call" ∷ value names.now target.now ∷ printed_verb verb.now ∷ [])) }
+{
+    push_value_act(alloc, out, names, id, "call", target)?;
+    add_verb(out, verb)
+}
+
 /// A call.
 fn push_call(
     alloc: Global,
@@ -213,8 +234,14 @@ fn push_call(
 ) -> Result<(), AllocError>
     ensures { OnOk result (string_bytes out.new ≡ string_bytes out.old ++ line_of names.now (Call called.now)) }
 {
-    push_value_act(alloc, out, names, called.activation, "call", &called.target)?;
-    add_verb(out, called.verb.as_str())?;
+    begin_call(
+        alloc,
+        out,
+        names,
+        called.activation,
+        &called.target,
+        called.verb.as_str(),
+    )?;
     add_values(alloc, out, names, called.args.as_slice())?;
     add_begun(out, called.begun)
 }
@@ -271,29 +298,6 @@ fn push_when(
     add_value(alloc, out, names, &reacting.value)?;
     add_value(alloc, out, names, &reacting.reaction)?;
     add_answer(out, names, &reacting.answer)
-}
-
-/// A byte as two hexadecimal digits.
-fn push_byte(out: &mut String, byte: u8) -> Result<(), AllocError>
-    ensures { OnOk result (string_bytes out.new ≡ string_bytes out.old ++ digit_char (byte / 16) ∷ digit_char (byte % 16) ∷ []) }
-{
-    if let Some(digit) = char::from_digit(u32::from(byte / 16), 16) {
-        out.push(digit)?;
-    }
-    if let Some(digit) = char::from_digit(u32::from(byte % 16), 16) {
-        out.push(digit)?;
-    }
-    Ok(())
-}
-
-/// The bytes of a note that was carried.
-fn push_hex(out: &mut String, bytes: &[u8]) -> Result<(), AllocError>
-    ensures { OnOk result (string_bytes out.new ≡ string_bytes out.old ++ hex bytes.now) }
-{
-    for byte in bytes {
-        push_byte(out, *byte)?;
-    }
-    Ok(())
 }
 
 /// A promise that an activation makes, and its resolver.
@@ -415,6 +419,7 @@ fn push_run(alloc: Global, out: &mut String, names: &[Str], event: &Event) -> Re
         Event::LeftWait(host, x, id) => push_left_wait(alloc, out, names, *host, x, id),
         Event::LeftLink(v, w, note) => push_left_link(alloc, out, names, *v, *w, note.get()),
         Event::End => out.push_str("end"),
+        Event::Raw(line) => push_raw(out, names, line),
         _ => Ok(()),
     }
 }

@@ -1,8 +1,9 @@
 //! Names, messages and numbers in a line.
 
-ghost use Rattle.std.specs.Prelude.{◌≡◌, ◌<◌, ◌++◌, OnOk, string_bytes, decimal};
-ghost use Rattle.def_event.specs.Lines.{activation, primitive_name, vat, numbered, message, name};
+ghost use Rattle.std.specs.Prelude.{◌≡◌, ◌<◌, ◌++◌, ◌∷◌, OnOk, string_bytes, decimal};
+ghost use Rattle.def_event.specs.Lines.{activation, primitive_name, vat, numbered, message, name, hex, low_first};
 
+use crate::hex::push_key;
 use ev_base::{Msg, Name, Str, VatId};
 use itoa::Buffer;
 use std::alloc::AllocError;
@@ -56,6 +57,23 @@ pub(crate) fn push_message(out: &mut String, names: &[Str], id: &Msg) -> Result<
     push_numbered(out, names, id.sender, '/', id.number)
 }
 
+/// Appends a gift that a hostile vat named first, by its provider and its word.
+fn push_claimed(
+    out: &mut String,
+    names: &[Str],
+    host: VatId,
+    provider: VatId,
+    word: u128,
+) -> Result<(), AllocError>
+    ensures { OnOk result (string_bytes out.new ≡ string_bytes out.old ++ vat names.now host ++ 94 ∷ (vat names.now provider ++ 58 ∷ hex (low_first 16 word))) }
+{
+    push_vat(out, names, host)?;
+    out.push('^')?;
+    push_vat(out, names, provider)?;
+    out.push(':')?;
+    push_key(out, word)
+}
+
 /// Appends a name.
 pub(crate) fn push_name(out: &mut String, names: &[Str], id: &Name) -> Result<(), AllocError>
     ensures { OnOk result (string_bytes out.new ≡ string_bytes out.old ++ name names.now id.now) }
@@ -73,5 +91,6 @@ pub(crate) fn push_name(out: &mut String, names: &[Str], id: &Name) -> Result<()
             out.push('@')?;
             push_vat(out, names, *host)
         }
+        Name::Claimed(host, provider, word) => push_claimed(out, names, *host, *provider, *word),
     }
 }

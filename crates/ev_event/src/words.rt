@@ -66,7 +66,7 @@ pub(crate) fn add_name(out: &mut String, names: &[Str], id: &Name) -> Result<(),
 }
 
 /// Appends a value.
-pub(crate) fn add_value(
+pub fn add_value(
     alloc: Global,
     out: &mut String,
     names: &[Str],

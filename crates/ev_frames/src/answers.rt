@@ -24,6 +24,7 @@ use std::alloc::Global;
 
 /// Does what data answers that does not call again.
 #[tactic(auto, unfolding(ev_steps::specs::Steps::replied, ev_room::specs::Acts::give, ev_room::specs::Acts::fails, ev_room::specs::Acts::fail))]
+#[inline(always)]
 fn made(
     program: &Program,
     depth: u32,
@@ -45,6 +46,7 @@ fn made(
 
 /// The same, and the call ends.
 #[tactic(auto, using(ev_room::proofs::Exits::closes))]
+#[inline(always)]
 fn made_closed(
     program: &Program,
     depth: u32,
@@ -93,6 +95,7 @@ pub(crate) fn replied(
 
 /// Does what data answers to a call that does not call again, and the call ends.
 #[tactic(auto, using(crate::proofs::Calling::settled_gave, crate::proofs::Calling::settled_ended, crate::proofs::Rests::gone))]
+#[inline(always)]
 fn said(
     program: &Program,
     depth: u32,
@@ -133,6 +136,7 @@ fn iterates_closed(
 }
 
 /// Does what data answers to a call, and the call ends, or begins to.
+#[inline(always)]
 fn replied_closed(
     program: &Program,
     depth: u32,
@@ -167,6 +171,7 @@ fn all_followed(alloc: Global, refs: &Refs, args: &[Value]) -> Result<Seq<Value>
 
 /// What data answers, and none where it or an argument does not stand in the heap, as they are followed.
 #[tactic(auto, using(crate::proofs::Native::answers, crate::proofs::Native::answers_not))]
+#[inline(always)]
 fn reply_to(
     room: &Room,
     receiver: Value,
@@ -216,6 +221,7 @@ pub(crate) fn answered(
 
 /// What data answers to a call whose line is told.
 #[tactic(auto, using(crate::proofs::Native::closes, crate::proofs::Native::closes_not, crate::proofs::Rests::gone))]
+#[inline(always)]
 fn answered_closed(
     program: &Program,
     depth: u32,
@@ -239,6 +245,7 @@ fn answered_closed(
 
 /// A call on data, as it is held and as it is followed.
 #[tactic(auto, using(crate::proofs::Calling::data_told, crate::proofs::Calling::data_ends, crate::proofs::Rests::gone))]
+#[inline(always)]
 pub(crate) fn call_data(
     program: &Program,
     depth: u32,

@@ -181,6 +181,7 @@ fn call_object(
 
 /// A call on a value, as it is held and as it is followed, in which data and primitives call again so.
 #[tactic(auto, using(crate::proofs::Rests::gone), unfolding(ev_steps::specs::Steps::call_value, ev_room::specs::Acts::fail, ev_room::specs::Acts::and_then))]
+#[inline(always)]
 fn call_value(
     program: &Program,
     depth: u32,
@@ -223,6 +224,7 @@ fn call_value(
 
 /// A call at so many levels of calls again, less one.
 #[tactic(auto, using(crate::proofs::Native::call_deep, crate::proofs::Native::call_goes))]
+#[inline(always)]
 fn call_at(
     program: &Program,
     depth: u32,
@@ -259,6 +261,7 @@ fn call_at(
 
 /// A call whose receiver and arguments are known.
 #[tactic(auto, using(crate::proofs::Calling::call_goes))]
+#[inline(always)]
 pub fn calling(
     program: &Program,
     depth: u32,

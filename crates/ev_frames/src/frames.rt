@@ -119,6 +119,7 @@ impl Frames {
     }
 
     /// One more, which is now the innermost.
+    #[inline(always)]
     pub fn push(&mut self, frame: Frame) -> Result<(), Memory>
         ensures ok { OnOk result (self.new ≡ frame ∷ self.old) }
     {
@@ -127,6 +128,7 @@ impl Frames {
     }
 
     /// The innermost.
+    #[inline(always)]
     pub fn pop(&mut self) -> Option<Frame>
         ensures { MatchOption result ((self.old ≡ []) × (self.new ≡ [])) (λ frame. self.old ≡ frame ∷ self.new) }
     {

@@ -20,6 +20,7 @@ use ev_steps::pattern::part_at;
 
 /// The value of a literal.
 #[tactic(auto, unfolding(ev_steps::specs::Steps::literal_value, ev_room::specs::Acts::give))]
+#[inline(always)]
 fn literal_value(literal: &Literal, room: &mut Room) -> Result<Value, Exit>
     ensures outcome { Gives result room.new (literal_value literal.now room.old) }
 {
@@ -32,6 +33,7 @@ fn literal_value(literal: &Literal, room: &mut Room) -> Result<Value, Exit>
 
 /// Evaluates a literal.
 #[tactic(auto, using(ev_room::proofs::Exits::ends), unfolding(ev_steps::specs::Steps::opened_steps))]
+#[inline(always)]
 pub fn literal_node(literal: &Literal, here: &Scope, room: &mut Room) -> Result<Value, Exit>
     ensures outcome { GivesIn result here.now room.new (literal_node literal.now here.now room.old) }
 {
@@ -41,6 +43,7 @@ pub fn literal_node(literal: &Literal, here: &Scope, room: &mut Room) -> Result<
 
 /// The value of a noun.
 #[tactic(auto, using(ev_room::proofs::Exits::ends), unfolding(ev_steps::specs::Steps::opened_steps))]
+#[inline(always)]
 pub fn noun_node(noun: &Word, here: &Scope, room: &mut Room) -> Result<Value, Exit>
     ensures outcome { GivesIn result here.now room.new (noun_node noun.now here.now room.old) }
 {
@@ -51,6 +54,7 @@ pub fn noun_node(noun: &Word, here: &Scope, room: &mut Room) -> Result<Value, Ex
 
 /// Evaluates a literal.
 #[tactic(auto, using(ev_steps::proofs::Depth::expression_deep, ev_steps::proofs::Depth::expression_goes, ev_room::proofs::Exits::ends), unfolding(ev_steps::specs::Steps::opened_steps))]
+#[inline(always)]
 fn literal_leaf(
     program: &Program,
     depth: u32,
@@ -71,6 +75,7 @@ fn literal_leaf(
 
 /// Evaluates a noun.
 #[tactic(auto, using(ev_steps::proofs::Depth::expression_deep, ev_steps::proofs::Depth::expression_goes, ev_room::proofs::Exits::ends), unfolding(ev_steps::specs::Steps::opened_steps))]
+#[inline(always)]
 fn noun_leaf(
     program: &Program,
     depth: u32,
@@ -90,6 +95,7 @@ fn noun_leaf(
 }
 
 /// Evaluates a node that is a literal or a noun, and does nothing at any other.
+#[inline(always)]
 fn leaf_in(
     program: &Program,
     depth: u32,
@@ -116,6 +122,7 @@ fn leaf_in(
 }
 
 /// The same of the node of a number.
+#[inline(always)]
 pub fn leaf(
     program: &Program,
     depth: u32,
@@ -135,6 +142,7 @@ pub fn leaf(
 /// Evaluates the parts of a sequence from a place on, as far as they are literals and nouns: the place behind them, and the value of
 /// the last of them, or the one before.
 #[tactic(auto, using(crate::proofs::Leafy::leaf_passes, crate::proofs::Leafy::leaf_ends, std::proofs::lemmas::Option::slice_get_within))]
+#[inline(always)]
 pub fn leaves(
     program: &Program,
     depth: u32,
@@ -161,6 +169,7 @@ pub fn leaves(
 
 /// Evaluates the arguments of a call behind those so far, as far as they are literals and nouns.
 #[tactic(auto, using(crate::proofs::Leafy::leaf_gathers, crate::proofs::Leafy::leaf_gathers_not, std::proofs::lemmas::Option::slice_get_within))]
+#[inline(always)]
 pub fn leaf_args(
     program: &Program,
     depth: u32,

@@ -46,6 +46,7 @@ pub(crate) fn given(outcome: Result<Value, Exit>) -> Result<Now, Exit>
 
 /// A node has begun, and a part of it is to be evaluated.
 #[tactic(auto, using(crate::proofs::Rests::part_nested))]
+#[inline(always)]
 pub fn enter(depth: u32, part: Part, frames: &mut Frames, here: &Scope) -> Result<(), Memory>
     requires { Nested frames.old here.now }
     ensures pushed { OnOk result (frames.new ≡ PartOf depth (length here.now.nouns) part ∷ frames.old) }
@@ -56,6 +57,7 @@ pub fn enter(depth: u32, part: Part, frames: &mut Frames, here: &Scope) -> Resul
 
 /// Another part of a node is to be evaluated.
 #[tactic(auto, using(crate::proofs::Again::again_nested))]
+#[inline(always)]
 pub fn again(
     depth: u32,
     mark: usize,
@@ -74,6 +76,7 @@ pub fn again(
 
 /// A node has begun that leaves its scope as it was, and a part of it is to be evaluated.
 #[tactic(auto, using(crate::proofs::Rests::guard_nested))]
+#[inline(always)]
 pub fn guard(depth: u32, guard: Guard, frames: &mut Frames, here: &Scope) -> Result<(), Memory>
     requires { Nested frames.old here.now }
     ensures pushed { OnOk result (frames.new ≡ GuardOf depth (length here.now.nouns) guard ∷ frames.old) }

@@ -1,2 +1,5 @@
 pub mod HeightLemmas
 pub mod Behind
+pub mod Room
+pub mod Prefix
+pub mod Next

@@ -1,2 +1,4 @@
 pub mod Contents
+pub mod Packed
 pub mod Told
+pub mod Verbs

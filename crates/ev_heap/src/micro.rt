@@ -35,7 +35,16 @@ impl Micro {
         }
     }
 
+    /// So much fuel, and nothing that happened: the room and the verbs of the step before are kept.
+    pub fn reset(&mut self, fuel: u32)
+        ensures { self.new ≡ record { fuel = fuel; events = [] } }
+    {
+        self.fuel = fuel;
+        self.events.clear();
+    }
+
     /// Spends so many units, or none and answers false where they are above the fuel left.
+    #[inline(always)]
     pub fn spend(&mut self, units: u64) -> bool
         ensures enough { IsTrue result ↔ (units ≤ self.old.fuel) }
         ensures spent { OnTrue result (self.new ≡ record self.old { fuel = self.old.fuel - units }) }
@@ -56,15 +65,16 @@ impl Micro {
     }
 
     /// Adds a call.
+    #[inline(always)]
     pub fn push_call(
         &mut self,
         activation: ActId,
         target: Value,
-        verb: Word,
+        verb: &Word,
         args: &[Value],
         begun: Option<ActId>,
     ) -> Result<(), Memory>
-        ensures ok { OnOk result (self.new ≡ record self.old { events = self.old.events ++ event.Call activation target verb args.now begun ∷ [] }) }
+        ensures ok { OnOk result (self.new ≡ record self.old { events = self.old.events ++ event.Call activation target verb.now args.now begun ∷ [] }) }
     {
         self.events.call(activation, target, verb, args, begun)
     }

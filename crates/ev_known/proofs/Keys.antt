@@ -2,7 +2,7 @@
 use Rattle.std.proofs.Common.{◌≡◌, ℕ, Bool, true, false, List, [], ◌∷◌, map, refl, sym, ap, ◌∙◌, inl, inr, rules, ◌&&◌}
 use Rattle.std.specs.Prelude.{◌↔◌, IsTrue}
 use Rattle.ev_base.specs.declared.names.Name.{Name}
-use Rattle.ev_base.specs.declared.names.Name.TheVariants.{Object, Own, Answer, Gift, Root}
+use Rattle.ev_base.specs.declared.names.Name.TheVariants.{Object, Own, Answer, Gift, Root, Claimed}
 use Rattle.def_event.specs.Uses as uses
 use Rattle.def_event.specs.Uses.{IsAmong, Thing, AName, AList}
 use Rattle.ev_links.specs.declared.label.Label.{Label}
@@ -27,6 +27,7 @@ by_kind kind.Own h s n = AName (Own h n)
 by_kind kind.Answer h s n = AName (Answer h (record { sender = s; number = n }))
 by_kind kind.Gift h s n = AName (Gift h n)
 by_kind kind.Root h s n = AName (Root h)
+by_kind kind.Claimed h s n = AName (Claimed h s n)
 by_kind kind.List h s n = AList h n
 
 pub unlabel : Label → Thing
@@ -39,6 +40,7 @@ unlabel_label (AName (Own v n)) = refl
 unlabel_label (AName (Answer v m)) = refl
 unlabel_label (AName (Gift v n)) = refl
 unlabel_label (AName (Root v)) = refl
+unlabel_label (AName (Claimed v p word)) = refl
 unlabel_label (AList v n) = refl
 
 pub label_same : (t u : Thing) → label t ≡ label u → t ≡ u

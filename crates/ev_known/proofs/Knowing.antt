@@ -3,7 +3,7 @@ use Rattle.std.proofs.Common.{◌≡◌, ℕ, Bool, true, false, List, [], ◌�
 use Rattle.std.specs.Prelude.{◌⊎◌, ◌&&◌, if◌then◌else◌}
 use Rattle.std.proofs.lemmas.Bool.{eqb-true, leb-true}
 use Rattle.ev_base.specs.declared.names.Name.{Name}
-use Rattle.ev_base.specs.declared.names.Name.TheVariants.{Object, Own, Answer, Gift, Root}
+use Rattle.ev_base.specs.declared.names.Name.TheVariants.{Object, Own, Answer, Gift, Root, Claimed}
 use Rattle.def_event.specs.Uses as uses
 use Rattle.def_event.specs.Uses.{IsAmong, Thing, AName, AList, Line, Lead, Has, Knows, IsOpenAt, IsTold, Runs, is_root}
 use Rattle.ev_known.specs.declared.facts.Activation.{Activation}
@@ -95,6 +95,7 @@ root_label (AName (Own v n)) = refl
 root_label (AName (Answer v m)) = refl
 root_label (AName (Gift v n)) = refl
 root_label (AName (Root v)) = refl
+root_label (AName (Claimed v p word)) = refl
 root_label (AList v n) = refl
 
 fact_told : (facts : List Fact) (past : List Line) (f : uses.Fact) → StandsFor facts past → IsTold past f → is_told facts (key f) ≡ true

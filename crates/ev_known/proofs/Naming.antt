@@ -1,7 +1,7 @@
 -- Labels of names tell objects apart.
 use Rattle.std.proofs.Common.{◌≡◌, refl}
 use Rattle.ev_base.specs.declared.names.Name.{Name}
-use Rattle.ev_base.specs.declared.names.Name.TheVariants.{Object, Own, Answer, Gift, Root}
+use Rattle.ev_base.specs.declared.names.Name.TheVariants.{Object, Own, Answer, Gift, Root, Claimed}
 use Rattle.def_event.specs.Uses.{AName, is_object}
 use Rattle.ev_links.specs.Label.{label}
 use Rattle.ev_known.specs.Following.{is_object_label}
@@ -13,3 +13,4 @@ object_label (Own v n) = refl
 object_label (Answer v m) = refl
 object_label (Gift v n) = refl
 object_label (Root v) = refl
+object_label (Claimed v p word) = refl

@@ -14,17 +14,18 @@ pub enum Kind {
     Answer,
     Gift,
     Root,
+    Claimed,
     List,
 }
 
-/// A name or a list, by its parts: the vat before its mark, the vat that sent the message of an answer, and its number.
+/// A name or a list, by its parts: the vat before its mark, the vat that sent the message of an answer or that provides a claimed gift, and its number or word.
 /// What a kind has not is 0.
 #[derive(Clone, Copy, PartialEq, Eq, Hash)]
 pub struct Label {
     pub kind: Kind,
     pub host: u8,
     pub sender: u8,
-    pub number: u64,
+    pub number: u128,
 }
 
 /// The label of a name.
@@ -37,31 +38,37 @@ pub fn name_label(name: &Name) -> Label
             kind: Kind::Object,
             host: vat.0,
             sender: 0,
-            number: *number,
+            number: u128::from(*number),
         },
         Name::Own(vat, number) => Label {
             kind: Kind::Own,
             host: vat.0,
             sender: 0,
-            number: *number,
+            number: u128::from(*number),
         },
         Name::Answer(vat, message) => Label {
             kind: Kind::Answer,
             host: vat.0,
             sender: message.sender.0,
-            number: message.number,
+            number: u128::from(message.number),
         },
         Name::Gift(vat, number) => Label {
             kind: Kind::Gift,
             host: vat.0,
             sender: 0,
-            number: *number,
+            number: u128::from(*number),
         },
         Name::Root(vat) => Label {
             kind: Kind::Root,
             host: vat.0,
             sender: 0,
             number: 0,
+        },
+        Name::Claimed(vat, provider, word) => Label {
+            kind: Kind::Claimed,
+            host: vat.0,
+            sender: provider.0,
+            number: *word,
         },
     }
 }
@@ -75,6 +82,6 @@ pub fn list_label(vat: &VatId, number: u64) -> Label
         kind: Kind::List,
         host: vat.0,
         sender: 0,
-        number,
+        number: u128::from(number),
     }
 }

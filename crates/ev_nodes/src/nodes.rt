@@ -129,6 +129,7 @@ fn call_framed(
 
 /// The arguments of a call are evaluated, whose receiver was at once.
 #[tactic(auto, using(ev_frames::proofs::Leafy::all_nested, ev_frames::proofs::Calling::verb_is, ev_frames::proofs::Calling::args_is))]
+#[inline(always)]
 fn args_begin(
     program: &Program,
     depth: u32,
@@ -155,6 +156,7 @@ fn args_begin(
 
 /// A call begins.
 #[tactic(auto, using(ev_frames::proofs::Leafy::call_leaf, ev_frames::proofs::Leafy::call_leaf_ends, ev_frames::proofs::Rests::gone))]
+#[inline(always)]
 fn call_node(
     program: &Program,
     depth: u32,
@@ -181,6 +183,7 @@ fn call_node(
 
 /// A sequence begins.
 #[tactic(auto, using(crate::proofs::Begins::sequence_begins, crate::proofs::Begins::sequence_empty))]
+#[inline(always)]
 fn sequence_node(
     program: &Program,
     depth: u32,
@@ -206,6 +209,7 @@ fn sequence_node(
 
 /// An if begins.
 #[tactic(auto, using(crate::proofs::Begins::if_begins))]
+#[inline(always)]
 fn if_node(
     program: &Program,
     depth: u32,
@@ -245,6 +249,7 @@ fn match_node(
 
 /// A node begins whose parts may be so many levels deep.
 #[tactic(auto, using(ev_frames::proofs::Rests::goes_on, ev_frames::proofs::Rests::gone), unfolding(ev_steps::specs::Steps::step, ev_room::specs::Acts::fail))]
+#[inline(always)]
 fn step(
     program: &Program,
     depth: u32,
@@ -332,6 +337,7 @@ fn step(
 
 /// The expression at a node begins, at most so many levels deep.
 #[tactic(auto, using(crate::proofs::Begins::begins_deep, crate::proofs::Begins::begins_spent, crate::proofs::Begins::begins_none, crate::proofs::Begins::begins_so, ev_frames::proofs::Rests::gone))]
+#[inline(always)]
 pub(crate) fn begin(
     program: &Program,
     depth: u32,

@@ -41,6 +41,7 @@ fn parts_in(node: &Node) -> &[NodeId]
 }
 
 #[tactic(auto, unfolding(ev_frames::specs::Rest::parts_of))]
+#[inline(always)]
 fn parts_at(tree: &[Node], id: NodeId) -> &[NodeId]
     ensures { result.now ≡ parts_of (slice_get tree.now id) }
 {
@@ -153,6 +154,7 @@ fn defined(
 
 /// A part of a sequence has a value.
 #[tactic(auto, using(crate::proofs::Ending::sequence_on, crate::proofs::Ending::sequence_done, ev_frames::proofs::Again::unmarked))]
+#[inline(always)]
 fn sequenced(
     program: &Program,
     depth: u32,
@@ -182,6 +184,7 @@ fn sequenced(
 
 /// The test of an if has a value.
 #[tactic(auto, using(crate::proofs::Ending::yes_begins, crate::proofs::Ending::no_begins, crate::proofs::Ending::cut_nested, crate::proofs::Ending::cut_marked, ev_frames::proofs::Again::unmarked), unfolding(ev_steps::specs::Steps::choose, ev_room::specs::Acts::fails, ev_room::specs::Acts::fail))]
+#[inline(always)]
 fn chosen(
     program: &Program,
     depth: u32,
@@ -214,6 +217,7 @@ fn chosen(
 
 /// The arguments of a call so far are known.
 #[tactic(auto, using(crate::proofs::Ending::args_on, crate::proofs::Ending::args_done, ev_frames::proofs::Again::unmarked, ev_frames::proofs::Rests::goes_as))]
+#[inline(always)]
 fn call_on(
     program: &Program,
     depth: u32,
@@ -254,6 +258,7 @@ fn call_on(
 
 /// A part of a sequence has a value, and the leaves behind it are evaluated at once.
 #[tactic(auto, using(ev_frames::proofs::Leafy::passes_goes, ev_frames::proofs::Rests::goes_on, ev_frames::proofs::Rests::gone, ev_frames::proofs::Again::unmarked))]
+#[inline(always)]
 fn sequence_on(
     program: &Program,
     depth: u32,
@@ -280,6 +285,7 @@ fn sequence_on(
 
 /// The arguments of a call so far are known, and the leaves behind them are evaluated at once.
 #[tactic(auto, using(ev_frames::proofs::Leafy::gathers_goes, ev_frames::proofs::Leafy::gathers_ends, ev_frames::proofs::Rests::gone, ev_frames::proofs::Again::unmarked))]
+#[inline(always)]
 pub(crate) fn args_on(
     program: &Program,
     depth: u32,
@@ -329,6 +335,7 @@ fn write_gave(
 
 /// The receiver of a call is known.
 #[tactic(auto, using(ev_frames::proofs::Again::unmarked, ev_frames::proofs::Rests::goes_on, ev_frames::proofs::Rests::gone), unfolding(ev_frames::specs::Rest::going, ev_room::specs::Acts::give, ev_room::specs::Acts::fail))]
+#[inline(always)]
 fn receiver_gave(
     program: &Program,
     depth: u32,
@@ -409,6 +416,7 @@ fn auditor_gave(
 
 /// A branch of an if has a value, and its names go.
 #[tactic(auto, using(crate::proofs::Ending::branch_ends, ev_frames::proofs::Again::unmarked, ev_frames::proofs::Rests::given_behind, ev_frames::proofs::Rests::ended_behind, ev_frames::proofs::Rests::nested_behind, ev_frames::proofs::Rests::goes_on, ev_frames::proofs::Rests::gone), unfolding(ev_frames::specs::Rest::going, ev_room::specs::Acts::give, ev_room::specs::Acts::fail))]
+#[inline(always)]
 fn branch_gave(
     program: &Program,
     depth: u32,

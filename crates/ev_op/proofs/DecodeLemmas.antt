@@ -6,7 +6,7 @@ use Rattle.ev_base.specs.declared.memory.Memory.{Memory}
 use Rattle.def_op.specs.declared.op.Op.{Op}
 use Rattle.def_op.specs.Frames.{Operation, spelling, IsOp}
 use Rattle.def_op.specs.Views.{operation}
-use Rattle.ev_op.specs.Reading.{op_at}
+use Rattle.def_op.specs.Reading.{op_at}
 use Rattle.ev_op.specs.Decoded.{decoded, found_view}
 use Rattle.ev_op.proofs.NumberLemmas.{bind_some, some_is, IsBytes}
 use Rattle.ev_op.proofs.OpLemmas.{op_takes, op_again}

@@ -7,7 +7,7 @@ use Rattle.def_op.specs.declared.op.Plain.{Plain}
 use Rattle.def_op.specs.declared.op.Plain.TheVariants as plain
 use Rattle.def_op.specs.Numbers.{unsigned}
 use Rattle.def_op.specs.Frames.{Described, Members, Datum, ListOf, Broken, YourExport, YourAnswer, MyExport, MyPromise, Third, MyAnswer, none, more, count, text_bytes, plain_bytes, desc_bytes, members_bytes, weight, weights, height, heights, PlainFits, DescFits, MembersFit, WithinLimits, IsDesc, AreDescs}
-use Rattle.ev_op.specs.Reading.{Read, read, leaf_at, first_at, members_at, list_at, no_list, desc_at, free_room, free_at}
+use Rattle.def_op.specs.Reading.{Read, read, leaf_at, first_at, members_at, list_at, no_list, desc_at, free_room, free_at}
 use Rattle.ev_op.proofs.NumberLemmas.{unsigned_again, signed_again, low_first_again}
 use Rattle.ev_op.proofs.LeafLemmas.{text_again, character_again}
 

@@ -3,11 +3,11 @@ use Rattle.std.proofs.Common.{◌≡◌, ℕ, zero, suc, ◌+◌, ◌-◌, ◌^�
 use Rattle.std.specs.Prelude.{ℤ, pos, negsuc}
 use Rattle.std.proofs.lemmas.Bool.{ltb-true}
 use Rattle.def_op.specs.declared.op.Plain.TheVariants as plain
-use Rattle.ev_op.specs.declared.kind.Kind.{Kind}
-use Rattle.ev_op.specs.declared.kind.Kind.TheVariants as kind
+use Rattle.def_op.specs.declared.kind.Kind.{Kind}
+use Rattle.def_op.specs.declared.kind.Kind.TheVariants as kind
 use Rattle.def_op.specs.Numbers.{unsigned, signed, swiss, is_primitive}
 use Rattle.def_op.specs.Frames.{Described, Members, Datum, ListOf, Broken, YourExport, YourAnswer, MyExport, MyPromise, Third, MyAnswer, none, more, count, text_bytes, plain_bytes, desc_bytes, members_bytes, weight, weights, height, heights, PlainFits, DescFits, MembersFit, WithinLimits, IsDesc, AreDescs}
-use Rattle.ev_op.specs.Reading.{◌>>=◌, unsigned_at, signed_at, swiss_at, text_at, character_at, vat_at, primitive_at, kind_at, Read, read, is_list, leaf_at, first_at, members_at, list_at, no_list, desc_at, free_room, free_at}
+use Rattle.def_op.specs.Reading.{◌>>=◌, unsigned_at, signed_at, swiss_at, text_at, character_at, vat_at, primitive_at, kind_at, Read, read, is_list, leaf_at, first_at, members_at, list_at, no_list, desc_at, free_room, free_at}
 use Rattle.ev_op.proofs.NumberLemmas.{bind_some, some_is, none_is, chosen, IsBytes, IsBytes-rest, Takes, Takes-then, Takes-cons, IsSigned, unsigned_takes, signed_takes, low_first_takes}
 use Rattle.ev_op.proofs.LeafLemmas.{TextRead, text_takes, character_takes, byte_takes, code, kind_takes}
 

@@ -6,11 +6,11 @@ use Rattle.std.proofs.lemmas.Str.{IsUtf8-from_is_utf8, is_utf8-from_IsUtf8}
 use Rattle.std.specs.Str.{is_utf8}
 use Rattle.std.specs.Char.{IsScalar}
 use lib.Utf8.{scalar}
-use Rattle.ev_op.specs.declared.kind.Kind.{Kind}
-use Rattle.ev_op.specs.declared.kind.Kind.TheVariants as kind
+use Rattle.def_op.specs.declared.kind.Kind.{Kind}
+use Rattle.def_op.specs.declared.kind.Kind.TheVariants as kind
 use Rattle.def_op.specs.Numbers.{unsigned}
 use Rattle.def_op.specs.Frames.{text_bytes, IsText}
-use Rattle.ev_op.specs.Reading.{unsigned_at, text_at, character_at, byte_where, kinds, kind_at}
+use Rattle.def_op.specs.Reading.{unsigned_at, text_at, character_at, byte_where, kinds, kind_at}
 use Rattle.ev_op.proofs.NumberLemmas.{bind_some, then_some, some_is, IsBytes, IsBytes-rest, Takes, unsigned_takes, unsigned_again}
 
 IsBytes-drop : (n : ℕ) (bytes : List ℕ) → IsBytes bytes → IsBytes (drop n bytes)

@@ -3,7 +3,8 @@ use Rattle.std.proofs.Common.{◌≡◌, ℕ, suc, ◌-◌, ◌+◌, ◌≤◌, 
 use Rattle.ev_op.specs.declared.fault.ReadError.{ReadError}
 use Rattle.ev_op.specs.declared.fault.ReadError.TheVariants as errors
 use Rattle.def_op.specs.Frames.{Described, Members, none, more, members}
-use Rattle.ev_op.specs.Reading.{◌>>=◌, Fails, Read, read, members_at}
+use Rattle.ev_op.specs.Gives.{Fails}
+use Rattle.def_op.specs.Reading.{◌>>=◌, Read, read, members_at}
 
 -- descriptions, and others behind them
 abbrev pub join : Members → Members → Members

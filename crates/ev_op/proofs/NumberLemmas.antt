@@ -3,7 +3,7 @@ use Rattle.std.proofs.Common.{◌≡◌, ℕ, zero, suc, ◌+◌, ◌-◌, ◌*�
 use Rattle.std.specs.Prelude.{ℤ, pos, negsuc}
 use Rattle.std.proofs.lemmas.Bool.{ltb-false, ltb-true, le-ltb, lt-ltb, leb-true, leb-false, le-leb, lt-leb, cases_lt}
 use Rattle.def_op.specs.Numbers.{bound, digit, digits, unsigned, signed, low_first, byte_bound}
-use Rattle.ev_op.specs.Reading.{◌>>=◌, Digits, last_digit, lower_digit, in_last_place, digits_at, unsigned_at, signed_at, with_sign, low_first_at}
+use Rattle.def_op.specs.Reading.{◌>>=◌, Digits, last_digit, lower_digit, in_last_place, digits_at, unsigned_at, signed_at, with_sign, low_first_at}
 
 pub bound_least : (k : ℕ) → 2 ≤ bound k
 bound_least zero = omega arith

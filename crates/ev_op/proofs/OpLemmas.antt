@@ -3,11 +3,11 @@ use Rattle.std.proofs.Common.{◌≡◌, ℕ, ◌^◌, ◌<◌, ◌≤◌, ⊎_e
 use Rattle.std.proofs.lemmas.Bool.{lt-ltb, ltb-true, ltb-false, le-ltb, eqb-true}
 use Rattle.std.proofs.lemmas.List.{length-append}
 use Rattle.def_op.specs.declared.op.Plain.TheVariants as plain
-use Rattle.ev_op.specs.declared.kind.Kind.{Kind}
-use Rattle.ev_op.specs.declared.kind.Kind.TheVariants as kind
+use Rattle.def_op.specs.declared.kind.Kind.{Kind}
+use Rattle.def_op.specs.declared.kind.Kind.TheVariants as kind
 use Rattle.def_op.specs.Numbers.{unsigned, swiss}
 use Rattle.def_op.specs.Frames.{Described, Members, Datum, ListOf, Broken, YourExport, YourAnswer, MyExport, MyPromise, Third, MyAnswer, count, text_bytes, plain_bytes, desc_bytes, members_bytes, Outcome, To, Elsewhere, outcome_bytes, Operation, Deliver, DeliverOnly, Resolve, Provide, Accept, Shorten, spelling, IsTarget, IsSubject, OutcomeFits, IsOp}
-use Rattle.ev_op.specs.Reading.{◌>>=◌, unsigned_at, swiss_at, vat_at, text_at, kind_at, counted_at, members_at, free_at, target_behind, target_at, subject_behind, subject_at, outcome_at, few_at, deliver_at, deliver_only_at, resolve_at, provide_at, accept_at, shorten_at, op_at}
+use Rattle.def_op.specs.Reading.{◌>>=◌, unsigned_at, swiss_at, vat_at, text_at, kind_at, counted_at, members_at, free_at, target_behind, target_at, subject_behind, subject_at, outcome_at, few_at, deliver_at, deliver_only_at, resolve_at, provide_at, accept_at, shorten_at, op_at}
 use Rattle.ev_op.proofs.NumberLemmas.{bind_some, else_some, some_is, none_is, chosen, IsBytes, IsBytes-rest, Takes, Takes-then, Takes-cons, unsigned_takes, unsigned_again, low_first_takes, low_first_again}
 use Rattle.ev_op.proofs.LeafLemmas.{text_takes, text_again, byte_takes, code, kind_takes}
 use Rattle.ev_op.proofs.DescLemmas.{free_takes, args_take}

@@ -3,7 +3,7 @@ use Rattle.std.specs.Prelude.{◌≡◌, ℕ, ◌-◌, List, ◌++◌, length, O
 use Rattle.def_op.specs.declared.op.Op.{Op}
 use Rattle.def_op.specs.Views.{operation}
 use Rattle.def_op.specs.Frames.{Operation, spelling, IsOp}
-use Rattle.ev_op.specs.Reading.{◌>>=◌, op_at}
+use Rattle.def_op.specs.Reading.{◌>>=◌, op_at}
 
 -- the operation that begins the bytes, and how many bytes it is
 abbrev pub decoded : List ℕ → Option (Operation × ℕ)

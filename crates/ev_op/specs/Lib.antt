@@ -1,3 +1,3 @@
-pub mod Reading
+pub mod Gives
 pub mod DigitsView
 pub mod Decoded

@@ -2,29 +2,11 @@
 
 ghost use Rattle.std.specs.Prelude.{◌≡◌, IfErr};
 ghost use Rattle.ev_op.specs.declared.fault.ReadError.TheVariants.{Refused};
-ghost use Rattle.ev_op.specs.Reading.{Gives, kind_at, is_list};
+ghost use Rattle.ev_op.specs.Gives.{Gives};
+ghost use Rattle.def_op.specs.Reading.{kind_at, is_list};
 
 use crate::fault::ReadError;
-
-/// What the first byte of a description tells. Each stands at its code.
-#[derive(Clone, Copy)]
-pub enum Kind {
-    Null,
-    False,
-    True,
-    Integer,
-    Character,
-    Text,
-    List,
-    Primitive,
-    Broken,
-    YourExport,
-    YourAnswer,
-    MyExport,
-    MyPromise,
-    Third,
-    MyAnswer,
-}
+use def_op::Kind;
 
 /// The kind at the front, and the bytes behind it.
 pub fn kind_of(bytes: &[u8]) -> Result<(Kind, &[u8]), ReadError>

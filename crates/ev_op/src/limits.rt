@@ -1,7 +1,7 @@
 //! How great a list may be.
 
 ghost use Rattle.std.specs.Prelude.{◌≡◌};
-ghost use Rattle.ev_op.specs.Reading.{free_room};
+ghost use Rattle.def_op.specs.Reading.{free_room};
 
 /// The greatest weight of a list.
 pub const WEIGHT: usize = 65536;

@@ -3,7 +3,8 @@
 ghost use Rattle.std.specs.Prelude.{◌≡◌, ◌<◌, ◌≤◌, ◌^◌, IfOk, IfErr};
 ghost use Rattle.ev_op.specs.declared.fault.ReadError.TheVariants.{Refused};
 ghost use Rattle.def_op.specs.Numbers.{bound, byte_bound, digit, is_primitive};
-ghost use Rattle.ev_op.specs.Reading.{Gives, digits_at, last_digit, lower_digit, unsigned_at, signed_at, low_first_at, swiss_at, vat_at, primitive_at, few_at, character_at};
+ghost use Rattle.ev_op.specs.Gives.{Gives};
+ghost use Rattle.def_op.specs.Reading.{digits_at, last_digit, lower_digit, unsigned_at, signed_at, low_first_at, swiss_at, vat_at, primitive_at, few_at, character_at};
 ghost use Rattle.ev_op.specs.DigitsView.{digits_view};
 
 use crate::fault::ReadError;
@@ -42,7 +43,7 @@ fn last_digit_of(last: u8, byte: u8, rest: &[u8]) -> Digits<'_>
 
 /// The number in digits at the front: at most `places + 1` bytes in the shortest spelling, the last byte turned round
 /// from `last` on.
-#[tactic(auto, unfolding(crate::specs::Reading::digits_at))]
+#[tactic(auto, unfolding(def_op::specs::Reading::digits_at))]
 fn digits_of(last: u8, places: u32, bytes: &[u8]) -> Result<Digits<'_>, ReadError>
     requires { bound places ≤ 2 ^ 127 }
     ensures exact { Gives digits_view result (digits_at last places bytes.now) }
@@ -99,7 +100,7 @@ pub fn signed_of(bytes: &[u8]) -> Result<(i128, &[u8]), ReadError>
 }
 
 /// A number in so many bytes, the lowest first.
-#[tactic(auto, unfolding(crate::specs::Reading::low_first_at))]
+#[tactic(auto, unfolding(def_op::specs::Reading::low_first_at))]
 fn low_first_of(places: u32, bytes: &[u8]) -> Result<(u128, &[u8]), ReadError>
     requires { byte_bound places ≤ 2 ^ 128 }
     ensures exact { Gives (λ x. (x.0, x.1.now)) result (low_first_at places bytes.now) }
@@ -166,7 +167,7 @@ pub fn few_of(bytes: &[u8]) -> Result<(u64, &[u8]), ReadError>
 }
 
 /// A character, by its number.
-#[tactic(auto, unfolding(crate::specs::Reading::character_at))]
+#[tactic(auto, unfolding(def_op::specs::Reading::character_at))]
 pub fn character_of(bytes: &[u8]) -> Result<(char, &[u8]), ReadError>
     ensures exact { Gives (λ x. (x.0, x.1.now)) result (character_at bytes.now) }
     ensures refused { IfErr result (λ e. e ≡ Refused) }

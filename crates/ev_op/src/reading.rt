@@ -2,16 +2,17 @@
 
 ghost use Rattle.std.specs.Prelude.{◌≡◌, ◌≤◌, ◌<◌, None, length, map, string_bytes, IfOk};
 ghost use Rattle.def_op.specs.Views.{described, all_described, outcome, operation};
-ghost use Rattle.ev_op.specs.Reading.{Gives, text_at, leaf_at, desc_at, list_at, members_at, member_at, free_at, target_at, subject_at, outcome_at, deliver_at, deliver_only_at, resolve_at, provide_at, accept_at, shorten_at, op_at};
+ghost use Rattle.ev_op.specs.Gives.{Gives};
+ghost use Rattle.def_op.specs.Reading.{text_at, leaf_at, desc_at, list_at, members_at, member_at, free_at, target_at, subject_at, outcome_at, deliver_at, deliver_only_at, resolve_at, provide_at, accept_at, shorten_at, op_at};
 
 use crate::fault::ReadError;
-use crate::kind::{Kind, is_list, kind_of};
+use crate::kind::{is_list, kind_of};
 use crate::limits::{HEIGHT, free_room};
 use crate::numbers::{
     character_of, few_of, primitive_of, signed_of, swiss_of, unsigned_of, vat_of,
 };
 use crate::text::text_of;
-use def_op::op::{Desc, Op, Plain, Resolved};
+use def_op::{Desc, Kind, Op, Plain, Resolved};
 use ev_base::{PrimId, Seq, Str, VatId};
 use std::alloc::Global;
 
@@ -25,7 +26,7 @@ fn own_text_of(alloc: Global, room: usize, bytes: &[u8]) -> Result<(String, &[u8
 }
 
 /// An integer.
-#[tactic(auto, unfolding(crate::specs::Reading::leaf_at))]
+#[tactic(auto, unfolding(def_op::specs::Reading::leaf_at))]
 fn integer_of(room: usize, bytes: &[u8]) -> Result<(Desc, usize, &[u8]), ReadError>
     ensures { Gives (λ x. record { value = described x.0; room = x.1; rest = x.2.now }) result (leaf_at Kind.Integer room bytes.now) }
 {
@@ -34,7 +35,7 @@ fn integer_of(room: usize, bytes: &[u8]) -> Result<(Desc, usize, &[u8]), ReadErr
 }
 
 /// A character.
-#[tactic(auto, unfolding(crate::specs::Reading::leaf_at))]
+#[tactic(auto, unfolding(def_op::specs::Reading::leaf_at))]
 fn scalar_of(room: usize, bytes: &[u8]) -> Result<(Desc, usize, &[u8]), ReadError>
     ensures { Gives (λ x. record { value = described x.0; room = x.1; rest = x.2.now }) result (leaf_at Kind.Character room bytes.now) }
 {
@@ -43,7 +44,7 @@ fn scalar_of(room: usize, bytes: &[u8]) -> Result<(Desc, usize, &[u8]), ReadErro
 }
 
 /// A text. It weighs as much as it has bytes.
-#[tactic(auto, unfolding(crate::specs::Reading::leaf_at))]
+#[tactic(auto, unfolding(def_op::specs::Reading::leaf_at))]
 fn plain_text_of(
     alloc: Global,
     room: usize,
@@ -57,7 +58,7 @@ fn plain_text_of(
 }
 
 /// A primitive object.
-#[tactic(auto, unfolding(crate::specs::Reading::leaf_at))]
+#[tactic(auto, unfolding(def_op::specs::Reading::leaf_at))]
 fn plain_primitive_of(room: usize, bytes: &[u8]) -> Result<(Desc, usize, &[u8]), ReadError>
     ensures { Gives (λ x. record { value = described x.0; room = x.1; rest = x.2.now }) result (leaf_at Kind.Primitive room bytes.now) }
 {
@@ -66,7 +67,7 @@ fn plain_primitive_of(room: usize, bytes: &[u8]) -> Result<(Desc, usize, &[u8]),
 }
 
 /// A broken reference. It weighs as much as its problem has bytes.
-#[tactic(auto, unfolding(crate::specs::Reading::leaf_at))]
+#[tactic(auto, unfolding(def_op::specs::Reading::leaf_at))]
 fn broken_of(alloc: Global, room: usize, bytes: &[u8]) -> Result<(Desc, usize, &[u8]), ReadError>
     ensures { Gives (λ x. record { value = described x.0; room = x.1; rest = x.2.now }) result (leaf_at Kind.Broken room bytes.now) }
 {
@@ -76,7 +77,7 @@ fn broken_of(alloc: Global, room: usize, bytes: &[u8]) -> Result<(Desc, usize, &
 }
 
 /// An export of the receiver.
-#[tactic(auto, unfolding(crate::specs::Reading::leaf_at))]
+#[tactic(auto, unfolding(def_op::specs::Reading::leaf_at))]
 fn your_export_of(room: usize, bytes: &[u8]) -> Result<(Desc, usize, &[u8]), ReadError>
     ensures { Gives (λ x. record { value = described x.0; room = x.1; rest = x.2.now }) result (leaf_at Kind.YourExport room bytes.now) }
 {
@@ -85,7 +86,7 @@ fn your_export_of(room: usize, bytes: &[u8]) -> Result<(Desc, usize, &[u8]), Rea
 }
 
 /// An answer of the receiver.
-#[tactic(auto, unfolding(crate::specs::Reading::leaf_at))]
+#[tactic(auto, unfolding(def_op::specs::Reading::leaf_at))]
 fn your_answer_of(room: usize, bytes: &[u8]) -> Result<(Desc, usize, &[u8]), ReadError>
     ensures { Gives (λ x. record { value = described x.0; room = x.1; rest = x.2.now }) result (leaf_at Kind.YourAnswer room bytes.now) }
 {
@@ -94,7 +95,7 @@ fn your_answer_of(room: usize, bytes: &[u8]) -> Result<(Desc, usize, &[u8]), Rea
 }
 
 /// An export of the sender.
-#[tactic(auto, unfolding(crate::specs::Reading::leaf_at))]
+#[tactic(auto, unfolding(def_op::specs::Reading::leaf_at))]
 fn my_export_of(room: usize, bytes: &[u8]) -> Result<(Desc, usize, &[u8]), ReadError>
     ensures { Gives (λ x. record { value = described x.0; room = x.1; rest = x.2.now }) result (leaf_at Kind.MyExport room bytes.now) }
 {
@@ -103,7 +104,7 @@ fn my_export_of(room: usize, bytes: &[u8]) -> Result<(Desc, usize, &[u8]), ReadE
 }
 
 /// A promise of the sender.
-#[tactic(auto, unfolding(crate::specs::Reading::leaf_at))]
+#[tactic(auto, unfolding(def_op::specs::Reading::leaf_at))]
 fn my_promise_of(room: usize, bytes: &[u8]) -> Result<(Desc, usize, &[u8]), ReadError>
     ensures { Gives (λ x. record { value = described x.0; room = x.1; rest = x.2.now }) result (leaf_at Kind.MyPromise room bytes.now) }
 {
@@ -112,7 +113,7 @@ fn my_promise_of(room: usize, bytes: &[u8]) -> Result<(Desc, usize, &[u8]), Read
 }
 
 /// An object of a third vat.
-#[tactic(auto, unfolding(crate::specs::Reading::leaf_at))]
+#[tactic(auto, unfolding(def_op::specs::Reading::leaf_at))]
 fn third_of(room: usize, bytes: &[u8]) -> Result<(Desc, usize, &[u8]), ReadError>
     ensures { Gives (λ x. record { value = described x.0; room = x.1; rest = x.2.now }) result (leaf_at Kind.Third room bytes.now) }
 {
@@ -123,7 +124,7 @@ fn third_of(room: usize, bytes: &[u8]) -> Result<(Desc, usize, &[u8]), ReadError
 }
 
 /// An answer of the sender.
-#[tactic(auto, unfolding(crate::specs::Reading::leaf_at))]
+#[tactic(auto, unfolding(def_op::specs::Reading::leaf_at))]
 fn my_answer_of(room: usize, bytes: &[u8]) -> Result<(Desc, usize, &[u8]), ReadError>
     ensures { Gives (λ x. record { value = described x.0; room = x.1; rest = x.2.now }) result (leaf_at Kind.MyAnswer room bytes.now) }
 {
@@ -132,7 +133,7 @@ fn my_answer_of(room: usize, bytes: &[u8]) -> Result<(Desc, usize, &[u8]), ReadE
 }
 
 /// What is no list, behind its first byte.
-#[tactic(auto, unfolding(crate::specs::Reading::leaf_at))]
+#[tactic(auto, unfolding(def_op::specs::Reading::leaf_at))]
 fn leaf_of(
     alloc: Global,
     kind: Kind,
@@ -163,7 +164,7 @@ fn leaf_of(
 /// A description in which at most `height` lists stand in each other. The lists round it have room for so much weight;
 /// what is left of it stands beside the description.
 #[cycle(descriptions)]
-#[tactic(auto, unfolding(crate::specs::Reading::desc_at, crate::specs::Reading::first_at))]
+#[tactic(auto, unfolding(def_op::specs::Reading::desc_at, def_op::specs::Reading::first_at))]
 fn desc_of(
     alloc: Global,
     height: u32,
@@ -187,7 +188,7 @@ fn desc_of(
 
 /// A list behind its first byte.
 #[cycle(descriptions)]
-#[tactic(auto, unfolding(crate::specs::Reading::list_at))]
+#[tactic(auto, unfolding(def_op::specs::Reading::list_at))]
 fn list_of(
     alloc: Global,
     height: u32,
@@ -242,7 +243,7 @@ fn member_of(
 
 /// A description round which no list stands.
 #[cycle(descriptions)]
-#[tactic(auto, unfolding(crate::specs::Reading::free_at))]
+#[tactic(auto, unfolding(def_op::specs::Reading::free_at))]
 fn free_of(alloc: Global, room: usize, bytes: &[u8]) -> Result<(Desc, usize, &[u8]), ReadError>
     ensures { Gives (λ x. record { value = described x.0; room = x.1; rest = x.2.now }) result (free_at room bytes.now) }
 {
@@ -251,7 +252,7 @@ fn free_of(alloc: Global, room: usize, bytes: &[u8]) -> Result<(Desc, usize, &[u
 }
 
 /// What an operation is about: an object or promise of the receiver.
-#[tactic(auto, unfolding(crate::specs::Reading::target_at, crate::specs::Reading::target_behind))]
+#[tactic(auto, unfolding(def_op::specs::Reading::target_at, def_op::specs::Reading::target_behind))]
 fn target_of(bytes: &[u8]) -> Result<(Desc, &[u8]), ReadError>
     ensures { Gives (λ x. (described x.0, x.1.now)) result (target_at bytes.now) }
 {
@@ -270,7 +271,7 @@ fn target_of(bytes: &[u8]) -> Result<(Desc, &[u8]), ReadError>
 }
 
 /// What an operation tells of: a promise of the sender.
-#[tactic(auto, unfolding(crate::specs::Reading::subject_at, crate::specs::Reading::subject_behind))]
+#[tactic(auto, unfolding(def_op::specs::Reading::subject_at, def_op::specs::Reading::subject_behind))]
 fn subject_of(bytes: &[u8]) -> Result<(Desc, &[u8]), ReadError>
     ensures { Gives (λ x. (described x.0, x.1.now)) result (subject_at bytes.now) }
 {
@@ -289,7 +290,7 @@ fn subject_of(bytes: &[u8]) -> Result<(Desc, &[u8]), ReadError>
 }
 
 /// What a subject came to.
-#[tactic(auto, unfolding(crate::specs::Reading::outcome_at))]
+#[tactic(auto, unfolding(def_op::specs::Reading::outcome_at))]
 fn outcome_of(alloc: Global, bytes: &[u8]) -> Result<(Resolved, &[u8]), ReadError>
     ensures { Gives (λ x. (outcome x.0, x.1.now)) result (outcome_at bytes.now) }
 {
@@ -304,7 +305,7 @@ fn outcome_of(alloc: Global, bytes: &[u8]) -> Result<(Resolved, &[u8]), ReadErro
     Ok((Resolved::To(desc), rest))
 }
 
-#[tactic(auto, unfolding(crate::specs::Reading::deliver_at))]
+#[tactic(auto, unfolding(def_op::specs::Reading::deliver_at))]
 fn deliver_of(alloc: Global, bytes: &[u8]) -> Result<(Op, &[u8]), ReadError>
     ensures { Gives (λ x. (operation x.0, x.1.now)) result (deliver_at bytes.now) }
 {
@@ -322,7 +323,7 @@ fn deliver_of(alloc: Global, bytes: &[u8]) -> Result<(Op, &[u8]), ReadError>
     Ok((op, rest))
 }
 
-#[tactic(auto, unfolding(crate::specs::Reading::deliver_only_at))]
+#[tactic(auto, unfolding(def_op::specs::Reading::deliver_only_at))]
 fn deliver_only_of(alloc: Global, bytes: &[u8]) -> Result<(Op, &[u8]), ReadError>
     ensures { Gives (λ x. (operation x.0, x.1.now)) result (deliver_only_at bytes.now) }
 {
@@ -338,7 +339,7 @@ fn deliver_only_of(alloc: Global, bytes: &[u8]) -> Result<(Op, &[u8]), ReadError
     Ok((op, rest))
 }
 
-#[tactic(auto, unfolding(crate::specs::Reading::resolve_at))]
+#[tactic(auto, unfolding(def_op::specs::Reading::resolve_at))]
 fn resolve_of(alloc: Global, bytes: &[u8]) -> Result<(Op, &[u8]), ReadError>
     ensures { Gives (λ x. (operation x.0, x.1.now)) result (resolve_at bytes.now) }
 {
@@ -347,7 +348,7 @@ fn resolve_of(alloc: Global, bytes: &[u8]) -> Result<(Op, &[u8]), ReadError>
     Ok((Op::Resolve { subject, to }, rest))
 }
 
-#[tactic(auto, unfolding(crate::specs::Reading::provide_at))]
+#[tactic(auto, unfolding(def_op::specs::Reading::provide_at))]
 fn provide_of(bytes: &[u8]) -> Result<(Op, &[u8]), ReadError>
     ensures { Gives (λ x. (operation x.0, x.1.now)) result (provide_at bytes.now) }
 {
@@ -356,7 +357,7 @@ fn provide_of(bytes: &[u8]) -> Result<(Op, &[u8]), ReadError>
     Ok((Op::Provide { target, swiss }, rest))
 }
 
-#[tactic(auto, unfolding(crate::specs::Reading::accept_at))]
+#[tactic(auto, unfolding(def_op::specs::Reading::accept_at))]
 fn accept_of(bytes: &[u8]) -> Result<(Op, &[u8]), ReadError>
     ensures { Gives (λ x. (operation x.0, x.1.now)) result (accept_at bytes.now) }
 {
@@ -374,7 +375,7 @@ fn accept_of(bytes: &[u8]) -> Result<(Op, &[u8]), ReadError>
     ))
 }
 
-#[tactic(auto, unfolding(crate::specs::Reading::shorten_at))]
+#[tactic(auto, unfolding(def_op::specs::Reading::shorten_at))]
 fn shorten_of(bytes: &[u8]) -> Result<(Op, &[u8]), ReadError>
     ensures { Gives (λ x. (operation x.0, x.1.now)) result (shorten_at bytes.now) }
 {
@@ -384,7 +385,7 @@ fn shorten_of(bytes: &[u8]) -> Result<(Op, &[u8]), ReadError>
 }
 
 /// The operation at the front of the bytes.
-#[tactic(auto, unfolding(crate::specs::Reading::op_at))]
+#[tactic(auto, unfolding(def_op::specs::Reading::op_at))]
 pub(crate) fn op_of(alloc: Global, bytes: &[u8]) -> Result<(Op, &[u8]), ReadError>
     ensures { Gives (λ x. (operation x.0, x.1.now)) result (op_at bytes.now) }
 {

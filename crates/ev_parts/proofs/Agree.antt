@@ -1,14 +1,14 @@
 -- The walk over the items of a frame goes to the end exactly where a reading gives something, and both leave the same bytes.
 use Rattle.std.proofs.Common.{◌≡◌, ℕ, zero, suc, ◌-◌, Bool, true, false, ltb, nat_eq, ◌&&◌, ◌==◌, if◌then◌else◌, List, [], ◌∷◌, length, Option, Some, None, ◌⊎◌, inl, inr, ⊎_elim, refl, subst, sym, ◌∙◌, arith}
 use Rattle.std.proofs.lemmas.Bool.{eqb-true, eqb-false, ne_eqb, ltb-true, lt-ltb}
-use Rattle.ev_op.specs.declared.kind.Kind.{Kind}
-use Rattle.ev_op.specs.declared.kind.Kind.TheVariants as kind
+use Rattle.def_op.specs.declared.kind.Kind.{Kind}
+use Rattle.def_op.specs.declared.kind.Kind.TheVariants as kind
 use Rattle.def_op.specs.Frames.{Described, ListOf, YourExport, YourAnswer, MyPromise, MyAnswer, more, To, Elsewhere, Resolve, Provide, Accept, Shorten}
-use Rattle.ev_op.specs.Reading.{◌>>=◌, unsigned_at, signed_at, swiss_at, vat_at, primitive_at, character_at, text_at, few_at, kind_at, is_list, Read, leaf_at, first_at, members_at, list_at, no_list, desc_at, free_room, free_at, target_behind, target_at, subject_behind, subject_at, outcome_at, deliver_at, deliver_only_at, resolve_at, provide_at, accept_at, shorten_at, op_at}
-use Rattle.ev_parts.specs.declared.spots.Part.{Part}
-use Rattle.ev_parts.specs.declared.spots.Part.TheVariants.{Code, Number, Vat, Swiss, Other}
-use Rattle.ev_parts.specs.declared.spots.Spot.{Spot}
-use Rattle.ev_parts.specs.Items.{Walk, On, Off, and_then, item, code, Left, left, walk_number, walk_leaf, may_begin, walk_members, walk_list, no_walk, walk_first, walk_desc, walk_free, is_target, is_subject, walk_named, walk_vat, walk_outcome, walk_message, walk_deliver, walk_resolve, walk_provide, walk_accept, is_op, walk_op}
+use Rattle.def_op.specs.Reading.{◌>>=◌, unsigned_at, signed_at, swiss_at, vat_at, primitive_at, character_at, text_at, few_at, kind_at, is_list, Read, leaf_at, first_at, members_at, list_at, no_list, desc_at, free_room, free_at, target_behind, target_at, subject_behind, subject_at, outcome_at, deliver_at, deliver_only_at, resolve_at, provide_at, accept_at, shorten_at, op_at}
+use Rattle.def_op.specs.declared.spots.Part.{Part}
+use Rattle.def_op.specs.declared.spots.Part.TheVariants.{Code, Number, Vat, Swiss, Other}
+use Rattle.def_op.specs.declared.spots.Spot.{Spot}
+use Rattle.def_op.specs.Items.{Walk, On, Off, and_then, item, code, Left, left, walk_number, walk_leaf, may_begin, walk_members, walk_list, no_walk, walk_first, walk_desc, walk_free, is_target, is_subject, walk_named, walk_vat, walk_outcome, walk_message, walk_deliver, walk_resolve, walk_provide, walk_accept, is_op, walk_op}
 
 -- the walk goes on with what the reading gave, seen so, or both end
 abbrev pub Agree : {A B : Type 0} → (B → A) → Walk A → Option B → Type 0

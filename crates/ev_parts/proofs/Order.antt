@@ -4,15 +4,15 @@ use Rattle.std.specs.Prelude.{Result, Ok, Err, IfOk}
 use Rattle.std.proofs.lemmas.List.Quantifiers.{all_pairs_push}
 use Rattle.std.proofs.lemmas.List.Elements.{All-push}
 use Rattle.ev_base.specs.declared.memory.Memory.{Memory}
-use Rattle.ev_op.specs.declared.kind.Kind.{Kind}
-use Rattle.ev_op.specs.declared.kind.Kind.TheVariants as kind
-use Rattle.ev_op.specs.Reading.{unsigned_at, signed_at, swiss_at, vat_at, primitive_at, character_at, few_at, byte_where, is_list, free_room}
+use Rattle.def_op.specs.declared.kind.Kind.{Kind}
+use Rattle.def_op.specs.declared.kind.Kind.TheVariants as kind
+use Rattle.def_op.specs.Reading.{unsigned_at, signed_at, swiss_at, vat_at, primitive_at, character_at, few_at, byte_where, is_list, free_room}
 use Rattle.def_op.specs.Numbers.{is_primitive}
-use Rattle.ev_parts.specs.declared.spots.Part.{Part}
-use Rattle.ev_parts.specs.declared.spots.Part.TheVariants.{Code, Number, Vat, Swiss, Other}
-use Rattle.ev_parts.specs.declared.spots.Spot.{Spot}
-use Rattle.ev_parts.specs.declared.spots.Parts.{Parts}
-use Rattle.ev_parts.specs.Items.{Walk, On, Off, and_then, item, code, Left, text_len_at, walk_leaf, opening_at, walk_members, walk_list, no_walk, walk_first, walk_desc, walk_free, kind_where, is_target, is_subject, walk_named, walk_swiss, walk_vat, walk_text, walk_outcome, walk_message, walk_deliver, walk_resolve, walk_provide, walk_accept, is_op, walk_op, parts_of, items_of}
+use Rattle.def_op.specs.declared.spots.Part.{Part}
+use Rattle.def_op.specs.declared.spots.Part.TheVariants.{Code, Number, Vat, Swiss, Other}
+use Rattle.def_op.specs.declared.spots.Spot.{Spot}
+use Rattle.def_op.specs.declared.spots.Parts.{Parts}
+use Rattle.def_op.specs.Items.{Walk, On, Off, and_then, item, code, Left, text_len_at, walk_leaf, opening_at, walk_members, walk_list, no_walk, walk_first, walk_desc, walk_free, kind_where, is_target, is_subject, walk_named, walk_swiss, walk_vat, walk_text, walk_outcome, walk_message, walk_deliver, walk_resolve, walk_provide, walk_accept, is_op, walk_op, parts_of, items_of}
 use Rattle.ev_parts.specs.Whole.{AreInOrder, place_of}
 use Rattle.ev_parts.proofs.Shorter.{Under, unsigned_shorter, signed_shorter, swiss_shorter, byte_shorter, few_shorter, character_shorter, text_len_shorter, opening_shorter, named_shorter}
 

@@ -3,10 +3,10 @@ use Rattle.std.proofs.Common.{ℕ, zero, suc, ◌+◌, ◌-◌, ◌*◌, ◌<◌
 use Rattle.std.proofs.lemmas.List.{length-drop}
 use Rattle.std.specs.Str.{is_utf8}
 use lib.Utf8.{scalar}
-use Rattle.ev_op.specs.declared.kind.Kind.{Kind}
+use Rattle.def_op.specs.declared.kind.Kind.{Kind}
 use Rattle.def_op.specs.Numbers.{digit}
-use Rattle.ev_op.specs.Reading.{◌>>=◌, Digits, last_digit, lower_digit, in_last_place, digits_at, unsigned_at, with_sign, signed_at, low_first_at, swiss_at, byte_where, text_at, character_at, few_at, kinds, kind_at}
-use Rattle.ev_parts.specs.Items.{text_len_at, may_begin, opening_at, kind_where}
+use Rattle.def_op.specs.Reading.{◌>>=◌, Digits, last_digit, lower_digit, in_last_place, digits_at, unsigned_at, with_sign, signed_at, low_first_at, swiss_at, byte_where, text_at, character_at, few_at, kinds, kind_at}
+use Rattle.def_op.specs.Items.{text_len_at, may_begin, opening_at, kind_where}
 
 -- what is left behind is below a length
 abbrev pub Under : {A : Type 0} → ℕ → Option (A × List ℕ) → Type 0

@@ -1,9 +1,10 @@
 -- Walking over descriptions one after the other, as a loop does.
 use Rattle.std.proofs.Common.{◌≡◌, ℕ, suc, ◌-◌, ◌+◌, ◌≤◌, ◌<◌, List, Option, Some, None, refl, sym, ◌∙◌, arith}
-use Rattle.ev_parts.specs.declared.spots.Spot.{Spot}
+use Rattle.def_op.specs.declared.spots.Spot.{Spot}
 use Rattle.ev_parts.specs.declared.walking.WalkError.{WalkError}
 use Rattle.ev_parts.specs.declared.walking.WalkError.TheVariants as errors
-use Rattle.ev_parts.specs.Items.{Walk, On, Off, Stops, Left, left, walk_members}
+use Rattle.ev_parts.specs.Walks.{Stops}
+use Rattle.def_op.specs.Items.{Walk, On, Off, Left, left, walk_members}
 
 module _ (one : ℕ → List Spot → List ℕ → Walk Left) where
   pub goes_on : (count i room : ℕ) (spots after : List Spot) (bytes : List ℕ) (x : Left) (total : Walk Left) → i < count → one room spots bytes ≡ On after x

@@ -5,11 +5,11 @@ use Rattle.std.proofs.lemmas.Bool.{eqb-true, ne_eqb}
 use Rattle.std.proofs.lemmas.List.{append-nil, length-append}
 use Rattle.ev_base.specs.declared.memory.Memory.{Memory}
 use Rattle.def_op.specs.Frames.{Operation, IsOp, spelling}
-use Rattle.ev_op.specs.Reading.{op_at}
+use Rattle.def_op.specs.Reading.{op_at}
 use Rattle.ev_op.proofs.NumberLemmas.{chosen, none_is, IsBytes}
 use Rattle.ev_op.proofs.OpLemmas.{op_takes, op_again}
-use Rattle.ev_parts.specs.declared.spots.Parts.{Parts}
-use Rattle.ev_parts.specs.Items.{Walk, On, Off, walk_op, parts_of, items_of}
+use Rattle.def_op.specs.declared.spots.Parts.{Parts}
+use Rattle.def_op.specs.Items.{Walk, On, Off, walk_op, parts_of, items_of}
 use Rattle.ev_parts.specs.Whole.{IsWhole}
 use Rattle.ev_parts.proofs.Agree.{Agree, behind, op_agrees}
 

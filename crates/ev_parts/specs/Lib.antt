@@ -1,2 +1,2 @@
-pub mod Items
+pub mod Walks
 pub mod Whole

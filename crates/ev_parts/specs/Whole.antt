@@ -1,8 +1,8 @@
 -- When bytes are an operation, and how its items lie in them.
 use Rattle.std.specs.Prelude.{◌≡◌, ℕ, ◌<◌, List, All, AllPairs, unwrap_or}
 use Rattle.def_op.specs.Frames.{Operation, IsOp, spelling}
-use Rattle.ev_parts.specs.declared.spots.Spot.{Spot}
-use Rattle.ev_parts.specs.declared.spots.Parts.{Parts}
+use Rattle.def_op.specs.declared.spots.Spot.{Spot}
+use Rattle.def_op.specs.declared.spots.Parts.{Parts}
 
 -- the bytes are the whole spelling of an operation
 abbrev pub IsWhole : List ℕ → Type 0

@@ -1,14 +1,16 @@
 //! The items of a frame, from left to right.
 
 ghost use Rattle.std.specs.Prelude.{◌≡◌, ◌-◌, ◌++◌, ◌∷◌, [], length, OnOk, IfErr};
-ghost use Rattle.ev_parts.specs.declared.spots.Part.TheVariants.{Code, Number, Vat, Swiss, Other};
+ghost use Rattle.def_op.specs.declared.spots.Part.TheVariants.{Code, Number, Vat, Swiss, Other};
 ghost use Rattle.ev_parts.specs.declared.walking.WalkError.TheVariants.{Memory};
-ghost use Rattle.ev_op.specs.Reading.{Gives, byte_where, unsigned_at, signed_at, swiss_at, vat_at, primitive_at, character_at, few_at};
-ghost use Rattle.ev_parts.specs.Items.{Walks, item, code, stopped, text_len_at, opening_at, kind_where, is_target, is_subject, is_op};
+ghost use Rattle.ev_op.specs.Gives.{Gives};
+ghost use Rattle.def_op.specs.Reading.{byte_where, unsigned_at, signed_at, swiss_at, vat_at, primitive_at, character_at, few_at};
+ghost use Rattle.ev_parts.specs.Walks.{Walks, stopped};
+ghost use Rattle.def_op.specs.Items.{item, code, text_len_at, opening_at, kind_where, is_target, is_subject, is_op};
 
-use crate::spots::{Part, Spot};
+use def_op::{Kind, Part, Spot};
 use ev_op::fault::ReadError;
-use ev_op::kind::{Kind, is_list, kind_of};
+use ev_op::kind::{is_list, kind_of};
 use ev_op::numbers::{
     character_of, few_of, primitive_of, signed_of, swiss_of, unsigned_of, vat_of,
 };

@@ -2,21 +2,22 @@
 
 ghost use Rattle.std.specs.Prelude.{◌≡◌, ◌≢◌, ◌≤◌, ◌↔◌, ◌++◌, ℕ, List, [], length, Some, None, IfOk};
 ghost use Rattle.def_op.specs.Frames.{Operation, IsOp, spelling};
-ghost use Rattle.ev_parts.specs.Items.{Walks, walk_leaf, walk_list, walk_members, walk_desc, walk_free, walk_member, walk_named, is_target, is_subject, walk_swiss, walk_vat, walk_outcome, walk_message, walk_deliver, walk_resolve, walk_provide, walk_accept, walk_op, items_of};
+ghost use Rattle.ev_parts.specs.Walks.{Walks};
+ghost use Rattle.def_op.specs.Items.{walk_leaf, walk_list, walk_members, walk_desc, walk_free, walk_member, walk_named, is_target, is_subject, walk_swiss, walk_vat, walk_outcome, walk_message, walk_deliver, walk_resolve, walk_provide, walk_accept, walk_op, items_of};
 ghost use Rattle.ev_parts.specs.Whole.{IsWhole, AreInOrder, place_of};
 
-use crate::spots::{Part, Parts, Spot};
 use crate::walking::{
     WalkError, note, walk_character, walk_code, walk_few, walk_integer, walk_number, walk_opening,
     walk_primitive, walk_subject, walk_swiss, walk_target, walk_text, walk_vat,
 };
+use def_op::{Kind, Part, Parts, Spot};
 use ev_base::{Memory, Seq};
-use ev_op::kind::{Kind, is_list};
+use ev_op::kind::is_list;
 use ev_op::limits::{HEIGHT, free_room};
 use std::alloc::Global;
 
 /// What stands behind the first byte of a description that is no list.
-#[tactic(auto, unfolding(crate::specs::Items::walk_leaf))]
+#[tactic(auto, unfolding(def_op::specs::Items::walk_leaf))]
 fn leaf<'a>(
     total: usize,
     kind: Kind,
@@ -58,7 +59,7 @@ fn leaf<'a>(
 
 /// A description in which at most `height` lists stand in each other.
 #[cycle(walks)]
-#[tactic(auto, unfolding(crate::specs::Items::walk_desc, crate::specs::Items::walk_first))]
+#[tactic(auto, unfolding(def_op::specs::Items::walk_desc, def_op::specs::Items::walk_first))]
 fn desc<'a>(
     total: usize,
     height: u32,
@@ -82,7 +83,7 @@ fn desc<'a>(
 
 /// A list behind its first byte.
 #[cycle(walks)]
-#[tactic(auto, unfolding(crate::specs::Items::walk_list))]
+#[tactic(auto, unfolding(def_op::specs::Items::walk_list))]
 fn list<'a>(
     total: usize,
     height: u32,
@@ -136,7 +137,7 @@ fn member<'a>(
 
 /// A description round which no list stands.
 #[cycle(walks)]
-#[tactic(auto, unfolding(crate::specs::Items::walk_free))]
+#[tactic(auto, unfolding(def_op::specs::Items::walk_free))]
 fn free<'a>(
     total: usize,
     room: usize,
@@ -149,7 +150,7 @@ fn free<'a>(
     Ok((room, rest))
 }
 
-#[tactic(auto, unfolding(crate::specs::Items::walk_named))]
+#[tactic(auto, unfolding(def_op::specs::Items::walk_named))]
 fn target<'a>(total: usize, bytes: &'a [u8], spots: &mut Vec<Spot>) -> Result<&'a [u8], WalkError>
     ensures { Walks (λ x. x.now) result spots.new.items (walk_named is_target total spots.old.items bytes.now) }
 {
@@ -158,7 +159,7 @@ fn target<'a>(total: usize, bytes: &'a [u8], spots: &mut Vec<Spot>) -> Result<&'
     Ok(rest)
 }
 
-#[tactic(auto, unfolding(crate::specs::Items::walk_named))]
+#[tactic(auto, unfolding(def_op::specs::Items::walk_named))]
 fn subject<'a>(total: usize, bytes: &'a [u8], spots: &mut Vec<Spot>) -> Result<&'a [u8], WalkError>
     ensures { Walks (λ x. x.now) result spots.new.items (walk_named is_subject total spots.old.items bytes.now) }
 {
@@ -182,7 +183,7 @@ fn vat<'a>(total: usize, bytes: &'a [u8], spots: &mut Vec<Spot>) -> Result<&'a [
 }
 
 /// What a subject came to.
-#[tactic(auto, unfolding(crate::specs::Items::walk_outcome))]
+#[tactic(auto, unfolding(def_op::specs::Items::walk_outcome))]
 fn outcome<'a>(total: usize, bytes: &'a [u8], spots: &mut Vec<Spot>) -> Result<&'a [u8], WalkError>
     ensures { Walks (λ x. x.now) result spots.new.items (walk_outcome total spots.old.items bytes.now) }
 {
@@ -196,7 +197,7 @@ fn outcome<'a>(total: usize, bytes: &'a [u8], spots: &mut Vec<Spot>) -> Result<&
     Ok(rest)
 }
 
-#[tactic(auto, unfolding(crate::specs::Items::walk_message))]
+#[tactic(auto, unfolding(def_op::specs::Items::walk_message))]
 fn message<'a>(total: usize, bytes: &'a [u8], spots: &mut Vec<Spot>) -> Result<&'a [u8], WalkError>
     ensures { Walks (λ x. x.now) result spots.new.items (walk_message total spots.old.items bytes.now) }
 {
@@ -207,7 +208,7 @@ fn message<'a>(total: usize, bytes: &'a [u8], spots: &mut Vec<Spot>) -> Result<&
     Ok(rest)
 }
 
-#[tactic(auto, unfolding(crate::specs::Items::walk_deliver))]
+#[tactic(auto, unfolding(def_op::specs::Items::walk_deliver))]
 fn deliver<'a>(total: usize, bytes: &'a [u8], spots: &mut Vec<Spot>) -> Result<&'a [u8], WalkError>
     ensures { Walks (λ x. x.now) result spots.new.items (walk_deliver total spots.old.items bytes.now) }
 {
@@ -215,7 +216,7 @@ fn deliver<'a>(total: usize, bytes: &'a [u8], spots: &mut Vec<Spot>) -> Result<&
     message(total, rest, spots)
 }
 
-#[tactic(auto, unfolding(crate::specs::Items::walk_resolve))]
+#[tactic(auto, unfolding(def_op::specs::Items::walk_resolve))]
 fn resolve<'a>(total: usize, bytes: &'a [u8], spots: &mut Vec<Spot>) -> Result<&'a [u8], WalkError>
     ensures { Walks (λ x. x.now) result spots.new.items (walk_resolve total spots.old.items bytes.now) }
 {
@@ -223,7 +224,7 @@ fn resolve<'a>(total: usize, bytes: &'a [u8], spots: &mut Vec<Spot>) -> Result<&
     outcome(total, rest, spots)
 }
 
-#[tactic(auto, unfolding(crate::specs::Items::walk_provide))]
+#[tactic(auto, unfolding(def_op::specs::Items::walk_provide))]
 fn provide<'a>(total: usize, bytes: &'a [u8], spots: &mut Vec<Spot>) -> Result<&'a [u8], WalkError>
     ensures { Walks (λ x. x.now) result spots.new.items (walk_provide total spots.old.items bytes.now) }
 {
@@ -231,7 +232,7 @@ fn provide<'a>(total: usize, bytes: &'a [u8], spots: &mut Vec<Spot>) -> Result<&
     swiss(total, rest, spots)
 }
 
-#[tactic(auto, unfolding(crate::specs::Items::walk_accept))]
+#[tactic(auto, unfolding(def_op::specs::Items::walk_accept))]
 fn accept<'a>(total: usize, bytes: &'a [u8], spots: &mut Vec<Spot>) -> Result<&'a [u8], WalkError>
     ensures { Walks (λ x. x.now) result spots.new.items (walk_accept total spots.old.items bytes.now) }
 {
@@ -241,7 +242,7 @@ fn accept<'a>(total: usize, bytes: &'a [u8], spots: &mut Vec<Spot>) -> Result<&'
 }
 
 /// The operation at the front of the bytes.
-#[tactic(auto, unfolding(crate::specs::Items::walk_op))]
+#[tactic(auto, unfolding(def_op::specs::Items::walk_op))]
 fn operation<'a>(
     total: usize,
     bytes: &'a [u8],

@@ -19,6 +19,7 @@ use std::alloc::Global;
 
 /// What a followed value answers, in the terms of the code.
 #[tactic(auto, using(crate::proofs::SeqLemmas::text_here, crate::proofs::SeqLemmas::members_here), unfolding(crate::specs::Answers::data_answer))]
+#[inline(always)]
 fn answered(
     alloc: Global,
     heap: &Heap,
@@ -46,6 +47,7 @@ fn answered(
 /// in the heap, which stays as it is: what is made is handed back as it is to be made. The one error is want of memory.
 ///
 /// `is` tells the answer in the terms of the code, and `means` what it stands for in the machine.
+#[inline(always)]
 pub fn data_reply(
     alloc: Global,
     heap: &Heap,

@@ -97,6 +97,7 @@ impl Refs {
     }
 
     #[tactic(auto, unfolding(crate::specs::Follow::severed))]
+    #[inline(always)]
     fn severed(&self, value: Value) -> Value
         ensures { result ≡ severed self.now value }
     {
@@ -110,6 +111,7 @@ impl Refs {
     /// What a value is followed to: by what names settled to and by their views, as far as the vat knows; and to broken
     /// `partition`, where that has a host whose link is noticed as cut.
     #[tactic(auto, unfolding(crate::specs::Follow::followed, crate::specs::Follow::led))]
+    #[inline(always)]
     pub fn deref(&self, value: Value) -> Value
         ensures { result ≡ followed self.now value }
     {

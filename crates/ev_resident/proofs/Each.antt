@@ -3,6 +3,7 @@ use Rattle.std.proofs.Common.{◌≡◌, ◌+◌, ◌<◌, ◌≤◌, ℕ, zero,
 use Rattle.std.proofs.lemmas.List.{drop_more, drop_all}
 use Rattle.ev_base.specs.declared.names.Msg.{Msg}
 use Rattle.ev_base.specs.declared.values.Value.{Value}
+use Rattle.ev_heap.specs.declared.happened.Happened.{Happened}
 use Rattle.ev_heap.specs.declared.lines.Line.{Line}
 use Rattle.ev_heap.specs.declared.lines.Line.TheVariants as line
 use Rattle.ev_heap.specs.Told.{read, told, width}
@@ -48,23 +49,25 @@ each-map f g (x ∷ xs) es = each-map f g xs (f (g x) es)
 
 -- ---- lines
 
-line_told : (r : References) (ms : List Msg) (l : Line) (vs : List Value) (es : List Entry) → event_tells r ms (told l vs) es ≡ line_tells r ms l es
-unfolding event_tells line_tells
-line_told r ms (line.Call n a v) vs es = refl
-line_told r ms (line.Begins n a v b) vs es = refl
-line_told r ms (line.Back a) vs es = refl
-line_told r ms (line.Thrown a) vs es = refl
-line_told r ms (line.Gone a) vs es = refl
-line_told r ms (line.Slot a k) vs es = refl
-line_told r ms (line.Read a k) vs es = refl
-line_told r ms (line.Wrote a k) vs es = refl
-line_told r ms (line.List n a k) vs es = refl
-line_told r ms (line.Ejector a) vs es = refl
-line_told r ms (line.Other e) vs es = refl
+module _ (r : References) (ms : List Msg) (us : List (List ℕ)) (hs : List Happened) where
+  line_told : (l : Line) (vs : List Value) (es : List Entry) → event_tells r ms (told us hs l vs) es ≡ line_tells r ms hs l es
+  unfolding event_tells line_tells
+  line_told (line.Call n a v) vs es = refl
+  line_told (line.Begins n a v b) vs es = refl
+  line_told (line.Back a) vs es = refl
+  line_told (line.Thrown a) vs es = refl
+  line_told (line.Gone a) vs es = refl
+  line_told (line.Got a) vs es = refl
+  line_told (line.Slot a k) vs es = refl
+  line_told (line.Read a k) vs es = refl
+  line_told (line.Wrote a k) vs es = refl
+  line_told (line.List n a k) vs es = refl
+  line_told (line.Ejector a) vs es = refl
+  line_told (line.Rare i) vs es = refl
 
-pub lines_told : (r : References) (ms : List Msg) (ls : List Line) (vs : List Value) (es : List Entry) → each_tells (event_tells r ms) (read ls vs) es ≡ each_tells (line_tells r ms) ls es
-unfolding each_tells read
-lines_told r ms [] vs es = refl
-lines_told r ms (l ∷ ls) vs es =
-    ap (λ (z : List Entry). each_tells (event_tells r ms) (read ls (drop (width l) vs)) z) (line_told r ms l (take (width l) vs) es)
-    ∙ lines_told r ms ls (drop (width l) vs) (line_tells r ms l es)
+  pub lines_told : (ls : List Line) (vs : List Value) (es : List Entry) → each_tells (event_tells r ms) (read us hs ls vs) es ≡ each_tells (line_tells r ms hs) ls es
+  unfolding each_tells read
+  lines_told [] vs es = refl
+  lines_told (l ∷ ls) vs es =
+      ap (λ (z : List Entry). each_tells (event_tells r ms) (read us hs ls (drop (width l) vs)) z) (line_told l (take (width l) vs) es)
+      ∙ lines_told ls (drop (width l) vs) (line_tells r ms hs l es)

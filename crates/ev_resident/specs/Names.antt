@@ -5,6 +5,7 @@ use Rattle.ev_base.specs.declared.names.Name.{Name}
 use Rattle.ev_base.specs.declared.names.Name.TheVariants as name
 use Rattle.ev_heap.specs.declared.happened.Happened.{Happened}
 use Rattle.ev_heap.specs.declared.happened.Happened.TheVariants as event
+use Rattle.ev_heap.specs.Told.{rare_at}
 use Rattle.ev_heap.specs.declared.lines.Line.{Line}
 use Rattle.ev_heap.specs.declared.lines.Line.TheVariants as line
 use Rattle.ev_intro.specs.Gift.{Gift, Gifts}
@@ -68,9 +69,9 @@ abbrev pub events_tell : References → List Msg → List Happened → List Entr
 events_tell r ms hs es = each_tells (event_tells r ms) hs es
 
 -- what a small line tells, whatever its values
-unfoldable pub line_tells : References → List Msg → Line → List Entry → List Entry
-line_tells r ms (line.Other h) es = event_tells r ms h.value es
-line_tells r ms _ es = es
+unfoldable pub line_tells : References → List Msg → List Happened → Line → List Entry → List Entry
+line_tells r ms hs (line.Rare i) es = event_tells r ms (rare_at hs i) es
+line_tells r ms hs _ es = es
 
 -- the name of a gift at a host under a word, by the place of the word among the draws
 abbrev pub gift_at : Drawn → ℕ → ℕ → Name

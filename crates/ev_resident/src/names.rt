@@ -2,6 +2,7 @@
 
 ghost use Rattle.std.specs.Prelude.{◌≡◌, ◌-◌, ◌++◌, ◌∷◌, [], List, IfOk, OnErr, OnOk, drop, length, map, slice_get};
 ghost use Rattle.ev_base.specs.declared.names.Name.TheVariants as name;
+ghost use Rattle.ev_heap.specs.Told.{Fits};
 ghost use Rattle.ev_resident.specs.Names.{all_named, counted, answer_name, asked_tells, answer_tells, carried_mails, event_tells, events_tell, gift_at, gift_tells, gifts_tell, host_in, line_tells, names_first, note_tells, one_named, own_messages, puts_tell, some_tells, step_tells, stepped, mailed, with_mails};
 ghost use Rattle.def_run.specs.Names.{Names, Told as Local, names_after};
 ghost use Rattle.def_machine.specs.State.{Vat};
@@ -17,7 +18,7 @@ use crate::told::Told;
 use ev_arrive::Host;
 use ev_base::{Memory, Msg, MsgId, Name, PromId, VatId};
 use ev_heap::lines::Line;
-use ev_heap::{Happened, Lines};
+use ev_heap::{Cursor, Happened, Lines};
 use ev_intro::{GiftTable, Words};
 use ev_pass::Interior;
 use ev_pass::draw::Swiss;
@@ -180,11 +181,18 @@ impl VatNames {
 
     /// What a small line tells, whatever its values.
     #[tactic(auto, unfolding(crate::specs::Names::line_tells))]
-    fn tell_line(&self, refs: &Refs, line: &Line, told: &mut Told) -> Result<(), Memory>
-        ensures { OnOk result (told.new ≡ line_tells refs.now self.now.naming.mails line.now told.old) }
+    fn tell_line(
+        &self,
+        refs: &Refs,
+        read: &Cursor<'_>,
+        line: Line,
+        told: &mut Told,
+    ) -> Result<(), Memory>
+        requires { Fits read.now.verbs read.now.rare line }
+        ensures { OnOk result (told.new ≡ line_tells refs.now self.now.naming.mails read.now.rare line told.old) }
     {
         match line {
-            Line::Other(event) => self.tell_event(refs, event, told),
+            Line::Rare(place) => self.tell_event(refs, read.rare(place), told),
             _ => Ok(()),
         }
     }
@@ -193,9 +201,9 @@ impl VatNames {
     fn tell_events(&self, refs: &Refs, events: &Lines, told: &mut Told) -> Result<(), Memory>
         ensures { OnOk result (told.new ≡ events_tell refs.now self.now.naming.mails events.now told.old) }
     {
-        let (lines, _) = events.parts();
+        let (lines, read) = events.skim();
         for line in lines {
-            self.tell_line(refs, line, told)?;
+            self.tell_line(refs, &read, *line, told)?;
         }
         Ok(())
     }

@@ -56,6 +56,7 @@ fn bound_back(capture: Capture) -> Bound
 
 /// What the last binding of a noun binds it to.
 #[tactic(auto, using(crate::proofs::Finding::last_is, crate::proofs::Finding::last_is_not), unfolding(crate::specs::Acts::found_from))]
+#[inline(always)]
 fn found_last(nouns: &[Binding], noun: &Word) -> Option<Bound>
     ensures { result ≡ found_from None nouns.now noun.now }
 {
@@ -72,6 +73,7 @@ fn found_last(nouns: &[Binding], noun: &Word) -> Option<Bound>
 
 /// What the first that is held of a noun, behind so many, was bound to.
 #[tactic(auto, using(crate::proofs::Finding::first_is, crate::proofs::Finding::first_is_not), unfolding(crate::specs::Acts::found_from))]
+#[inline(always)]
 fn found_held(held: &[Caught], gone: usize, noun: &Word) -> Option<Bound>
     ensures { result ≡ found_from None (reverse (map binding_back (drop gone held.now))) noun.now }
 {
@@ -88,6 +90,7 @@ fn found_held(held: &[Caught], gone: usize, noun: &Word) -> Option<Bound>
 
 /// What the innermost binding of a noun binds it to, of so many of the outermost that are held.
 #[tactic(auto, using(crate::proofs::Finding::outermost_last))]
+#[inline(always)]
 fn found_shown(held: &Shared<Caught>, shown: usize, noun: &Word) -> Option<Bound>
     requires { shown ≤ length held.now }
     ensures { result ≡ found_from None (outermost shown (Some held.now)) noun.now }
@@ -184,6 +187,7 @@ impl Nouns {
 
     /// What the innermost binding of a noun binds it to.
     #[tactic(auto, using(crate::proofs::Finding::own_found, crate::proofs::Finding::own_none))]
+    #[inline(always)]
     pub fn found(&self, noun: &Word) -> Option<Bound>
         ensures { result ≡ found_from None self.now noun.now }
     {

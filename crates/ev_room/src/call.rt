@@ -28,6 +28,7 @@ fn closed_without(act: ActId, exit: Exit, room: &mut Room) -> Result<Value, Exit
 
 /// Tells how a call ended, and ends so.
 #[tactic(auto, using(crate::proofs::Exits::ends), unfolding(crate::specs::Acts::opened_acts))]
+#[inline(always)]
 pub fn closed(act: ActId, outcome: Result<Value, Exit>, room: &mut Room) -> Result<Value, Exit>
     ensures outcome { Gives result room.new (closed_by act (outcome, room.old)) }
 {

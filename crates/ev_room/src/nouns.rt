@@ -23,6 +23,7 @@ fn safe_found(noun: &str) -> Result<Value, Exit>
 
 /// The value of a noun that is bound.
 #[tactic(auto, using(crate::proofs::Exits::ends), unfolding(crate::specs::Acts::opened_acts))]
+#[inline(always)]
 fn read_held(act: ActId, bound: Bound, room: &mut Room) -> Result<Value, Exit>
     ensures outcome { Gives result room.new (read_held act bound room.old) }
 {
@@ -34,6 +35,7 @@ fn read_held(act: ActId, bound: Bound, room: &mut Room) -> Result<Value, Exit>
 
 /// The value of a noun, by what it is bound to.
 #[tactic(auto, using(crate::proofs::Exits::ends), unfolding(crate::specs::Acts::opened_acts))]
+#[inline(always)]
 pub fn read_bound(
     act: ActId,
     bound: Option<Bound>,

@@ -13,6 +13,7 @@ pub use ev_pass::Interior as Room;
 
 /// Spends so many units of fuel, or none where they are above what is left.
 #[tactic(auto, unfolding(crate::specs::Acts::opened_acts))]
+#[inline(always)]
 pub fn spend(room: &mut Room, units: u64) -> Result<(), Exit>
     ensures outcome { Gives result room.new (spend units room.old) }
     ensures heap { room.new.heap ≡ room.old.heap }
@@ -37,6 +38,7 @@ pub fn tell(room: &mut Room, event: Happened) -> Result<(), Exit>
 
 /// Tells a call, with the activation that it begins.
 #[tactic(auto, unfolding(crate::specs::Acts::opened_acts))]
+#[inline(always)]
 pub fn tell_call(
     act: ActId,
     target: Value,
@@ -47,7 +49,6 @@ pub fn tell_call(
 ) -> Result<(), Exit>
     ensures outcome { Gives result room.new (tell (event.Call act target verb.now args.now begun) room.old) }
 {
-    let verb = verb.share()?;
     match room.micro.push_call(act, target, verb, args, begun) {
         Ok(()) => Ok(()),
         Err(Memory) => Err(Exit::Memory),

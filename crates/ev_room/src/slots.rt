@@ -21,6 +21,7 @@ pub fn new_slot(guard: GuardKind, value: Value, room: &mut Room) -> Result<SlotI
 
 /// Tells that a slot with a value was read.
 #[tactic(auto, using(crate::proofs::Exits::ends), unfolding(crate::specs::Acts::opened_acts))]
+#[inline(always)]
 fn slot_read(act: ActId, slot: SlotId, value: Value, room: &mut Room) -> Result<Value, Exit>
     ensures outcome { Gives result room.new (slot_read act slot value room.old) }
 {
@@ -31,6 +32,7 @@ fn slot_read(act: ActId, slot: SlotId, value: Value, room: &mut Room) -> Result<
 
 /// The value of a slot.
 #[tactic(auto, using(crate::proofs::Cells::read_goes, crate::proofs::Cells::read_astray))]
+#[inline(always)]
 pub fn read_slot(act: ActId, slot: SlotId, room: &mut Room) -> Result<Value, Exit>
     ensures outcome { Gives result room.new (read_slot act slot room.old) }
 {

@@ -8,6 +8,7 @@ use def_kernel::Node;
 use ev_base::{NodeId, Word};
 
 /// The node of a number.
+#[inline(always)]
 pub fn node_at(tree: &[Node], id: NodeId) -> Option<&Node>
     ensures { option_map (λ node. node.now) result ≡ slice_get tree.now id }
 {

@@ -16,7 +16,7 @@ use ev_event::History;
 use ev_heap::{Capture, Happened};
 
 /// The number of an activation.
-fn number(activation: Option<ActId>) -> Option<u64>
+pub(crate) fn number(activation: Option<ActId>) -> Option<u64>
     ensures { result ≡ activation }
 {
     match activation {
@@ -31,16 +31,16 @@ pub(crate) fn call_line(
     activation: ActId,
     target: Value,
     verb: &str,
-    args: &[Value],
+    args: Seq<Shown>,
     begun: Option<ActId>,
 ) -> Result<Event, Memory>
-    ensures { IfOk result (λ line. line ≡ Call (record { activation = activation; target = shown_held teller.now target; verb = verb.now; args = all_held teller.now args.now; begun = begun })) }
+    ensures { IfOk result (λ line. line ≡ Call (record { activation = activation; target = shown_held teller.now target; verb = verb.now; args = args; begun = begun })) }
 {
     let called = Called {
         activation: activation.0,
         target: shown(teller, target)?,
         verb: Str::copy_of(teller.alloc, verb)?,
-        args: shown_all(teller, args)?,
+        args,
         begun: number(begun),
     };
     Ok(Event::Call(Boxed::new(teller.alloc, called)?))
@@ -58,12 +58,13 @@ fn push_call(
 ) -> Result<(), Memory>
     ensures { OnOk result (history.new ≡ history.old ++ Call (record { activation = activation; target = shown_held teller.now target; verb = verb.now; args = all_held teller.now args.now; begun = begun }) ∷ []) }
 {
+    let args = shown_all(teller, args)?;
     let line = call_line(teller, activation, target, verb, args, begun)?;
     history.push(line)
 }
 
 /// Adds the line of a value that an ejector gave.
-fn push_got(
+pub(crate) fn push_got(
     teller: &Teller<'_>,
     activation: ActId,
     value: Value,

@@ -8,6 +8,7 @@ pub mod shown;
 mod single;
 pub mod table;
 pub mod teller;
+pub mod write;
 
 pub use lines::push_lines;
 pub use table::Table;

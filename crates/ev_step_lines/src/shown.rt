@@ -7,7 +7,7 @@ ghost use Rattle.ev_step_lines.specs.Lines.{all_held, problem_at, shown_capture,
 use crate::teller::Teller;
 use def_event::Shown;
 use ev_base::{Memory, Name, Seq, Str, TextId, Value};
-use ev_heap::Capture;
+use ev_heap::{Capture, Held};
 
 /// A copy of a text of the heap, and the empty text where the heap has none of that number.
 pub fn copied(teller: &Teller<'_>, id: TextId) -> Result<Str, Memory>
@@ -64,6 +64,17 @@ pub fn shown_all(teller: &Teller<'_>, values: &[Value]) -> Result<Seq<Shown>, Me
     let mut all = Seq::new(teller.alloc);
     for value in values {
         all.push(shown(teller, *value)?)?;
+    }
+    Ok(all)
+}
+
+/// Values that are lent, by their global names.
+pub(crate) fn held_all(teller: &Teller<'_>, values: &Held<'_>) -> Result<Seq<Shown>, Memory>
+    ensures { IfOk result (λ all. all ≡ all_held teller.now values.now) }
+{
+    let mut all = Seq::new(teller.alloc);
+    for place in 0..values.len() {
+        all.push(shown(teller, values.at(place))?)?;
     }
     Ok(all)
 }

@@ -8,7 +8,7 @@ ghost use Rattle.ev_step_lines.specs.Lines.{all_held, problem_at, shown_held};
 use crate::shown::{problem, shown, shown_all};
 use crate::teller::Teller;
 use def_event::{Event, Shown};
-use ev_base::{ActId, ListId, Memory, SlotId, Value};
+use ev_base::{ActId, ListId, Memory, Seq, SlotId, Value};
 use ev_event::History;
 
 /// Adds the line of an answer.
@@ -79,6 +79,18 @@ pub(crate) fn push_wrote(
     history.push(Event::Wrote(activation.0, (teller.vat(), slot.0), value))
 }
 
+/// The line of a list that was made.
+pub(crate) fn list_line(
+    teller: &Teller<'_>,
+    activation: ActId,
+    list: ListId,
+    members: Seq<Shown>,
+) -> Event
+    ensures { result ≡ line_as.List activation (teller.now.naming.vat, list) members }
+{
+    Event::List(activation.0, (teller.vat(), list.0), members)
+}
+
 /// Adds the line of a list that was made.
 pub(crate) fn push_list(
     teller: &Teller<'_>,
@@ -90,5 +102,5 @@ pub(crate) fn push_list(
     ensures { OnOk result (history.new ≡ history.old ++ line_as.List activation (teller.now.naming.vat, list) (all_held teller.now values.now) ∷ []) }
 {
     let members = shown_all(teller, values)?;
-    history.push(Event::List(activation.0, (teller.vat(), list.0), members))
+    history.push(list_line(teller, activation, list, members))
 }

@@ -8,7 +8,7 @@ use Rattle.def_run.specs.Numbers as numbers
 use Rattle.def_run.specs.Numbers.{Course, Runs, Halts}
 use Rattle.law_frame.specs.Local.Mirrors.{RunMirrors}
 use Rattle.law_frame.proofs.Local.Texts.{texts_mirror}
-use Rattle.ev_wire.specs.Steady.{RunsSteadily}
+use Rattle.def_run.specs.Steady.{RunsSteadily}
 use Rattle.law_schedule.specs.Scripts.{tree_at}
 use Rattle.law_read.specs.ReadScripts.Accepted.{MeetsTheLaws}
 use Rattle.law_read.proofs.ReadScripts.Meets.{meets}

@@ -11,8 +11,10 @@ pub mod Astray
 pub mod CauseLemmas
 pub mod Fates
 pub mod Reach
+pub mod Noticing
 pub mod Severed
 pub mod Uses
 pub mod Order
 pub mod Unread
 pub mod Generated
+pub mod Entries

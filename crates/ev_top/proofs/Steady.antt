@@ -3,7 +3,7 @@ use Rattle.def_run.specs.World as machine
 use Rattle.def_run.specs.Numbers as numbers
 use Rattle.law_frame.specs.Local.Mirrors.{RunMirrors}
 use Rattle.law_frame.proofs.Local.WholeRuns.{whole_runs_mirror}
-use Rattle.ev_wire.specs.Steady.{RunsSteadily}
+use Rattle.def_run.specs.Steady.{RunsSteadily}
 use Rattle.law_read.specs.ReadScripts.Accepted.{MeetsTheLaws}
 use Rattle.law_frame.proofs.Steady.Anew.{lawful_steady}
 

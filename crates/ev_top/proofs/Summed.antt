@@ -9,7 +9,7 @@ use Rattle.def_run.specs.World.{World, Goes, Stopped}
 use Rattle.def_run.specs.Numbers as numbers
 use Rattle.def_run.specs.Numbers.{Course, Runs, Halts}
 use Rattle.law_frame.specs.Local.Mirrors.{RunMirrors}
-use Rattle.ev_wire.specs.Steady.{RunsSteadily}
+use Rattle.def_run.specs.Steady.{RunsSteadily}
 use Rattle.law_schedule.specs.Scripts.{machine_entry, tree_at}
 use Rattle.law_read.proofs.ReadScripts.Meets.{meets}
 use Rattle.ev_reader.specs.declared.accepted.Scoped.{Scoped}

@@ -6,14 +6,15 @@ use Rattle.def_machine.specs.Values.{Words, Value, Broken, Ref, Name, Foreign, s
 use Rattle.def_machine.specs.State.{Stop, Astray, Vat, is_in}
 use Rattle.def_machine.specs.Refs.{follow}
 use Rattle.def_run.specs.World as machine
-use Rattle.def_run.specs.World.{Program, Entry, NoticeLink, World, Goes, Stopped, begins, names, open_from, run, steps_from}
+use Rattle.def_run.specs.World.{Program, Entry, NoticeLink, World, Goes, Stopped, begins, names, open_from, run, step, steps_from}
 use Rattle.def_run.specs.Text.{text, history_of}
 use Rattle.def_event.specs.Order.{JudgesOrder}
 use Rattle.def_event.specs.Uses.{JudgesUses}
 use Rattle.ev_trace.specs.Reading as trace
-use Rattle.law_machine.specs.Machine.Breaks.{settled_value, SeveredStays}
+use Rattle.law_machine.specs.Machine.Breaks.{settled_value, SeveredStays, NothingOf, HostedBreak}
 use Rattle.law_machine.specs.Run.Runs.{EachVat}
 use Rattle.law_machine.specs.Halting.Halted.{LeavesOf}
+use Rattle.law_machine.specs.Run.Entries.{EntryDoes}
 use Rattle.law_reference.specs.Gift.Gifts.{SameGifts}
 use Rattle.law_reference.specs.Gift.Unopened.{UnopenedRest, UnopenedBreak}
 use Rattle.law_fate.specs.Fates.Fate.{fates, sent}
@@ -66,6 +67,14 @@ StopsAsItCame command input = (script : machine.Script) → IsToRun command inpu
 -- After some entries it comes to the first world, and after some more, or none, to the later one.
 abbrev pub GoesOn : machine.Script → World → World → Type 0
 GoesOn script first later = (es fs rest : List Entry) × (script.schedule ≡ es ++ fs ++ rest) × LeadTo script es first × (steps_from script fs (1 + length es) first ≡ Goes later)
+
+-- ---- entries
+
+-- Each entry of the schedule does what is there to do, in the world to which the entries before it led, unless it stops: it is idle exactly where nothing is there. A turn takes the first message of its vat's queue, whose other messages stay in front of what comes to be queued;
+-- a carry brings the first note of its link; and a cut and a notice are told.
+abbrev pub EntriesDoWhatIsThere : Option Command → List ℕ → Type 0
+EntriesDoWhatIsThere command input = (script : machine.Script) → IsToRun command input script → (es rest : List Entry) (entry : Entry) (first next : World) → script.schedule ≡ es ++ entry ∷ rest → LeadTo script es first
+    → step script entry (1 + length es) first ≡ Goes next → EntryDoes (1 + length es) entry first next
 
 -- ---- messages
 
@@ -126,15 +135,17 @@ pub record StaysSevered (script : machine.Script) (v : ℕ) (s t : Vat Name) : T
   -- and each gift that was not opened did not settle, or it is broken
   pub unopened : UnopenedRest script v s
 
--- Where the first notice of vat w at vat v stands between two worlds, each gift of provider w that was not opened by then is broken in the later one.
-abbrev pub NoticesBreakUnopened : machine.Script → Type 0
-NoticesBreakUnopened script = (first later : World) (es fs rest : List Entry) (v w : ℕ) → script.schedule ≡ es ++ (NoticeLink v w ∷ fs) ++ rest → LeadTo script es first → steps_from script (NoticeLink v w ∷ fs) (1 + length es) first ≡ Goes later
-    → (s : Vat Name) → slice_get first.vats v ≡ Some s → is_in w s.noticed ≡ false → (t : Vat Name) × (slice_get later.vats v ≡ Some t) × UnopenedBreak script v w s t
+-- Where a notice of vat w at vat v stands between two worlds, in the later one that cut is noticed, and nothing that v follows has host w. Where it is the first such notice, each name of host w that v knew by then,
+-- and that neither had settled nor was viewed, is broken, and each gift of provider w that was not opened by then.
+abbrev pub NoticesSever : machine.Script → Type 0
+NoticesSever script = (first later : World) (es fs rest : List Entry) (v w : ℕ) → script.schedule ≡ es ++ (NoticeLink v w ∷ fs) ++ rest → LeadTo script es first → steps_from script (NoticeLink v w ∷ fs) (1 + length es) first ≡ Goes later
+    → (s : Vat Name) → slice_get first.vats v ≡ Some s → (t : Vat Name) × (slice_get later.vats v ≡ Some t) × (is_in w t.noticed ≡ true) × NothingOf (names script v) w t
+    × (is_in w s.noticed ≡ false → HostedBreak (names script v) w s t × UnopenedBreak script v w s t)
 
--- From each world to which entries lead on, what is broken or severed at a vat stays so; and what a notice breaks of gifts that were not opened is broken for good.
+-- From each world to which entries lead on, what is broken or severed at a vat stays so; and what a notice severs and breaks is severed and broken for good.
 abbrev pub SeveredStaysBroken : Option Command → List ℕ → Type 0
 SeveredStaysBroken command input = (script : machine.Script) → IsToRun command input script → ((first later : World) → GoesOn script first later
-    → EachVat (λ v s t. StaysSevered script v s t) first later) × NoticesBreakUnopened script
+    → EachVat (λ v s t. StaysSevered script v s t) first later) × NoticesSever script
 
 -- ---- summaries
 
@@ -153,3 +164,9 @@ SumsUp result command input = (n : ℕ) → command ≡ Some (Sum n) → IsOfSum
 -- The steps of its run are told by the number.
 abbrev pub StepsAreKnown : Type 0
 StepsAreKnown = (n : ℕ) (trees : List (List Node)) → steps_of (machine_script greatest_depth (tree_at trees) (generated_script n)) ≡ 28 * n + 93
+
+-- ---- of every call
+
+-- whatever is asked for, of whatever bytes
+abbrev pub InEveryCall : (Option Command → List ℕ → Type 0) → Type 0
+InEveryCall P = (command : Option Command) (input : List ℕ) → P command input

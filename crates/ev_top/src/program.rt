@@ -11,7 +11,7 @@ ghost use Rattle.ev_top.specs.Causes.{Breaks, ComesWhere, Follows, HasFault, Has
 ghost use Rattle.ev_top.specs.RunDue.{MayRun, debt_of};
 ghost use Rattle.ev_io.specs.Paying.{IsOfRead, IsOfWhole, Reads};
 ghost use Rattle.ev_top.specs.Due.{IsDue, IsReading, Pays, ReadsFor};
-ghost use Rattle.ev_top.specs.Headline.{MessagesHaveOneFate, RunsHoldOrder, RunsHoldUses, SeveredStaysBroken, StampedReachFrozenAlone, StopsAsItCame, SumsUp, UsesAreConnected};
+ghost use Rattle.ev_top.specs.Headline.{EntriesDoWhatIsThere, MessagesHaveOneFate, RunsHoldOrder, RunsHoldUses, SeveredStaysBroken, StampedReachFrozenAlone, StopsAsItCame, SumsUp, UsesAreConnected};
 ghost use Rattle.ev_top.specs.Programs.{refusal};
 
 use crate::command::{Command, command_of, reads};
@@ -163,6 +163,8 @@ pub fn top<S: Source, K: Sink>(alloc: Global, words: &Seq<Str>, src: &mut S, out
     ensures sum { IfSome (S.left src.old) (λ input. SumsUp result (command_of words.now) input) }
     // In the history that is due each message is sent once at most, carried twice at most, and has one fate.
     ensures fates { IfSome (S.left src.old) (λ input. MessagesHaveOneFate (command_of words.now) input) }
+    // Each entry of its schedule is idle exactly where nothing is there, and else does what is.
+    ensures idle { IfSome (S.left src.old) (λ input. EntriesDoWhatIsThere (command_of words.now) input) }
     // In each world of its run what DeepFrozen stamped reaches no assignable state.
     ensures frozen { IfSome (S.left src.old) (λ input. StampedReachFrozenAlone (command_of words.now) input) }
     // In that run an object uses a reference only by initial conditions, endowment, parenthood or introduction.
@@ -171,7 +173,7 @@ pub fn top<S: Source, K: Sink>(alloc: Global, words: &Seq<Str>, src: &mut S, out
     ensures uses { IfSome (S.left src.old) (λ input. RunsHoldUses (command_of words.now) input) }
     // In that run messages are taken in the order in which they were sent, also on a reference that was handed on.
     ensures order { IfSome (S.left src.old) (λ input. RunsHoldOrder (command_of words.now) input) }
-    // In that run a reference that is broken or severed by a partition stays so.
+    // In that run a notice severs, and a reference that is broken or severed by a partition stays so.
     ensures severed { IfSome (S.left src.old) (λ input. SeveredStaysBroken (command_of words.now) input) }
     // Where that run stops, what is left of it is what it came to before the step that stopped.
     ensures halted { IfSome (S.left src.old) (λ input. StopsAsItCame (command_of words.now) input) }

@@ -17,36 +17,40 @@ abbrev pub only_if : Bool → List ℕ → List (List ℕ)
 only_if true run = run ∷ []
 only_if false run = []
 
--- the runs of small letters and digits outside quotes that stand behind `@` or before such a mark, in what is left of a word;
--- so much of a run was read, and it stands behind `@` or not
-unfoldable pub scan : Quote → Bool → List ℕ → List ℕ → List (List ℕ)
-scan quote rooted run [] = only_if rooted run
-scan quote rooted run (b ∷ bs) =
-    if is_outside quote && is_lower_or_digit b then scan quote rooted (run ++ b ∷ []) bs
-    else only_if (is_outside quote && (rooted || is_mark b)) run ++ scan (behind_quote quote b) (is_outside quote && b == 64) [] bs
+-- a byte behind which a run of small letters and digits outside quotes names a vat: one behind `@` does, one before a mark,
+-- and one between `^` and `:`
+abbrev pub ends_name : Bool → Bool → ℕ → Bool
+ends_name rooted provides b = (provides && b == 58) || (rooted || is_mark b)
+
+-- the names of vats in what is left of a word; so much of a run was read, and it stands behind `@` or not, and behind `^` or not
+unfoldable pub scan : Quote → Bool → Bool → List ℕ → List ℕ → List (List ℕ)
+scan quote rooted provides run [] = only_if rooted run
+scan quote rooted provides run (b ∷ bs) =
+    if is_outside quote && is_lower_or_digit b then scan quote rooted provides (run ++ b ∷ []) bs
+    else only_if (is_outside quote && ends_name rooted provides b) run ++ scan (behind_quote quote b) (is_outside quote && b == 64) (is_outside quote && b == 94) [] bs
 
 -- the names in words that stand for values, and in words that are names themselves
 abbrev pub scanned : Words → List (List ℕ)
-scanned words = flat_map (scan Outside false []) words
+scanned words = flat_map (scan Outside false false []) words
 
 abbrev pub bare : Words → List (List ℕ)
-bare words = flat_map (scan Outside true []) words
+bare words = flat_map (scan Outside true false []) words
 
 abbrev pub name_then_vats : Words → List (List ℕ)
 name_then_vats [] = []
-name_then_vats (n ∷ rest) = scan Outside false [] n ++ bare rest
+name_then_vats (n ∷ rest) = scan Outside false false [] n ++ bare rest
 
 abbrev pub note_vats : Words → List (List ℕ)
 note_vats [] = []
 note_vats (kind ∷ rest) = if bytes_eq kind (codes "elsewhere") || bytes_eq kind (codes "ask") then name_then_vats rest else scanned rest
 
 abbrev pub pair_vats : Words → List (List ℕ)
-pair_vats (v ∷ w ∷ rest) = scan Outside true [] v ++ (scan Outside true [] w ++ note_vats rest)
+pair_vats (v ∷ w ∷ rest) = scan Outside true false [] v ++ (scan Outside true false [] w ++ note_vats rest)
 pair_vats words = bare words
 
 abbrev pub host_vats : Words → List (List ℕ)
 host_vats [] = []
-host_vats (v ∷ rest) = scan Outside true [] v ++ scanned rest
+host_vats (v ∷ rest) = scan Outside true false [] v ++ scanned rest
 
 abbrev pub left_vats : Words → List (List ℕ)
 left_vats [] = []

@@ -1,6 +1,6 @@
 -- What the text of a run says, and the first rule that a text breaks which is none: 41 where the bytes are not UTF-8; 42 where
 -- a line is none, or the text does not end with `end` or the line of a stop, or more than 16 vats are named; 43 where a line
--- says that a frame was put on a link by hand.
+-- says that a frame was put on a link by hand, or that one was malformed.
 use Rattle.std.specs.Prelude.{ℕ, ◌-◌, ◌==◌, Bool, true, false, ◌&&◌, ◌||◌, if◌then◌else◌, List, [], ◌∷◌, length, map, take, codes, slice_get, is_some, Some, None, Result, Ok, Err}
 use Rattle.std.specs.declared.option.Option.{Option}
 use Rattle.std.specs.List.{list_all}

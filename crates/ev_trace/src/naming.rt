@@ -5,7 +5,7 @@ ghost use Rattle.ev_trace_words.specs.Words.{is_outside};
 ghost use Rattle.std.specs.List.{list_all};
 ghost use Rattle.ev_script.specs.Vats.{begins_lower, is_lower_or_digit, is_vat_name};
 ghost use Rattle.ev_trace_words.specs.declared.words.Quote.TheVariants.{Outside};
-ghost use Rattle.ev_trace.specs.Naming.{bare, entry_vats, host_vats, is_mark, left_vats, line_vats, name_then_vats, names_in, note_vats, only_if, pair_vats, scan, scanned, with_name, with_names};
+ghost use Rattle.ev_trace.specs.Naming.{bare, ends_name, entry_vats, host_vats, is_mark, left_vats, line_vats, name_then_vats, names_in, note_vats, only_if, pair_vats, scan, scanned, with_name, with_names};
 
 use ev_base::{Memory, Seq, Str, safe_value};
 use ev_text::is_keyword;
@@ -83,11 +83,13 @@ fn add_only_if(alloc: Global, names: &mut Seq<Str>, is_name: bool, run: &str) ->
     }
 }
 
-/// What was read of a word: where the next byte stands, whether the run before it stands behind `@`, and that run.
+/// What was read of a word: where the next byte stands, whether the run before it stands behind `@`, whether it stands behind
+/// `^`, as the provider of a gift does, and that run.
 #[derive(Drop)]
 struct Scanner {
     quote: Quote,
     rooted: bool,
+    provides: bool,
     run: String,
 }
 
@@ -99,10 +101,10 @@ fn is_of_run(quote: Quote, byte: u8) -> bool
 }
 
 /// Whether a run that this byte ends is the name of a vat.
-fn ends_name(quote: Quote, rooted: bool, byte: u8) -> bool
-    ensures { result ≡ (is_outside quote && (rooted || is_mark byte)) }
+fn ends_name(quote: Quote, rooted: bool, provides: bool, byte: u8) -> bool
+    ensures { result ≡ (is_outside quote && ends_name rooted provides byte) }
 {
-    is_outside(quote) && (rooted || is_mark(byte))
+    is_outside(quote) && (provides && byte == b':' || (rooted || is_mark(byte)))
 }
 
 /// Whether the name of a vat stands behind this byte.
@@ -112,32 +114,46 @@ fn is_root(quote: Quote, byte: u8) -> bool
     is_outside(quote) && byte == b'@'
 }
 
+/// Whether the number or the provider of a gift stands behind this byte.
+fn is_gift(quote: Quote, byte: u8) -> bool
+    ensures { result ≡ (is_outside quote && byte == 94) }
+{
+    is_outside(quote) && byte == b'^'
+}
+
 /// Reads a byte of a run.
 fn with_byte(at: Scanner, byte: u8) -> Result<Scanner, Memory>
     requires { (is_outside at.quote && is_lower_or_digit byte) ≡ true }
     ensures { IfOk result (λ next. (names : List (List ℕ)) (bs : List ℕ)
-        → with_names names (scan next.quote next.rooted (string_bytes next.run) bs) ≡ with_names names (scan at.quote at.rooted (string_bytes at.run) (byte ∷ bs))) }
+        → with_names names (scan next.quote next.rooted next.provides (string_bytes next.run) bs) ≡ with_names names (scan at.quote at.rooted at.provides (string_bytes at.run) (byte ∷ bs))) }
 {
     let Scanner {
         quote,
         rooted,
+        provides,
         mut run,
     } = at;
     run.push(char::from(byte))?;
-    Ok(Scanner { quote, rooted, run })
+    Ok(Scanner {
+        quote,
+        rooted,
+        provides,
+        run,
+    })
 }
 
 /// Reads a byte that ends a run, and adds the run where it is a name.
 fn ended_by(alloc: Global, names: &mut Seq<Str>, at: Scanner, byte: u8) -> Result<Scanner, Memory>
     requires { (is_outside at.quote && is_lower_or_digit byte) ≡ false }
     ensures { IfOk result (λ next. (bs : List ℕ)
-        → with_names names.new (scan next.quote next.rooted (string_bytes next.run) bs) ≡ with_names names.old (scan at.quote at.rooted (string_bytes at.run) (byte ∷ bs))) }
+        → with_names names.new (scan next.quote next.rooted next.provides (string_bytes next.run) bs) ≡ with_names names.old (scan at.quote at.rooted at.provides (string_bytes at.run) (byte ∷ bs))) }
 {
-    let is_name = ends_name(at.quote, at.rooted, byte);
+    let is_name = ends_name(at.quote, at.rooted, at.provides, byte);
     add_only_if(alloc, names, is_name, at.run.as_str())?;
     Ok(Scanner {
         quote: behind_quote(at.quote, char::from(byte)),
         rooted: is_root(at.quote, byte),
+        provides: is_gift(at.quote, byte),
         run: String::new(alloc),
     })
 }
@@ -145,7 +161,7 @@ fn ended_by(alloc: Global, names: &mut Seq<Str>, at: Scanner, byte: u8) -> Resul
 /// Reads a byte of a word.
 fn scan_byte(alloc: Global, names: &mut Seq<Str>, at: Scanner, byte: u8) -> Result<Scanner, Memory>
     ensures { IfOk result (λ next. (bs : List ℕ)
-        → with_names names.new (scan next.quote next.rooted (string_bytes next.run) bs) ≡ with_names names.old (scan at.quote at.rooted (string_bytes at.run) (byte ∷ bs))) }
+        → with_names names.new (scan next.quote next.rooted next.provides (string_bytes next.run) bs) ≡ with_names names.old (scan at.quote at.rooted at.provides (string_bytes at.run) (byte ∷ bs))) }
 {
     if is_of_run(at.quote, byte) {
         with_byte(at, byte)
@@ -156,11 +172,12 @@ fn scan_byte(alloc: Global, names: &mut Seq<Str>, at: Scanner, byte: u8) -> Resu
 
 /// Adds the names of vats in a word. `rooted` says that the word begins with one.
 fn add_scanned(alloc: Global, names: &mut Seq<Str>, rooted: bool, word: &str) -> Result<(), Memory>
-    ensures { OnOk result (names.new ≡ with_names names.old (scan Outside rooted [] word.now)) }
+    ensures { OnOk result (names.new ≡ with_names names.old (scan Outside rooted false [] word.now)) }
 {
     let mut at = Scanner {
         quote: Quote::Outside,
         rooted,
+        provides: false,
         run: String::new(alloc),
     };
     for byte in word.as_bytes() {

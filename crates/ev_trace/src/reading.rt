@@ -207,7 +207,8 @@ fn read_text(alloc: Global, text: &str) -> Result<Trace, ScriptFault>
 
 /// Reads the text of a run. `Rule(41)` comes exactly where the bytes are not UTF-8; else `Rule(42)` exactly where a line is
 /// none, or the text does not end with `end` or the line of a stop and its line feed, or more than 16 vats are named; else
-/// `Rule(43)` exactly where a line says that a frame was put on a link by hand. `Memory` comes only for want of memory.
+/// `Rule(43)` exactly where a line says that a frame was put on a link by hand, or that one was malformed. `Memory` comes only
+/// for want of memory.
 pub fn read_trace(alloc: Global, bytes: &[u8]) -> Result<Trace, ScriptFault>
     ensures { Reads result (read bytes.now) }
 {

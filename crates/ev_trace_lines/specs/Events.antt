@@ -1,5 +1,5 @@
--- What a line of a run says, by its words. Rule 42 fails where the words are no line, and rule 43 where they are one of a
--- run in which frames were put on links by hand.
+-- What a line of a run says, by its words. Rule 42 fails where the words are no line, and rule 43 where they say that a frame
+-- was put on a link by hand, or that one was malformed.
 use Rattle.std.specs.Prelude.{ℕ, ◌+◌, ◌==◌, nat_lt, nat_le, Bool, true, false, not, ◌&&◌, ◌||◌, if◌then◌else◌, List, [], ◌∷◌, take, drop, length, position, unwrap_or, codes, Some, None, option_map, Result, Ok, Err}
 use Rattle.std.specs.declared.option.Option.{Option}
 use Rattle.std.specs.List.{list_all}
@@ -13,7 +13,8 @@ use Rattle.def_event.specs.declared.note.ShownNote.TheVariants.{Deliver, Deliver
 use Rattle.def_event.specs.declared.event.Addressed.{Addressed}
 use Rattle.def_event.specs.declared.event.MadeObject.{MadeObject}
 use Rattle.def_event.specs.declared.event.Event.{Event}
-use Rattle.def_event.specs.declared.event.Event.TheVariants.{Open, Turn, Idle, Carry, Cut, Notice, Frame, Take, Call, Back, Thrown, Gone, Got, Slot, Read, Wrote, List as ListMade, Arrived, Ejector, Audition, Promise, Made, Send, SendOnly, When, Done, Threw, Settle, Wait, View, LostCut, LostBroken, LeftQueue, LeftHeld, LeftWait, LeftLink, End}
+use Rattle.def_event.specs.declared.event.Event.TheVariants.{Open, Turn, Idle, Carry, Cut, Notice, Frame, Take, Call, Back, Thrown, Gone, Got, Slot, Read, Wrote, List as ListMade, Arrived, Ejector, Audition, Promise, Made, Send, SendOnly, When, Done, Threw, Settle, Wait, View, LostCut, LostBroken, LeftQueue, LeftHeld, LeftWait, LeftLink, End, Raw}
+use Rattle.def_event.specs.declared.raw.RawLine.TheVariants.{Bytes, LeftBytes}
 use Rattle.hex.specs.Hex.{decode_of}
 use Rattle.ev_text.specs.Lines.{is_lower_digit}
 use Rattle.ev_script.specs.Script.{rule, ◌>>=◌}
@@ -111,22 +112,15 @@ injection word =
     if bytes_eq word (codes "cut") then Err 43
     else bytes_of word >>= (λ bytes. if nat_lt 4096 (length bytes) then Err 42 else Err 43)
 
--- a note that no vat makes: a frame that is malformed at this place, or one that goes to a hostile vat
-abbrev pub strange_of : List ℕ → List ℕ → Result ShownNote ℕ
-strange_of kind what =
-    if bytes_eq kind (codes "malformed") then rule 42 (count what) >>= (λ place. Err 43)
-    else if bytes_eq kind (codes "bytes") then bytes_of what >>= (λ bytes. Err 43)
-    else Err 42
+-- a frame that was malformed at this place
+abbrev pub malformed : Words → Result Event ℕ
+malformed (place ∷ []) = rule 42 (count place) >>= (λ n. Err 43)
+malformed _ = Err 42
 
-abbrev pub strange_note : Words → Result ShownNote ℕ
-strange_note words = do
-  w ← rule 42 (two_words words)
-  strange_of w.0 w.1
-
--- one that is malformed is never left on a link
-abbrev pub is_strange : Bool → Words → Bool
-is_strange left [] = false
-is_strange left (kind ∷ rest) = bytes_eq kind (codes "bytes") || (not left && bytes_eq kind (codes "malformed"))
+-- the bytes of a frame that no vat judged
+abbrev pub raw_bytes : Words → Result (List ℕ) ℕ
+raw_bytes (word ∷ []) = bytes_of word
+raw_bytes _ = Err 42
 
 abbrev pub frame : Words → Result Event ℕ
 frame (word ∷ []) = do
@@ -208,10 +202,6 @@ module _ (names : List (List ℕ)) where
       else if bytes_eq kind (codes "ask") then asking rest
       else if bytes_eq kind (codes "shorten") then shortening rest
       else Err 42
-
-  abbrev pub note : Words → Result ShownNote ℕ
-  note [] = Err 42
-  note (kind ∷ rest) = note_of kind rest
 
   -- an object or a promise, and a value
   abbrev pub name_and_value : Words → Result (Name × Shown) ℕ
@@ -374,24 +364,35 @@ module _ (names : List (List ℕ)) where
     to ← vat w.1.0
     injection w.1.1
 
-  -- a note that is carried, or left on a link
-  abbrev pub any_note : Bool → Words → Result ShownNote ℕ
-  any_note left words = if is_strange left words then strange_note words else note words
+  -- what is carried from vat v to vat w: a frame that is malformed or goes to a hostile vat, or a note
+  abbrev pub carried_of : ℕ → ℕ → ℕ → List ℕ → Words → Result Event ℕ
+  carried_of k v w kind rest =
+      if bytes_eq kind (codes "bytes") then raw_bytes rest >>= (λ bytes. Ok (Raw (Bytes k v w bytes)))
+      else if bytes_eq kind (codes "malformed") then malformed rest
+      else note_of kind rest >>= (λ n. Ok (Carry k v w n))
 
-  -- the two vats of a link, and a note that is carried or left on it
-  abbrev pub on_link : Bool → Words → Result (ℕ × ℕ × ShownNote) ℕ
-  on_link left (v ∷ w ∷ rest) = do
+  abbrev pub carried : ℕ → Words → Result Event ℕ
+  carried k (v ∷ w ∷ kind ∷ rest) = do
     from ← vat v
     to ← vat w
-    n ← any_note left rest
-    Ok (from, to, n)
-  on_link left _ = Err 42
+    carried_of k from to kind rest
+  carried k _ = Err 42
+
+  -- what is left on the link from vat v to vat w: a frame that a hostile vat put, or a note
+  abbrev pub left_on : ℕ → ℕ → List ℕ → Words → Result Event ℕ
+  left_on v w kind rest =
+      if bytes_eq kind (codes "bytes") then raw_bytes rest >>= (λ bytes. Ok (Raw (LeftBytes v w bytes)))
+      else note_of kind rest >>= (λ n. Ok (LeftLink v w n))
+
+  abbrev pub left_link : Words → Result Event ℕ
+  left_link (v ∷ w ∷ kind ∷ rest) = do
+    from ← vat v
+    to ← vat w
+    left_on from to kind rest
+  left_link _ = Err 42
 
   abbrev pub turn : ℕ → Words → Result Event ℕ
   turn k words = one_vat words >>= (λ v. Ok (Turn k v))
-
-  abbrev pub carried : ℕ → Words → Result Event ℕ
-  carried k words = on_link false words >>= (λ n. Ok (Carry k n.0 n.1 n.2))
 
   abbrev pub cut : ℕ → Words → Result Event ℕ
   cut k words = two_vats words >>= (λ p. Ok (Cut k p.0 p.1))
@@ -443,9 +444,6 @@ module _ (names : List (List ℕ)) where
     awaited ← value names w.1.0
     id ← rule 42 (message names w.1.1)
     Ok (LeftWait host awaited id)
-
-  abbrev pub left_link : Words → Result Event ℕ
-  left_link words = on_link true words >>= (λ n. Ok (LeftLink n.0 n.1 n.2))
 
   abbrev pub left_of : List ℕ → Words → Result Event ℕ
   left_of word rest =

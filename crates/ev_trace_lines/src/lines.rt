@@ -4,13 +4,13 @@ ghost use Rattle.std.specs.Prelude.{◌≡◌, ◌≤◌, length};
 ghost use Rattle.std.specs.List.{list_all};
 ghost use Rattle.ev_text.specs.Lines.{is_lower_digit};
 ghost use Rattle.ev_script.specs.Script.{Reads};
-ghost use Rattle.ev_trace_lines.specs.Events.{any_note, arrived, bytes_of, carried, cut, ended, entry, event_of, frame, idle, inject, injection, is_strange, left, left_held, left_link, left_queue, left_wait, lost, noticed, on_link, one_vat, opened, other_line, settled, strange_note, turn, two_vats, viewed, waiting};
+ghost use Rattle.ev_trace_lines.specs.Events.{arrived, bytes_of, carried, carried_of, cut, ended, entry, event_of, frame, idle, inject, injection, left, left_held, left_link, left_on, left_queue, left_wait, lost, malformed, noticed, one_vat, opened, other_line, raw_bytes, settled, turn, two_vats, viewed, waiting};
 
 use crate::acts::{act, list_and_members, name_and_value};
-use crate::notes::{message, name, note, three_words, two_names, two_words, vat};
+use crate::notes::{message, name, note_of, three_words, two_names, two_words, vat};
 use def_event::boxed::Boxed;
 use def_event::event::Event;
-use def_event::note::ShownNote;
+use def_event::raw::RawLine;
 use ev_base::{Seq, Str, VatId};
 use ev_script::ScriptFault;
 use ev_trace_words::parts::{activation, count};
@@ -94,69 +94,98 @@ fn inject(alloc: Global, names: &[Str], words: &[Str]) -> Result<Event, ScriptFa
     }
 }
 
-/// A note that no vat makes: a frame that is malformed, or that goes to a hostile vat.
-fn strange_note(alloc: Global, words: &[Str]) -> Result<ShownNote, ScriptFault>
-    ensures { Reads result (strange_note words.now) }
+/// A frame that was malformed at a place.
+fn malformed(words: &[Str]) -> Result<Event, ScriptFault>
+    ensures { Reads result (malformed words.now) }
 {
-    let Some((kind, what)) = two_words(words) else {
-        return Err(ScriptFault::Rule(42));
-    };
-    match kind {
-        "malformed" => match count(what) {
+    match words {
+        [place] => match count(place.as_str()) {
             Some(_) => Err(ScriptFault::Rule(43)),
             None => Err(ScriptFault::Rule(42)),
         },
+        _ => Err(ScriptFault::Rule(42)),
+    }
+}
+
+/// The bytes of a frame that no vat judged.
+fn raw_bytes(alloc: Global, words: &[Str]) -> Result<Seq<u8>, ScriptFault>
+    ensures { Reads result (raw_bytes words.now) }
+{
+    match words {
+        [word] => bytes_of(alloc, word.as_str()),
+        _ => Err(ScriptFault::Rule(42)),
+    }
+}
+
+/// What is carried from one vat to another.
+fn carried_of(
+    alloc: Global,
+    names: &[Str],
+    k: u64,
+    link: (VatId, VatId),
+    kind: &str,
+    rest: &[Str],
+) -> Result<Event, ScriptFault>
+    requires { length names.now ≤ 16 }
+    ensures { Reads result (carried_of names.now k link.0 link.1 kind.now rest.now) }
+{
+    let (from, to) = link;
+    match kind {
         "bytes" => {
-            let _bytes = bytes_of(alloc, what)?;
-            Err(ScriptFault::Rule(43))
+            let bytes = raw_bytes(alloc, rest)?;
+            Ok(Event::Raw(RawLine::Bytes(k, from, to, bytes)))
+        }
+        "malformed" => malformed(rest),
+        _ => {
+            let note = note_of(alloc, names, kind, rest)?;
+            Ok(Event::Carry(k, from, to, Boxed::new(alloc, note)?))
+        }
+    }
+}
+
+fn carried(alloc: Global, names: &[Str], k: u64, words: &[Str]) -> Result<Event, ScriptFault>
+    requires { length names.now ≤ 16 }
+    ensures { Reads result (carried names.now k words.now) }
+{
+    match words {
+        [v, w, kind, rest @ ..] => {
+            let from = vat(names, v.as_str())?;
+            let to = vat(names, w.as_str())?;
+            carried_of(alloc, names, k, (from, to), kind.as_str(), rest)
         }
         _ => Err(ScriptFault::Rule(42)),
     }
 }
 
-/// Whether no vat makes this note. One that is malformed is never left on a link.
-fn is_strange(words: &[Str], left: bool) -> bool
-    ensures { result ≡ is_strange left words.now }
-{
-    match words {
-        [] => false,
-        [kind, ..] => kind.as_str() == "bytes" || !left && kind.as_str() == "malformed",
-    }
-}
-
-/// A note that is carried, or left on a link.
-fn any_note(
+/// What is left on the link from one vat to another.
+fn left_on(
     alloc: Global,
     names: &[Str],
-    words: &[Str],
-    left: bool,
-) -> Result<ShownNote, ScriptFault>
+    link: (VatId, VatId),
+    kind: &str,
+    rest: &[Str],
+) -> Result<Event, ScriptFault>
     requires { length names.now ≤ 16 }
-    ensures { Reads result (any_note names.now left words.now) }
+    ensures { Reads result (left_on names.now link.0 link.1 kind.now rest.now) }
 {
-    if is_strange(words, left) {
-        strange_note(alloc, words)
-    } else {
-        note(alloc, names, words)
+    let (from, to) = link;
+    if kind == "bytes" {
+        let bytes = raw_bytes(alloc, rest)?;
+        return Ok(Event::Raw(RawLine::LeftBytes(from, to, bytes)));
     }
+    let note = note_of(alloc, names, kind, rest)?;
+    Ok(Event::LeftLink(from, to, Boxed::new(alloc, note)?))
 }
 
-/// The two vats of a link, and a note that is carried or left on it.
-fn on_link(
-    alloc: Global,
-    names: &[Str],
-    words: &[Str],
-    left: bool,
-) -> Result<(VatId, VatId, Boxed<ShownNote>), ScriptFault>
+fn left_link(alloc: Global, names: &[Str], words: &[Str]) -> Result<Event, ScriptFault>
     requires { length names.now ≤ 16 }
-    ensures { Reads result (on_link names.now left words.now) }
+    ensures { Reads result (left_link names.now words.now) }
 {
     match words {
-        [v, w, rest @ ..] => {
+        [v, w, kind, rest @ ..] => {
             let from = vat(names, v.as_str())?;
             let to = vat(names, w.as_str())?;
-            let found = any_note(alloc, names, rest, left)?;
-            Ok((from, to, Boxed::new(alloc, found)?))
+            left_on(alloc, names, (from, to), kind.as_str(), rest)
         }
         _ => Err(ScriptFault::Rule(42)),
     }
@@ -176,14 +205,6 @@ fn idle(k: u64, words: &[Str]) -> Result<Event, ScriptFault>
         [] => Ok(Event::Idle(k)),
         _ => Err(ScriptFault::Rule(42)),
     }
-}
-
-fn carried(alloc: Global, names: &[Str], k: u64, words: &[Str]) -> Result<Event, ScriptFault>
-    requires { length names.now ≤ 16 }
-    ensures { Reads result (carried names.now k words.now) }
-{
-    let (from, to, note) = on_link(alloc, names, words, false)?;
-    Ok(Event::Carry(k, from, to, note))
 }
 
 fn cut(names: &[Str], k: u64, words: &[Str]) -> Result<Event, ScriptFault>
@@ -279,14 +300,6 @@ fn left_wait(alloc: Global, names: &[Str], words: &[Str]) -> Result<Event, Scrip
     }
 }
 
-fn left_link(alloc: Global, names: &[Str], words: &[Str]) -> Result<Event, ScriptFault>
-    requires { length names.now ≤ 16 }
-    ensures { Reads result (left_link names.now words.now) }
-{
-    let (from, to, note) = on_link(alloc, names, words, true)?;
-    Ok(Event::LeftLink(from, to, note))
-}
-
 /// What is left at the end of a run.
 fn left(alloc: Global, names: &[Str], words: &[Str]) -> Result<Event, ScriptFault>
     requires { length names.now ≤ 16 }
@@ -380,8 +393,8 @@ fn other_line(alloc: Global, names: &[Str], word: &str, rest: &[Str]) -> Result<
     }
 }
 
-/// What a line says, by its words. Rule 42 fails where they are no line, and rule 43 where they are one of a run in which
-/// frames were put on links by hand.
+/// What a line says, by its words. Rule 42 fails where they are no line, and rule 43 where they say that a frame was put on a
+/// link by hand, or that one was malformed.
 pub fn event_of(alloc: Global, names: &[Str], words: &[Str]) -> Result<Event, ScriptFault>
     requires { length names.now ≤ 16 }
     ensures { Reads result (event_of names.now words.now) }

@@ -4,7 +4,7 @@ ghost use Rattle.std.specs.Prelude.{◌≡◌, ◌≤◌, length, option_map};
 ghost use Rattle.ev_script.specs.Script.{Reads, rule};
 ghost use Rattle.ev_script.specs.Vats.{place_of};
 ghost use Rattle.ev_trace_words.specs.Parts.{message, name};
-ghost use Rattle.ev_trace_lines.specs.Events.{asking, delivering, delivery, delivery_with, elsewhere, name_and_vat, note, opening, settled_note, shortening, three_words, two_names, two_words, vat};
+ghost use Rattle.ev_trace_lines.specs.Events.{asking, delivering, delivery, delivery_with, elsewhere, name_and_vat, note_of, opening, settled_note, shortening, three_words, two_names, two_words, vat};
 
 use def_event::note::ShownNote;
 use def_event::shown::Shown;
@@ -214,15 +214,17 @@ fn shortening(names: &[Str], words: &[Str]) -> Result<ShownNote, ScriptFault>
     Ok(ShownNote::Shorten(subject, gift))
 }
 
-/// The note of these words.
-pub(crate) fn note(alloc: Global, names: &[Str], words: &[Str]) -> Result<ShownNote, ScriptFault>
+/// The note of this kind.
+pub(crate) fn note_of(
+    alloc: Global,
+    names: &[Str],
+    kind: &str,
+    rest: &[Str],
+) -> Result<ShownNote, ScriptFault>
     requires { length names.now ≤ 16 }
-    ensures { Reads result (note names.now words.now) }
+    ensures { Reads result (note_of names.now kind.now rest.now) }
 {
-    let [kind, rest @ ..] = words else {
-        return Err(ScriptFault::Rule(42));
-    };
-    match kind.as_str() {
+    match kind {
         "deliver" => delivering(alloc, names, rest, false),
         "deliveronly" => delivering(alloc, names, rest, true),
         "settled" => settled_note(alloc, names, rest),

@@ -1,5 +1,5 @@
 -- A loop over a list whose items are read one by one.
-use Rattle.std.proofs.Common.{◌≡◌, ◌<◌, ◌≤◌, ◌+◌, ◌++◌, ℕ, suc, List, [], ◌∷◌, Result, Ok, Err, length, get_or, drop, refl, sym, ◌∙◌, ap, append_assoc, append-nil, arith}
+use Rattle.std.proofs.Common.{◌≡◌, ◌<◌, ◌≤◌, ◌+◌, ◌++◌, ℕ, List, [], ◌∷◌, Result, Ok, Err, length, get_or, drop, refl, sym, ◌∙◌, ap, append_assoc, append-nil}
 use Rattle.ev_script.specs.declared.script.ScriptFault.{ScriptFault}
 use Rattle.ev_script.specs.declared.script.ScriptFault.TheVariants.{Rule, Memory}
 use Rattle.ev_script.specs.Script.{Reads, ◌>>=◌}

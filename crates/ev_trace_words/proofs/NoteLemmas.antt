@@ -1,5 +1,5 @@
 -- Values in notes, one height lower.
-use Rattle.std.proofs.Common.{◌≡◌, ◌-◌, ℕ, zero, suc, List, Option, Result, refl, sym, ◌∙◌, ap, subst, arith}
+use Rattle.std.proofs.Common.{◌≡◌, ◌-◌, ℕ, zero, suc, List, Option, Result, refl, ◌∙◌, ap, subst, arith}
 use Rattle.def_event.specs.declared.shown.Shown.{Shown}
 use Rattle.ev_script.specs.declared.script.ScriptFault.{ScriptFault}
 use Rattle.ev_script.specs.Script.{Reads}

@@ -1,5 +1,5 @@
 -- What is printed of numbers and names is read again.
-use Rattle.std.proofs.Common.{◌&&◌, ◌||◌, ◌≡◌, ◌<◌, ◌≤◌, ◌+◌, ◌++◌, ◌^◌, ℕ, zero, suc, Bool, true, false, not, cond, eqb, ltb, leb, List, [], ◌∷◌, Option, Some, None, length, length-append, get_or, take, drop, take_at, drop_at, refl, sym, ◌∙◌, ap, append_assoc, append-nil, inl, inr, arith}
+use Rattle.std.proofs.Common.{◌&&◌, ◌||◌, ◌≡◌, ◌<◌, ◌+◌, ◌++◌, ◌^◌, ℕ, zero, suc, Bool, true, false, not, cond, eqb, ltb, leb, List, [], ◌∷◌, Option, Some, None, length, length-append, get_or, take, drop, take_at, drop_at, refl, sym, ◌∙◌, ap, append_assoc, arith}
 use Rattle.std.specs.Prelude.{decimal, nat_le, is_some, option_map}
 use Rattle.std.specs.Char.{is_ascii_digit}
 use Rattle.std.specs.List.{list_all, list_any, position_or_len}
@@ -12,16 +12,17 @@ use Rattle.std.proofs.lemmas.Slice.Eq.{bytes_eq-Decides}
 use Rattle.std.proofs.lemmas.Str.Parse.{IsNumeralModel, numerals_by_value, tells_all_ascii_digits}
 use Rattle.ev_base.specs.SafeScope.{safe_value}
 use Rattle.ev_base.specs.declared.names.Name.{Name}
-use Rattle.ev_base.specs.declared.names.Name.TheVariants.{Object, Own, Answer, Gift, Root}
+use Rattle.ev_base.specs.declared.names.Name.TheVariants.{Object, Own, Answer, Gift, Root, Claimed}
 use Rattle.ev_base.specs.declared.names.Msg.{Msg}
 use Rattle.def_text.specs.Keywords.{is_keyword}
-use Rattle.def_event.specs.Lines.{vat}
+use Rattle.def_event.specs.Lines.{hex, low_first, vat}
 use Rattle.def_event.specs.Lines as lines
-use Rattle.ev_text.specs.Lines.{begins_with_zero}
+use Rattle.ev_text.specs.Lines.{begins_with_zero, is_lower_digit, spelled_number}
 use Rattle.ev_script.specs.Vats.{begins_lower, differ, is_lower_or_digit, is_vat_name, place_of}
 use Rattle.ev_trace_words.specs.Parts.{count, split_at}
 use Rattle.ev_trace_words.specs.Parts as parts
 use Rattle.ev_trace_words.specs.Laws.{AreNames, FitsName}
+use Rattle.ev_trace_words.proofs.Hexed.{key_again, key_lower}
 
 -- ---- numbers
 
@@ -233,7 +234,7 @@ fourth_is names word x e f g h = rw e (rw f (rw g (rw h refl)))
 
 fifth_is : (names : List (List ℕ)) (word : List ℕ) (x : Name) → parts.numbered names 46 word ≡ None → parts.numbered names 126 word ≡ None → parts.numbered names 94 word ≡ None
     → parts.answer names word ≡ None → parts.root names word ≡ Some x → parts.name names word ≡ Some x
-fifth_is names word x e f g h i = rw e (rw f (rw g (rw h i)))
+fifth_is names word x e f g h i = rw e (rw f (rw g (rw h (rw i refl))))
 
 answer_by : (names : List (List ℕ)) (word front behind : List ℕ) (v : ℕ) (m : Msg) → split_at 63 word ≡ Some (front, behind) → place_of names front ≡ Some v → parts.message names behind ≡ Some m
     → parts.answer names word ≡ Some (Answer v m)
@@ -253,6 +254,80 @@ answer_lacks names host mark m are small o q s =
 
 root_lacks : (names : List (List ℕ)) (v mark : ℕ) → AreNames names → IsOther mark → not (eqb 64 mark) ≡ true → lacks mark (64 ∷ vat names v) ≡ true
 root_lacks names v mark are o d = and_true (not (eqb 64 mark)) (lacks mark (vat names v)) d (lower_lacks mark (vat names v) o.letter (vat_letters names v are.lawful))
+
+-- ---- gifts that a hostile vat claimed
+
+sixth_is : (names : List (List ℕ)) (word : List ℕ) (x : Name) → parts.numbered names 46 word ≡ None → parts.numbered names 126 word ≡ None → parts.numbered names 94 word ≡ None
+    → parts.answer names word ≡ None → parts.root names word ≡ None → parts.claimed names word ≡ Some x → parts.name names word ≡ Some x
+sixth_is names word x e f g h i j = rw e (rw f (rw g (rw h (rw i j))))
+
+root_none : (names : List (List ℕ)) (word : List ℕ) → split_at 64 word ≡ None → parts.root names word ≡ None
+root_none names word s = rw s refl
+
+-- what stands behind the host is no number
+no_digits : (front behind : List ℕ) → all_ascii_digits (front ++ 58 ∷ behind) ≡ false
+no_digits [] behind = refl
+no_digits (b ∷ front) behind = rw (no_digits front behind) (never (is_ascii_digit b))
+  where
+    never : (a : Bool) → (a && false) ≡ false
+    never true = refl
+    never false = refl
+
+no_count : (word : List ℕ) → all_ascii_digits word ≡ false → count word ≡ None
+no_count word e = rw e refl
+
+no_number : (names : List (List ℕ)) (mark : ℕ) (word front behind : List ℕ) (v : ℕ) → split_at mark word ≡ Some (front, behind) → place_of names front ≡ Some v → count behind ≡ None
+    → parts.numbered names mark word ≡ None
+no_number names mark word front behind v s p c = rw s (rw p (rw c refl))
+
+provided_by : (names : List (List ℕ)) (word front behind : List ℕ) (v n : ℕ) → split_at 58 word ≡ Some (front, behind) → place_of names front ≡ Some v → spelled_number behind ≡ Some n
+    → parts.provided names word ≡ Some (v, n)
+provided_by names word front behind v n s p c = rw s (rw p (rw c refl))
+
+claimed_by : (names : List (List ℕ)) (word front behind : List ℕ) (v : ℕ) (by : ℕ × ℕ) → split_at 94 word ≡ Some (front, behind) → place_of names front ≡ Some v → parts.provided names behind ≡ Some by
+    → parts.claimed names word ≡ Some (Claimed v by.0 by.1)
+claimed_by names word front behind v by s p c = rw s (rw p (rw c refl))
+
+letter_too : (b : ℕ) → is_lower_digit b ≡ true → is_lower_or_digit b ≡ true
+letter_too b e = grind (arith, nat_tests)
+
+pub letters_too : (word : List ℕ) → list_all is_lower_digit word ≡ true → list_all is_lower_or_digit word ≡ true
+letters_too [] e = refl
+letters_too (b ∷ word) e =
+    let t = both (is_lower_digit b) (list_all is_lower_digit word) e in and_true (is_lower_or_digit b) (list_all is_lower_or_digit word) (letter_too b t.0) (letters_too word t.1)
+
+-- the digits of a number by its bytes are letters and digits
+pub key_letters : (n : ℕ) → list_all is_lower_or_digit (hex (low_first 16 n)) ≡ true
+key_letters n = letters_too (hex (low_first 16 n)) (key_lower n)
+
+claimed_lacks : (names : List (List ℕ)) (host provider n mark : ℕ) → AreNames names → IsOther mark → not (eqb 94 mark) ≡ true → not (eqb 58 mark) ≡ true
+    → lacks mark (lines.name names (Claimed host provider n)) ≡ true
+claimed_lacks names host provider n mark are o c d =
+    let digits = hex (low_first 16 n) in
+    lacks_append mark (vat names host) (94 ∷ (vat names provider ++ 58 ∷ digits)) (lower_lacks mark (vat names host) o.letter (vat_letters names host are.lawful))
+    (and_true (not (eqb 94 mark)) (lacks mark (vat names provider ++ 58 ∷ digits)) c
+    (lacks_append mark (vat names provider) (58 ∷ digits) (lower_lacks mark (vat names provider) o.letter (vat_letters names provider are.lawful))
+    (and_true (not (eqb 58 mark)) (lacks mark digits) d (lower_lacks mark digits o.letter (key_letters n)))))
+
+at_sign : IsOther 64
+at_sign = record { letter = refl; digit = refl }
+
+claimed_again : (names : List (List ℕ)) (host provider n : ℕ) → AreNames names → FitsName (length names) (Claimed host provider n)
+    → parts.name names (lines.name names (Claimed host provider n)) ≡ Some (Claimed host provider n)
+claimed_again names host provider n are fits =
+    let word = lines.name names (Claimed host provider n) in
+    let digits = hex (low_first 16 n) in
+    let behind = vat names provider ++ 58 ∷ digits in
+    let split = split_again 94 (vat names host) behind (lower_lacks 94 (vat names host) refl (vat_letters names host are.lawful)) in
+    let there = place_again names host are.apart fits.0 in
+    let by = provided_by names behind (vat names provider) digits provider n (split_again 58 (vat names provider) digits (lower_lacks 58 (vat names provider) refl (vat_letters names provider are.lawful)))
+    (place_again names provider are.apart fits.1) (key_again n fits.2) in
+    sixth_is names word (Claimed host provider n) (numbered_none names 46 word (claimed_lacks names host provider n 46 are dot refl refl))
+    (numbered_none names 126 word (claimed_lacks names host provider n 126 are tilde refl refl))
+    (no_number names 94 word (vat names host) behind host split there (no_count behind (no_digits (vat names provider) digits)))
+    (answer_none names word (split_none 63 word (claimed_lacks names host provider n 63 are query refl refl)))
+    (root_none names word (split_none 64 word (claimed_lacks names host provider n 64 are at_sign refl refl)))
+    (claimed_by names word (vat names host) behind host (provider, n) split there by)
 
 -- a name is read as itself
 pub name_again : (names : List (List ℕ)) (x : Name) → AreNames names → FitsName (length names) x → parts.name names (lines.name names x) ≡ Some x
@@ -276,3 +351,4 @@ name_again names (Root v) are fits =
     fifth_is names word (Root v) (numbered_none names 46 word (root_lacks names v 46 are dot refl)) (numbered_none names 126 word (root_lacks names v 126 are tilde refl))
     (numbered_none names 94 word (root_lacks names v 94 are caret refl)) (answer_none names word (split_none 63 word (root_lacks names v 63 are query refl)))
     (root_by names word (vat names v) v (split_again 64 [] (vat names v) refl) (place_again names v are.apart fits))
+name_again names (Claimed host provider n) are fits = claimed_again names host provider n are fits

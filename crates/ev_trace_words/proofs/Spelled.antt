@@ -1,5 +1,5 @@
 -- A word of digits and names that is read is how what it says is printed.
-use Rattle.std.proofs.Common.{◌&&◌, ◌||◌, ◌≡◌, ◌⊎◌, ◌<◌, ◌≤◌, ◌+◌, ◌++◌, ◌^◌, ℕ, zero, suc, Bool, true, false, not, cond, eqb, ltb, leb, List, [], ◌∷◌, Option, Some, None, length, get_or, take, drop, refl, sym, ◌∙◌, ap, subst, inl, inr, arith}
+use Rattle.std.proofs.Common.{◌&&◌, ◌||◌, ◌≡◌, ◌⊎◌, ◌<◌, ◌++◌, ℕ, suc, Bool, true, false, not, cond, eqb, ltb, leb, List, [], ◌∷◌, Option, Some, None, length, get_or, refl, sym, ◌∙◌, ap, inl, inr, arith}
 use Rattle.std.specs.Prelude.{decimal, option_map, option_and_then}
 use Rattle.std.specs.List.{position_or_len, before_first, after_first}
 use Rattle.std.specs.Str.{bytes_eq, all_ascii_digits}
@@ -12,14 +12,15 @@ use Rattle.std.proofs.lemmas.Option.{same_Some, cond_some, option_and_then_some}
 use Rattle.std.proofs.lemmas.Slice.Eq.{bytes_eq-Decides}
 use Rattle.std.proofs.lemmas.Str.Parse.{IsNumeralModel, numerals_by_value, tells_all_ascii_digits}
 use Rattle.ev_base.specs.declared.names.Name.{Name}
-use Rattle.ev_base.specs.declared.names.Name.TheVariants.{Object, Own, Answer, Gift, Root}
+use Rattle.ev_base.specs.declared.names.Name.TheVariants.{Object, Own, Answer, Gift, Root, Claimed}
 use Rattle.ev_base.specs.declared.names.Msg.{Msg}
-use Rattle.def_event.specs.Lines.{vat}
+use Rattle.def_event.specs.Lines.{hex, low_first, vat}
 use Rattle.def_event.specs.Lines as lines
-use Rattle.ev_text.specs.Lines.{begins_with_zero, is_numeral}
+use Rattle.ev_text.specs.Lines.{begins_with_zero, is_numeral, spelled_number}
 use Rattle.ev_script.specs.Vats.{place_of}
 use Rattle.ev_trace_words.specs.Parts.{activation, behind_mark, count, made, otherwise, split_at}
 use Rattle.ev_trace_words.specs.Parts as parts
+use Rattle.ev_trace_words.proofs.Hexed.{key_is}
 
 -- ---- numbers
 
@@ -142,28 +143,70 @@ thing_is names kind mark word x p e =
     let m = made_is names kind (parts.numbered names mark word) x e in
     ap (lines.name names) (sym m.2) ∙ p m.0.0 m.0.1 ∙ numbered_is names mark word m.0 m.1
 
-last_is : (names : List (List ℕ)) (word : List ℕ) (x : Name) → otherwise (parts.answer names word) (parts.root names word) ≡ Some x → lines.name names x ≡ word
-last_is names word x e = elim (one_of (parts.answer names word) (parts.root names word) x e) [
+-- ---- gifts that a hostile vat claimed
+
+provided_parts : (names : List (List ℕ)) (word front behind : List ℕ) (v n : ℕ) → word ≡ front ++ 58 ∷ behind → vat names v ≡ front → hex (low_first 16 n) ≡ behind → vat names v ++ 58 ∷ hex (low_first 16 n) ≡ word
+provided_parts names word front behind v n w f b = ap (λ x. x ++ 58 ∷ hex (low_first 16 n)) f ∙ ap (λ x. front ++ 58 ∷ x) b ∙ sym w
+
+provided_is : (names : List (List ℕ)) (word : List ℕ) (x : ℕ × ℕ) → parts.provided names word ≡ Some x → vat names x.0 ++ 58 ∷ hex (low_first 16 x.1) ≡ word
+provided_is names word x e =
+    option_and_then_some (λ p. option_and_then (λ v. option_and_then (λ n. Some (v, n)) (spelled_number p.1)) (place_of names p.0)) (split_at 58 word) x e (λ p s r.
+    option_and_then_some (λ v. option_and_then (λ n. Some (v, n)) (spelled_number p.1)) (place_of names p.0) x r (λ v q t.
+    option_and_then_some (λ n. Some (v, n)) (spelled_number p.1) x t (λ n c z.
+    ap (λ y. vat names y.0 ++ 58 ∷ hex (low_first 16 y.1)) (sym (same_Some (v, n) x z)) ∙ provided_parts names word p.0 p.1 v n (split_is 58 word p s) (place_is names p.0 v q) (key_is p.1 n c))))
+
+claimed_parts : (names : List (List ℕ)) (word front behind : List ℕ) (host provider n : ℕ) → word ≡ front ++ 94 ∷ behind → vat names host ≡ front → vat names provider ++ 58 ∷ hex (low_first 16 n) ≡ behind
+    → lines.name names (Claimed host provider n) ≡ word
+claimed_parts names word front behind host provider n w f b = ap (λ x. x ++ 94 ∷ (vat names provider ++ 58 ∷ hex (low_first 16 n))) f ∙ ap (λ x. front ++ 94 ∷ x) b ∙ sym w
+
+claimed_is : (names : List (List ℕ)) (word : List ℕ) (x : Name) → parts.claimed names word ≡ Some x → lines.name names x ≡ word
+claimed_is names word x e =
+    option_and_then_some (λ p. option_and_then (λ v. option_and_then (λ by. Some (Claimed v by.0 by.1)) (parts.provided names p.1)) (place_of names p.0)) (split_at 94 word) x e (λ p s r.
+    option_and_then_some (λ v. option_and_then (λ by. Some (Claimed v by.0 by.1)) (parts.provided names p.1)) (place_of names p.0) x r (λ v q t.
+    option_and_then_some (λ by. Some (Claimed v by.0 by.1)) (parts.provided names p.1) x t (λ by c z.
+    ap (lines.name names) (sym (same_Some (Claimed v by.0 by.1) x z)) ∙ claimed_parts names word p.0 p.1 v by.0 by.1 (split_is 94 word p s) (place_is names p.0 v q) (provided_is names p.1 by c))))
+
+-- ---- the readings of a name, from the last
+
+abbrev root_or_claimed : List (List ℕ) → List ℕ → Option Name
+root_or_claimed names word = otherwise (parts.root names word) (parts.claimed names word)
+
+abbrev answer_or_later : List (List ℕ) → List ℕ → Option Name
+answer_or_later names word = otherwise (parts.answer names word) (root_or_claimed names word)
+
+abbrev gift_or_later : List (List ℕ) → List ℕ → Option Name
+gift_or_later names word = otherwise (made names Gift (parts.numbered names 94 word)) (answer_or_later names word)
+
+abbrev own_or_later : List (List ℕ) → List ℕ → Option Name
+own_or_later names word = otherwise (made names Own (parts.numbered names 126 word)) (gift_or_later names word)
+
+fifth_is : (names : List (List ℕ)) (word : List ℕ) (x : Name) → root_or_claimed names word ≡ Some x → lines.name names x ≡ word
+fifth_is names word x e = elim (one_of (parts.root names word) (parts.claimed names word) x e) [
+  | inl r ↦ root_is names word x r
+  | inr c ↦ claimed_is names word x c
+]
+
+fourth_is : (names : List (List ℕ)) (word : List ℕ) (x : Name) → answer_or_later names word ≡ Some x → lines.name names x ≡ word
+fourth_is names word x e = elim (one_of (parts.answer names word) (root_or_claimed names word) x e) [
   | inl a ↦ answer_is names word x a
-  | inr r ↦ root_is names word x r
+  | inr r ↦ fifth_is names word x r
 ]
 
-third_is : (names : List (List ℕ)) (word : List ℕ) (x : Name) → otherwise (made names Gift (parts.numbered names 94 word)) (otherwise (parts.answer names word) (parts.root names word)) ≡ Some x → lines.name names x ≡ word
-third_is names word x e = elim (one_of (made names Gift (parts.numbered names 94 word)) (otherwise (parts.answer names word) (parts.root names word)) x e) [
+third_is : (names : List (List ℕ)) (word : List ℕ) (x : Name) → gift_or_later names word ≡ Some x → lines.name names x ≡ word
+third_is names word x e = elim (one_of (made names Gift (parts.numbered names 94 word)) (answer_or_later names word) x e) [
   | inl g ↦ thing_is names Gift 94 word x (λ v n. refl) g
-  | inr r ↦ last_is names word x r
+  | inr r ↦ fourth_is names word x r
 ]
 
-second_is : (names : List (List ℕ)) (word : List ℕ) (x : Name)
-    → otherwise (made names Own (parts.numbered names 126 word)) (otherwise (made names Gift (parts.numbered names 94 word)) (otherwise (parts.answer names word) (parts.root names word))) ≡ Some x → lines.name names x ≡ word
-second_is names word x e = elim (one_of (made names Own (parts.numbered names 126 word)) (otherwise (made names Gift (parts.numbered names 94 word)) (otherwise (parts.answer names word) (parts.root names word))) x e) [
+second_is : (names : List (List ℕ)) (word : List ℕ) (x : Name) → own_or_later names word ≡ Some x → lines.name names x ≡ word
+second_is names word x e = elim (one_of (made names Own (parts.numbered names 126 word)) (gift_or_later names word) x e) [
   | inl g ↦ thing_is names Own 126 word x (λ v n. refl) g
   | inr r ↦ third_is names word x r
 ]
 
 -- a word that is read as a name is how it is printed
 pub name_is : (names : List (List ℕ)) (word : List ℕ) (x : Name) → parts.name names word ≡ Some x → lines.name names x ≡ word
-name_is names word x e = elim (one_of (made names Object (parts.numbered names 46 word)) (otherwise (made names Own (parts.numbered names 126 word)) (otherwise (made names Gift (parts.numbered names 94 word)) (otherwise (parts.answer names word) (parts.root names word)))) x e) [
+name_is names word x e = elim (one_of (made names Object (parts.numbered names 46 word)) (own_or_later names word) x e) [
   | inl g ↦ thing_is names Object 46 word x (λ v n. refl) g
   | inr r ↦ second_is names word x r
 ]

@@ -1,5 +1,5 @@
 -- What a word of digits and names stands for.
-use Rattle.std.specs.Prelude.{ℕ, true, false, ◌+◌, ◌==◌, nat_lt, ◌||◌, ◌&&◌, Bool, if◌then◌else◌, List, [], ◌∷◌, length, codes, Some, None, option_map, option_and_then}
+use Rattle.std.specs.Prelude.{ℕ, true, false, ◌+◌, ◌==◌, nat_lt, ◌||◌, ◌&&◌, if◌then◌else◌, List, length, codes, Some, None, option_map, option_and_then}
 use Rattle.std.specs.declared.option.Option.{Option}
 use Rattle.std.specs.List.{position_or_len, before_first, after_first}
 use Rattle.std.specs.Str.{bytes_eq}
@@ -7,10 +7,10 @@ use Rattle.ev_base.specs.SafeScope.{safe_value}
 use Rattle.ev_base.specs.declared.values.Value.{Value}
 use Rattle.ev_base.specs.declared.values.Value.TheVariants as safe
 use Rattle.ev_base.specs.declared.names.Name.{Name}
-use Rattle.ev_base.specs.declared.names.Name.TheVariants.{Object, Own, Answer, Gift, Root}
+use Rattle.ev_base.specs.declared.names.Name.TheVariants.{Object, Own, Answer, Gift, Root, Claimed}
 use Rattle.ev_base.specs.declared.names.Msg.{Msg}
 use Rattle.def_event.specs.declared.shown.Shown.{Shown, Null, Bool as Boolean, Int, Prim, Name as Named}
-use Rattle.ev_text.specs.Lines.{number, integer}
+use Rattle.ev_text.specs.Lines.{number, integer, spelled_number}
 use Rattle.ev_script.specs.Json.{◌>>=◌}
 use Rattle.ev_script.specs.Vats.{place_of}
 
@@ -117,6 +117,22 @@ module _ (names : List (List ℕ)) where
     m ← message parts.1
     Some (Answer host m)
 
+  -- a vat, `:`, and a number of 128 bits by its bytes, the lowest first
+  abbrev pub provided : List ℕ → Option (ℕ × ℕ)
+  provided word = do
+    parts ← split_at 58 word
+    v ← place_of names parts.0
+    n ← spelled_number parts.1
+    Some (v, n)
+
+  -- a gift by its host, its provider and its number, as a frame of a hostile vat named it
+  abbrev pub claimed : List ℕ → Option Name
+  claimed word = do
+    parts ← split_at 94 word
+    host ← place_of names parts.0
+    by ← provided parts.1
+    Some (Claimed host by.0 by.1)
+
   abbrev pub made : (ℕ → ℕ → Name) → Option (ℕ × ℕ) → Option Name
   made kind None = None
   made kind (Some x) = Some (kind x.0 x.1)
@@ -127,7 +143,7 @@ module _ (names : List (List ℕ)) where
       otherwise (made Object (numbered 46 word))
       (otherwise (made Own (numbered 126 word))
       (otherwise (made Gift (numbered 94 word))
-      (otherwise (answer word) (root word))))
+      (otherwise (answer word) (otherwise (root word) (claimed word)))))
 
   -- ---- values without texts
 

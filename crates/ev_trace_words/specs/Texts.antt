@@ -1,5 +1,5 @@
 -- What a word stands for in which a text is spelled. Rule 42 fails where a word stands for nothing.
-use Rattle.std.specs.Prelude.{ℕ, true, false, ◌-◌, ◌==◌, nat_lt, ◌||◌, ◌&&◌, Bool, if◌then◌else◌, List, [], ◌∷◌, length, codes, chars, slice_get, slice_index, Some, None, option_map, Result, Ok, Err}
+use Rattle.std.specs.Prelude.{ℕ, ◌-◌, ◌==◌, nat_lt, ◌||◌, ◌&&◌, if◌then◌else◌, List, [], ◌∷◌, length, codes, chars, slice_get, slice_index, Some, None, option_map, Result, Ok, Err}
 use Rattle.std.specs.declared.option.Option.{Option}
 use Rattle.std.specs.Path.{rsplit_once}
 use Rattle.std.specs.Str.{bytes_eq}

@@ -1,10 +1,10 @@
 -- What the words of values stand for. Rule 42 fails where a word stands for none.
-use Rattle.std.specs.Prelude.{ℕ, zero, suc, ◌==◌, if◌then◌else◌, List, [], ◌∷◌, length, codes, Some, None, Result, Ok, Err}
+use Rattle.std.specs.Prelude.{ℕ, zero, suc, ◌==◌, if◌then◌else◌, List, [], ◌∷◌, length, codes, Some, None, Result, Ok}
 use Rattle.std.specs.declared.option.Option.{Option}
 use Rattle.std.specs.Path.{rsplit_once}
 use Rattle.def_event.specs.declared.shown.Shown.{Shown, Char, Text, Broken, List as ListOf, Slot}
 use Rattle.def_event.specs.Lines.{members}
-use Rattle.ev_script.specs.Script.{rule, ◌>>=◌}
+use Rattle.ev_script.specs.Script.{◌>>=◌}
 use Rattle.ev_trace_words.specs.Words.{words_of}
 use Rattle.ev_trace_words.specs.Parts.{behind_label, behind_mark, numbered, otherwise, plain}
 use Rattle.ev_trace_words.specs.Texts.{character, shown_text}

@@ -2,11 +2,11 @@
 
 ghost use Rattle.std.specs.Prelude.{◌≡◌, ◌≤◌, ◌<◌, length, option_map};
 ghost use Rattle.ev_script.specs.Vats.{place_of};
-ghost use Rattle.ev_trace_words.specs.Parts.{activation, answer, before_mark, behind_label, behind_mark, constant, count, guarded, message, name, numbered, plain, primitive, primitive_in, primitive_named, primitive_number, root, split_at};
+ghost use Rattle.ev_trace_words.specs.Parts.{activation, answer, before_mark, behind_label, behind_mark, claimed, constant, count, guarded, message, name, numbered, otherwise, plain, primitive, primitive_in, primitive_named, primitive_number, provided, root, split_at};
 
 use def_event::shown::Shown;
 use ev_base::{Msg, Name, PrimId, Str, Value, VatId, safe_value};
-use ev_text::{integer, number};
+use ev_text::{integer, number, spelled_number};
 
 /// The vat that a word names: its place among the names of the vats.
 pub fn vat(names: &[Str], word: &str) -> Option<VatId>
@@ -163,6 +163,39 @@ fn answer(names: &[Str], word: &str) -> Option<Name>
     Some(Name::Answer(host, answered))
 }
 
+/// A vat, and behind `:` a number of 128 bits by its bytes, the lowest first.
+fn provided(names: &[Str], word: &str) -> Option<(VatId, u128)>
+    requires { length names.now ≤ 16 }
+    ensures { result ≡ provided names.now word.now }
+{
+    let (front, behind) = split_at(word, ':')?;
+    let provider = vat(names, front)?;
+    let number = spelled_number(behind)?;
+    Some((provider, number))
+}
+
+/// A gift that a frame of a hostile vat named by its host, its provider and its number.
+fn claimed(names: &[Str], word: &str) -> Option<Name>
+    requires { length names.now ≤ 16 }
+    ensures { result ≡ claimed names.now word.now }
+{
+    let (front, behind) = split_at(word, '^')?;
+    let host = vat(names, front)?;
+    let (provider, number) = provided(names, behind)?;
+    Some(Name::Claimed(host, provider, number))
+}
+
+/// A root, or a gift that a frame of a hostile vat named.
+fn root_or_claimed(names: &[Str], word: &str) -> Option<Name>
+    requires { length names.now ≤ 16 }
+    ensures { result ≡ otherwise (root names.now word.now) (claimed names.now word.now) }
+{
+    match root(names, word) {
+        Some(found) => Some(found),
+        None => claimed(names, word),
+    }
+}
+
 /// The name of an object, a promise, an answer, a gift or a root.
 pub fn name(names: &[Str], word: &str) -> Option<Name>
     requires { length names.now ≤ 16 }
@@ -179,7 +212,7 @@ pub fn name(names: &[Str], word: &str) -> Option<Name>
     }
     match answer(names, word) {
         Some(found) => Some(found),
-        None => root(names, word),
+        None => root_or_claimed(names, word),
     }
 }
 

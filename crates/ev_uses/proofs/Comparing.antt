@@ -2,7 +2,7 @@
 use Rattle.std.proofs.Common.{◌≡◌, Bool, true, false, List, [], ◌∷◌, refl, sym, ap, subst, ◌∙◌, inl, inr}
 use Rattle.std.specs.Prelude.{◌⊎◌, ◌↔◌, if◌then◌else◌}
 use Rattle.ev_base.specs.declared.names.Name.{Name}
-use Rattle.ev_base.specs.declared.names.Name.TheVariants.{Object, Own, Answer, Gift, Root}
+use Rattle.ev_base.specs.declared.names.Name.TheVariants.{Object, Own, Answer, Gift, Root, Claimed}
 use Rattle.def_event.specs.Uses.{AList, AName, IsAmong, Thing, is_gift}
 use Rattle.ev_links.specs.declared.label.Label.{Label}
 use Rattle.ev_links.specs.contracts.label.LabelPartialEq.TheImpl.{eq-value}
@@ -78,6 +78,7 @@ each_sought (Own v n) = refl
 each_sought (Answer v m) = refl
 each_sought (Gift v n) = refl
 each_sought (Root v) = refl
+each_sought (Claimed v p word) = refl
 
 gift_or_sought : (n : Name) → (is_gift n ≡ true) ⊎ (is_sought NoGifts (label (AName n)) ≡ true)
 unfolding label is_gift
@@ -86,6 +87,7 @@ gift_or_sought (Own v n) = inr refl
 gift_or_sought (Answer v m) = inr refl
 gift_or_sought (Gift v n) = inl refl
 gift_or_sought (Root v) = inr refl
+gift_or_sought (Claimed v p word) = inl refl
 
 no_gift_sought : (n : Name) → is_gift n ≡ true → is_sought NoGifts (label (AName n)) ≡ true → ⊥
 unfolding label is_gift
@@ -94,6 +96,7 @@ no_gift_sought (Own v n) g e = absurd cc
 no_gift_sought (Answer v m) g e = absurd cc
 no_gift_sought (Gift v n) g e = absurd cc
 no_gift_sought (Root v) g e = absurd cc
+no_gift_sought (Claimed v p word) g e = absurd cc
 
 module _ (ls os : List Label) (Is Other : Thing → Type 0) (are : AreLabels ls Is) (others : AreLabels os Other) where
   -- all that are no gifts are there

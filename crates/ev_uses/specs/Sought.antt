@@ -1,7 +1,7 @@
 -- Which labels of some are sought among others.
 use Rattle.std.specs.Prelude.{◌≡◌, Bool, true, false, if◌then◌else◌, List, [], ◌∷◌}
 use Rattle.ev_links.specs.declared.label.Kind.{Kind}
-use Rattle.ev_links.specs.declared.label.Kind.TheVariants.{Gift, List as ListKind}
+use Rattle.ev_links.specs.declared.label.Kind.TheVariants.{Gift, Claimed, List as ListKind}
 use Rattle.ev_links.specs.declared.label.Label.{Label}
 use Rattle.ev_links.specs.declared.links.Link.{Link}
 use Rattle.ev_links.specs.declared.links.Scope.TheVariants.{All}
@@ -14,6 +14,8 @@ abbrev pub is_kind_sought : Sought → Kind → Bool
 is_kind_sought s ListKind = false
 is_kind_sought Names Gift = true
 is_kind_sought NoGifts Gift = false
+is_kind_sought Names Claimed = true
+is_kind_sought NoGifts Claimed = false
 is_kind_sought s _ = true
 
 abbrev pub is_sought : Sought → Label → Bool

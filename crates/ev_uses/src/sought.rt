@@ -20,7 +20,7 @@ fn is_sought(sought: Sought, label: &Label) -> bool
 {
     match label.kind {
         Kind::List => false,
-        Kind::Gift => match sought {
+        Kind::Gift | Kind::Claimed => match sought {
             Sought::Names => true,
             Sought::NoGifts => false,
         },

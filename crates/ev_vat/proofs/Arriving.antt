@@ -44,7 +44,8 @@ use Rattle.law_evaluation.specs.Arrivals.Arrivals.{NoteFits, vat_in}
 use Rattle.ev_wire.proofs.Lists.{map_set}
 use Rattle.ev_wire.proofs.Stays.{stays_for}
 use Rattle.ev_wire.proofs.Writes.{table_is}
-use Rattle.ev_wire.specs.Standing.{AreFor, HasReferences, SeesAsBefore, connections_of}
+use Rattle.def_run.specs.Seeing.{SeesAsBefore}
+use Rattle.ev_wire.specs.Standing.{AreFor, HasReferences, connections_of}
 
 -- ---- texts that are kept
 

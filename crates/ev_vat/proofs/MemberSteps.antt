@@ -30,8 +30,9 @@ use Rattle.ev_vat.specs.declared.vat.VatStop.TheVariants.{Fuel, Deep, WordRepeat
 use Rattle.ev_wire.specs.Putting as code
 use Rattle.ev_wire.specs.Putting.{Addressed, put_all}
 use Rattle.law_evaluation.specs.Arrivals.Arrivals.{vat_in}
-use Rattle.ev_wire.specs.Asking.{AskAnew}
-use Rattle.ev_wire.specs.Standing.{AreFor, HasReferences, SeesAsBefore, connections_of}
+use Rattle.def_run.specs.Asking.{AskAnew}
+use Rattle.def_run.specs.Seeing.{SeesAsBefore}
+use Rattle.ev_wire.specs.Standing.{AreFor, HasReferences, connections_of}
 use Rattle.ev_wire.specs.PeerStatements.{framed}
 use Rattle.ev_wire.proofs.Stays.{stays_for}
 use Rattle.ev_wire.proofs.Writes.{writes_all}

@@ -30,8 +30,8 @@ use Rattle.ev_vat.specs.Vat.{StopsWith}
 use Rattle.ev_vat.specs.declared.vat.Vat.{Vat}
 use Rattle.ev_vat.specs.declared.vat.VatStop.{VatStop}
 use Rattle.ev_vat.specs.declared.vat.VatStop.TheVariants.{Fuel, Deep, WordRepeated, Astray, Memory}
-use Rattle.ev_wire.specs.Asking.{AskAnew}
-use Rattle.ev_wire.specs.Standing.{SeesAsBefore}
+use Rattle.def_run.specs.Asking.{AskAnew}
+use Rattle.def_run.specs.Seeing.{SeesAsBefore}
 
 -- ---- what the code does
 

@@ -16,8 +16,8 @@ use Rattle.ev_vat.specs.Vat.{StopsWith}
 use Rattle.ev_vat.specs.declared.vat.VatStop.{VatStop}
 use Rattle.ev_vat.specs.declared.vat.VatStop.TheVariants.{Fuel, Deep, WordRepeated, Astray, Memory}
 use Rattle.law_evaluation.specs.Arrivals.Arrivals.{vat_in}
-use Rattle.ev_wire.specs.Asking.{AskAnew}
-use Rattle.ev_wire.specs.Standing.{SeesAsBefore}
+use Rattle.def_run.specs.Asking.{AskAnew}
+use Rattle.def_run.specs.Seeing.{SeesAsBefore}
 
 -- what a vat has for its peers before it writes what a step put
 pub record Having : Type 0 where

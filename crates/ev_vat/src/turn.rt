@@ -113,7 +113,6 @@ pub fn new_heap(alloc: Global) -> Result<Heap, Memory>
 }
 
 /// The inside of a vat of that number which has done nothing and knows nothing, with so much fuel and the words under that key.
-#[tactic(auto, using(crate::proofs::Fresh::is_sound))]
 pub fn new_interior(
     alloc: Global,
     number: VatId,

@@ -6,7 +6,7 @@ use Rattle.def_op.specs.Frames.{Described, IsOp, IsSubject, Operation}
 use Rattle.ev_arrive.specs.declared.host.Carried.TheVariants as carried
 use Rattle.ev_arrive.specs.declared.brought.Heard.TheVariants as heard
 use Rattle.ev_op.specs.Decoded.{decoded}
-use Rattle.ev_op.specs.Reading.{◌>>=◌, op_at}
+use Rattle.def_op.specs.Reading.{◌>>=◌, op_at}
 use Rattle.ev_op.proofs.NumberLemmas.{IsBytes}
 use Rattle.ev_op.proofs.OpLemmas.{op_takes}
 use Rattle.ev_wire.specs.Reading.{IsPromise}

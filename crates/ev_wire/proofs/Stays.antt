@@ -9,7 +9,8 @@ use Rattle.ev_tables.specs.Table.{Table, place_of}
 use Rattle.ev_tables.specs.Standing.{connection_of, first_number, is_own, is_reference, local_of, promises, sight_of}
 use Rattle.ev_tables.proofs.NumberedPlaces.{as_values, stands}
 use Rattle.ev_wire.specs.Writing.{is_mine}
-use Rattle.ev_wire.specs.Standing.{among, connections_of, has_number}
+use Rattle.def_run.specs.Seeing.{among, has_number}
+use Rattle.ev_wire.specs.Standing.{connections_of}
 use Rattle.ev_wire.specs.PeerStatements.{StaysFor}
 use Rattle.ev_wire.proofs.PeerSights.{own_is}
 

@@ -24,7 +24,7 @@ use Rattle.ev_wire.specs.Putting.{Addressed, put_all, put_one, table_for}
 use Rattle.ev_wire.specs.Writing.{asked_of, asking, is_mine, is_ours, numbered_note, numbered_parcel, numbered_parcels, numbered_value, put_on, value_of, written}
 use Rattle.ev_wire.specs.WritingStatements.{HasTexts, HaveTexts, IsNewAnswer, NoteHasTexts, ValueHasTexts}
 use Rattle.ev_wire.proofs.WritingMachine.{keeps, writes}
-use Rattle.ev_wire.specs.Asking.{AreNew, AskAnew, IsNew}
+use Rattle.def_run.specs.Asking.{AreNew, AskAnew, IsNew}
 use Rattle.ev_wire.specs.Standing.{AreFor, HasReferences, IsFor, connections_of}
 use Rattle.ev_wire.specs.PeerStatements.{WritesAll, framed}
 use Rattle.ev_wire.proofs.Lists.{at_set, got, map_got, map_set}

@@ -2,8 +2,6 @@ pub mod Writing
 pub mod WritingStatements
 pub mod Putting
 pub mod Standing
-pub mod Steady
-pub mod Asking
 pub mod PeerStatements
 pub mod Learnt
 pub mod Bringing

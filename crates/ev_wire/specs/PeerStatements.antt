@@ -10,8 +10,9 @@ use Rattle.ev_refs.specs.References.{References}
 use Rattle.ev_tables.specs.Table.{Table}
 use Rattle.ev_wire.specs.Putting as code
 use Rattle.ev_wire.specs.Putting.{Addressed, put_all}
-use Rattle.ev_wire.specs.Asking.{AskAnew}
-use Rattle.ev_wire.specs.Standing.{AreFor, HasReferences, SeesAsBefore, connections_of}
+use Rattle.def_run.specs.Asking.{AskAnew}
+use Rattle.def_run.specs.Seeing.{SeesAsBefore}
+use Rattle.ev_wire.specs.Standing.{AreFor, HasReferences, connections_of}
 
 -- what stands on a frame, and the vat that it is for
 abbrev pub framed : Framed → Addressed

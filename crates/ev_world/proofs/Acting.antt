@@ -39,7 +39,7 @@ use Rattle.ev_world.proofs.Cuts.{told_behind}
 use Rattle.ev_world.proofs.Objects.{exports_are, is_within, same_or_not, set_other, set_there}
 use Rattle.ev_world.proofs.Pushes.{history_alike, ways_alike}
 use Rattle.ev_world.proofs.Telling.{only, stands}
-use Rattle.ev_wire.specs.Steady.{ShownAlike, StepIsSteady}
+use Rattle.def_run.specs.Steady.{ShownAlike, StepIsSteady}
 
 -- ---- stops
 

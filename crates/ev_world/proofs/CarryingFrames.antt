@@ -38,8 +38,8 @@ use Rattle.ev_world.specs.Carrying.{TellsFrame, note_lines}
 use Rattle.ev_world.specs.Standing.{told_so}
 use Rattle.ev_world.proofs.Objects.{is_within}
 use Rattle.ev_world.proofs.Telling.{only}
-use Rattle.ev_wire.specs.Steady.{HearingIsSteady}
-use Rattle.ev_wire.specs.Steady as steady
+use Rattle.def_run.specs.Steady.{HearingIsSteady}
+use Rattle.def_run.specs.Steady as steady
 
 -- ---- what is heard of it
 

@@ -53,7 +53,7 @@ use Rattle.ev_world.proofs.Objects.{is_within, set_other, set_there, table_is}
 use Rattle.ev_world.proofs.Pushes.{history_alike, ways_alike}
 use Rattle.ev_world.proofs.Telling.{stands}
 use Rattle.ev_wire.specs.Standing.{connections_of}
-use Rattle.ev_wire.specs.Steady.{ShownAlike}
+use Rattle.def_run.specs.Steady.{ShownAlike}
 
 -- ---- an entry that finds no frame
 

@@ -14,7 +14,7 @@ use Rattle.ev_world.specs.Standing.{told_so}
 use Rattle.ev_world.specs.Writing.{IsFront, IsStep, text_to, untold}
 use Rattle.ev_world.proofs.Loops.{opened_last, openings_joined, stepped_last, steps_joined}
 use Rattle.ev_world.proofs.Untold.{close_behind, open_behind, step_behind}
-use Rattle.ev_wire.specs.Steady.{RunsSteadily}
+use Rattle.def_run.specs.Steady.{RunsSteadily}
 
 -- ---- fronts of histories
 

@@ -11,7 +11,7 @@ use Rattle.ev_resident.specs.declared.VatStop.{VatStop}
 use Rattle.ev_resident.specs.declared.VatStop.TheVariants.{Fuel, Deep, WordRepeated, Astray, Memory}
 use Rattle.ev_world.specs.Standing.{Comes, HaltsAs}
 use Rattle.ev_world.specs.Steadily.{OpensSteadily, StepsSteadily}
-use Rattle.ev_wire.specs.Steady.{RunsSteadily}
+use Rattle.def_run.specs.Steady.{RunsSteadily}
 use Rattle.law_schedule.specs.Scripts.{machine_entry}
 
 -- ---- courses

@@ -21,7 +21,7 @@ use Rattle.ev_world.specs.Steadily.{OpensSteadily, StepsSteadily}
 use Rattle.ev_world.specs.declared.world.World.{World}
 use Rattle.ev_world.proofs.Acting.{numbers_are, ready_is}
 use Rattle.ev_world.proofs.Telling.{only}
-use Rattle.ev_wire.specs.Steady.{StepIsSteady}
+use Rattle.def_run.specs.Steady.{StepIsSteady}
 
 -- ---- programs and nouns
 

@@ -13,7 +13,7 @@ use Rattle.ev_ways.proofs.Draws.{draws_stand}
 use Rattle.ev_world.specs.Pushing.{all_pushed}
 use Rattle.ev_world.specs.Standing.{IsWorld, told_so}
 use Rattle.ev_world.specs.declared.world.World.{World}
-use Rattle.ev_wire.specs.Steady.{ShownAlike}
+use Rattle.def_run.specs.Steady.{ShownAlike}
 
 -- ---- one frame after the other
 

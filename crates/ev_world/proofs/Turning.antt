@@ -41,7 +41,7 @@ use Rattle.ev_world.proofs.Left.{IsRested}
 use Rattle.ev_world.proofs.Objects.{is_within, same_or_not, set_other, set_there}
 use Rattle.ev_world.proofs.Opening.{tree_is}
 use Rattle.ev_world.proofs.Telling.{only}
-use Rattle.ev_wire.specs.Steady.{StepIsSteady, TurnIsSteady}
+use Rattle.def_run.specs.Steady.{StepIsSteady, TurnIsSteady}
 
 -- ---- what a call answered
 

@@ -15,7 +15,7 @@ use Rattle.ev_world.specs.declared.world.World.{World}
 use Rattle.ev_world.specs.declared.writing.Halt.{Halt}
 use Rattle.ev_world.proofs.Loops.{OpenedBy, SteppedBy, opened_next, runs_on, stepped_next, steps_by}
 use Rattle.ev_world.proofs.Untold.{open_behind, step_behind}
-use Rattle.ev_wire.specs.Steady.{RunsSteadily}
+use Rattle.def_run.specs.Steady.{RunsSteadily}
 use Rattle.law_schedule.specs.Scripts.{machine_entry}
 
 pub rose_since : (a b c : ℕ) → a ≤ b → Rose b c → Rose a c

@@ -25,7 +25,7 @@ use Rattle.ev_world.proofs.Fronts.{closes_as, opened_text, stepped_text}
 use Rattle.ev_world.proofs.Loops.{OpenedBy, SteppedBy, openings_joined, runs_on, steps_joined}
 use Rattle.ev_world.proofs.Wholes.{halts_whole, run_goes, text_goes, text_halts}
 use Rattle.ev_world.proofs.WrittenSteps.{behind, front_behind, went_on}
-use Rattle.ev_wire.specs.Steady.{RunsSteadily}
+use Rattle.def_run.specs.Steady.{RunsSteadily}
 
 -- ---- the start
 

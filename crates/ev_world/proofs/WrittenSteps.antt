@@ -19,7 +19,7 @@ use Rattle.ev_world.specs.declared.world.World.{World}
 use Rattle.ev_world.specs.Steadily.{OpensSteadily, StepsSteadily}
 use Rattle.ev_world.proofs.Fronts.{step_text, text_append}
 use Rattle.ev_world.proofs.Untold.{open_behind, step_behind}
-use Rattle.ev_wire.specs.Steady.{EntryIsSteady, ShownAlike}
+use Rattle.def_run.specs.Steady.{EntryIsSteady, ShownAlike}
 
 -- ---- with what was told before
 

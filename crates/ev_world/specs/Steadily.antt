@@ -5,7 +5,7 @@ use Rattle.def_run.specs.Vats.{Member}
 use Rattle.def_machine.specs.Eval.{opening}
 use Rattle.def_machine.specs.Values.{Prom}
 use Rattle.def_run.specs.World.{Entry, Program, Script}
-use Rattle.ev_wire.specs.Steady.{ActIsSteady, EntryIsSteady, ShownAlike}
+use Rattle.def_run.specs.Steady.{ActIsSteady, EntryIsSteady, ShownAlike}
 
 -- the opening turn of vat u, of program p
 pub record OpensSteadily (S : Script) (u : ℕ) (p : Program) (w : Vats) : Type 0 where

@@ -5,7 +5,7 @@ ghost use Rattle.def_run.specs.Numbers.{run};
 ghost use Rattle.ev_script.specs.Rules.{IsAdmitted};
 ghost use Rattle.ev_world.specs.Events.{EndsAs, events_of};
 ghost use Rattle.ev_world.specs.Running.{end_of, script_of};
-ghost use Rattle.ev_wire.specs.Steady.{RunsSteadily};
+ghost use Rattle.def_run.specs.Steady.{RunsSteadily};
 
 use crate::run::RunEnd;
 use crate::world::World;

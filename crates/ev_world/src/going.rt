@@ -9,7 +9,7 @@ ghost use Rattle.ev_world.specs.Ends.{course_of};
 ghost use Rattle.ev_world.specs.Standing.{AreReady, IsWorld};
 ghost use Rattle.ev_world.specs.Steadily.{OpensSteadily, StepsSteadily};
 ghost use Rattle.ev_world.specs.Writing.{GoesTo, IsCourse, IsWritten};
-ghost use Rattle.ev_wire.specs.Steady.{RunsSteadily};
+ghost use Rattle.def_run.specs.Steady.{RunsSteadily};
 ghost use Rattle.law_schedule.specs.Scripts.{machine_entry};
 
 use crate::world::World;

@@ -8,7 +8,7 @@ ghost use Rattle.ev_world.specs.Ends.{course_of};
 ghost use Rattle.ev_world.specs.Running.{script_of};
 ghost use Rattle.ev_world.specs.Standing.{AreReady, CourseIs, IsWorld, RunIs};
 ghost use Rattle.ev_world.specs.Steadily.{OpensSteadily, StepsSteadily};
-ghost use Rattle.ev_wire.specs.Steady.{RunsSteadily};
+ghost use Rattle.def_run.specs.Steady.{RunsSteadily};
 ghost use Rattle.law_schedule.specs.Scripts.{machine_entry};
 
 use crate::exporting::exports_of;

@@ -10,7 +10,7 @@ ghost use Rattle.ev_script.specs.Rules.{IsAdmitted};
 ghost use Rattle.ev_world.specs.Ends.{course_of};
 ghost use Rattle.ev_world.specs.Running.{script_of};
 ghost use Rattle.ev_world.specs.Writing.{IsWritten, StopsAs, WritesRun};
-ghost use Rattle.ev_wire.specs.Steady.{RunsSteadily};
+ghost use Rattle.def_run.specs.Steady.{RunsSteadily};
 
 use crate::going::go_on;
 use crate::run::{RunEnd, names_of, stopped};

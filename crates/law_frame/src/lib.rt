@@ -11,7 +11,6 @@ pub mod local_laws;
 pub mod numbers;
 pub mod parts;
 pub mod received;
-pub mod rows;
 pub mod stops;
 pub mod told;
 pub mod whole;

@@ -9,3 +9,4 @@ pub mod FineEval
 pub mod Reach
 pub mod FrozenSteps
 pub mod RunSound
+pub mod FineReceive

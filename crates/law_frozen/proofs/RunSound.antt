@@ -54,7 +54,7 @@ note_read ks other h = tt
 
 -- ---- links
 
-with_link_passes : (f : Link → Link) → ((l : Link) → LinkPasses l → LinkPasses (f l)) → (v w : ℕ) (ls : List Link) → AllOf LinkPasses ls → AllOf LinkPasses (world.with_link f v w ls)
+pub with_link_passes : (f : Link → Link) → ((l : Link) → LinkPasses l → LinkPasses (f l)) → (v w : ℕ) (ls : List Link) → AllOf LinkPasses ls → AllOf LinkPasses (world.with_link f v w ls)
 unfolding world.with_link
 with_link_passes f g v w [] h = tt
 with_link_passes f g v w (l ∷ ls) h = either (world.is_link v w l) (g l h.0) (with_link_passes f g v w ls h.1)
@@ -71,7 +71,7 @@ pushed_passes n h l i = either l.cut
     either true = i
     either false = all_end NotePasses l.notes n i h
 
-push_all_passes : (v : ℕ) (ps : List (Put Name)) (ls : List Link) → AllOf (λ (p : Put Name). NotePasses p.note) ps → AllOf LinkPasses ls → AllOf LinkPasses (world.push_all v ps ls)
+pub push_all_passes : (v : ℕ) (ps : List (Put Name)) (ls : List Link) → AllOf (λ (p : Put Name). NotePasses p.note) ps → AllOf LinkPasses ls → AllOf LinkPasses (world.push_all v ps ls)
 unfolding world.push_all
 push_all_passes v [] ls h i = i
 push_all_passes v (p ∷ ps) ls h i = push_all_passes v ps (world.with_link (world.pushed p.note) v p.to ls) h.1 (with_link_passes (world.pushed p.note) (pushed_passes p.note h.0) v p.to ls i)
@@ -106,7 +106,7 @@ module _ (script : Script) where
   moved : (w x : World) → WorldSound script w → Goes w ≡ Goes x → WorldSound script x
   moved w x h e = rw (goes_is w x e) at h
 
-  put_one : (v : ℕ) (y : Vat Name) (w : World) → WorldSound script w → Sound (names script v) y → (u : ℕ) (t : Vat Name) → ((u ≡ v) × (y ≡ t)) ⊎ (slice_get w.vats u ≡ Some t) → Sound (names script u) t
+  pub put_one : (v : ℕ) (y : Vat Name) (w : World) → WorldSound script w → Sound (names script v) y → (u : ℕ) (t : Vat Name) → ((u ≡ v) × (y ≡ t)) ⊎ (slice_get w.vats u ≡ Some t) → Sound (names script u) t
   put_one v y w h k u t (inl e) = let one : Sound (names script u) y = rw (sym e.0) at k in rw e.1 at one
   put_one v y w h k u t (inr e) = h.vats u t e
 
@@ -257,7 +257,7 @@ module _ (script : Script) where
       (λ y i. opens_sound zero script.vats (world.begins script) y begins_sound i)
       (λ y i j. then_sound x (world.steps_from script script.schedule 1 y) (world.close script) (λ z k. steps_sound script.schedule 1 y z i k) (λ z k l. close_sound z x k l) j) e
 
-reach_in : (script : Script) (w : World) → WorldSound script w → ReachIsFrozenIn script w
+pub reach_in : (script : Script) (w : World) → WorldSound script w → ReachIsFrozenIn script w
 unfolding names
 reach_in script w h v s e = frozen_reach (names script v) (global_spots (draw_word script.key) v) s (h.vats v s e)
 

@@ -1,3 +1,4 @@
 pub mod Frozen
 pub mod Laws
 pub mod Runs
+pub mod Receiving

@@ -1,6 +1,7 @@
 //! What is reached from objects that bear DeepFrozen's stamp.
 
 ghost use Rattle.law_frozen.specs.Laws.{ReachIsFrozen, StepsStaySound};
+ghost use Rattle.law_frozen.specs.Receiving.{ReceivingStaysSound};
 ghost use Rattle.law_frozen.specs.Runs.{ReachIsFrozenAtTheEnd, ReachIsFrozenInRuns};
 
 /// Every step of a vat from a sound state ends in a sound state.
@@ -11,6 +12,13 @@ ghost use Rattle.law_frozen.specs.Runs.{ReachIsFrozenAtTheEnd, ReachIsFrozenInRu
 /// hold no list but those that are there.
 pub fn steps_stay_sound()
     ensures { StepsStaySound }
+{}
+
+/// What a vat receives of a peer, whatever that says and whoever sent it, leaves a sound state sound. No list may stand by its number
+/// in the note.
+#[tactic(auto, using(crate::proofs::FineReceive::receiving_stays_sound))]
+pub fn receiving_stays_sound()
+    ensures { ReceivingStaysSound }
 {}
 
 /// In a sound state, from an object with DeepFrozen's stamp, by captures and members of lists any

@@ -1,27 +1,34 @@
 -- Answers follow their messages, in each world that is reached with hostile vats.
 use mathlib.Core.Bool.{false}
-use Rattle.std.proofs.Common.{◌≡◌, ℕ, List, [], ◌∷◌, ◌++◌, Some, refl, sym, subst, ap, ◌∙◌, ◌⊎◌, inl, inr, length, Bool, true}
+use Rattle.std.proofs.Common.{◌≡◌, ℕ, List, [], ◌∷◌, ◌++◌, Some, refl, sym, subst, ap, ◌∙◌, ◌⊎◌, inl, inr, length, arith, Bool, true}
 use Rattle.std.specs.Prelude.{slice_get}
 use Rattle.def_machine.specs.Values.{Name, Promise, Answer, Sent, Msg, IsAnswer, host_of, naming, name_of, answer_of, mail_of}
-use Rattle.def_machine.specs.State.{Known, Note, Deliver, Put, Vat, Gives, ◌>>=◌, ◌>>◌, and_then, give, come, mail, send_out, begun}
+use Rattle.def_machine.specs.State.{Known, Note, Deliver, Put, Vat, Done, Gives, ◌>>=◌, ◌>>◌, and_then, give, come, mail, send_out, begun}
 use Rattle.def_machine.specs.Arrive as arrive
 use Rattle.def_machine.specs.Arrive.{New}
-use Rattle.def_run.specs.World.{next_frame, Script, Program, Event, Carried, World, put_at, push_all, with_link, with_notes, readied, names}
+use Rattle.def_run.specs.Wire.{Connected}
+use Rattle.def_run.specs.World.{next_frame, Script, Program, Event, Carried, Link, World, link_at, put_at, push_all, with_link, with_notes, readied, names, names_of, read_note}
+use Rattle.law_machine.specs.Machine.Steps.{Receives, does}
 use Rattle.law_fate.specs.Name.Names.{AllOf, IsAmong, IsMessageMade, NoteOk, names_in, Once}
 use Rattle.law_fate.proofs.Name.Among.{among_more, among_last, among_or, names_end}
 use Rattle.law_fate.proofs.Name.Run.{Stands, Told}
 use Rattle.law_reference.proofs.Reference.OwnRuns.{InScript}
 use Rattle.law_reference.proofs.Reference.NotesRuns.{links_of}
-use Rattle.law_reference.specs.Reference.Behind.{Bears, IsKnownTo}
+use Rattle.law_reference.specs.Reference.Behind.{Avoids, Bears, IsKnownTo}
+use Rattle.law_reference.proofs.Reference.Gentle.{AfterGives}
+use Rattle.law_reference.proofs.Reference.Arrived.{Stays, steps_stay}
+use Rattle.law_reference.proofs.Reference.FirstSteps.{FirstOut, note_first}
 use Rattle.law_reference.proofs.Reference.First.{PutsFirst}
 use Rattle.law_reference.proofs.Reference.Follow.{put_cases, goes_known, goes_follow}
-use Rattle.law_reference.proofs.Reference.FollowRuns.{Past, Holds, taken_known, taken_follow, stepped_follow, outs_known, there_next, holds_on, begins_holds}
-use Rattle.law_reference.proofs.Reference.Moves.{entry_moves, opening_moves, get_mid}
-use Rattle.law_machine.specs.Run.Moves.{Deed, Move, Opened, Stepped, Swallowed, Says, AnyNotice, Follows, Performs, went, without, hear, hear_message}
-use Rattle.law_machine.proofs.Run.Honest.{lifted}
+use Rattle.law_reference.proofs.Reference.FollowRuns.{Past, Holds, after_gives, taken_known, taken_follow, stepped_follow, outs_known, there_next, bearer_known, arrives_first, holds_on, begins_holds}
+use Rattle.law_reference.proofs.Reference.Moves.{Does, waiting, entry_moves, opening_moves, get_mid}
+use Rattle.law_machine.specs.Run.Moves.{Deed, Move, Opened, Stepped, Swallowed, Says, AnyNotice, Performs, went, without, hear, hear_message}
+use Rattle.law_adversary.specs.Moves.{FrameMove, Usual, Recorded, Framed, Received, FramesFollow, entered_at, sight_at, framed_on, placed_from}
+use Rattle.law_adversary.proofs.Lift.{frames_lifted}
 use Rattle.law_hostile.specs.Hostile as hostile
 use Rattle.law_hostile.specs.Hostile.{May, Lawful, AnswersFirst, IsHostile, IsReached, IsReachedInOrder}
-use Rattle.law_hostile.proofs.Known.{left_stands}
+use Rattle.law_hostile.proofs.Comes.{TellsAs, avoids_entries, as_before, one_more, Coming, Passes, Lands, comes}
+use Rattle.law_hostile.proofs.Known.{beside_stands, left_stands, told_entries, drew_stands, drew_told}
 use Rattle.law_hostile.proofs.Ends.{ready_clean, heard_own, deeds_own, reached_fits}
 use Rattle.law_hostile.proofs.Lifts.{IsKeptByDeeds, says_keeps, hear_keeps}
 
@@ -47,7 +54,10 @@ deeds_grow v = record {
 
 module _ (script : Script) (hs : List ℕ) where
   abbrev Ordered : World → World → Type 0
-  Ordered w y = Move script (IsHostile hs) AnyNotice (λ w v s d. May script w v s d) (λ w v u s n. Lawful script w v u s n × AnswersFirst w v u s n) w y
+  Ordered w y = FrameMove script (IsHostile hs) AnyNotice (λ w v s d. May script w v s d) (λ w v u s n. Lawful script w v u s n × AnswersFirst w v u s n) (λ w v u s n op new. Lawful script w v u s n × AnswersFirst w v u s n) w y
+
+  abbrev Usually : World → World → Type 0
+  Usually w y = Move script (IsHostile hs) AnyNotice (λ w v s d. May script w v s d) (λ w v u s n. Lawful script w v u s n × AnswersFirst w v u s n) w y
 
   performs : (w : World) (v : ℕ) (ds : List Deed) (a t : Vat Name) → Performs script (IsHostile hs) AnyNotice (λ w v s d. May script w v s d) (λ w v u s n. Lawful script w v u s n × AnswersFirst w v u s n) w v ds a t → Performs script (IsHostile hs) AnyNotice (λ w v s d. May script w v s d) (λ w v u s n. Lawful script w v u s n) w v ds a t
   performs w v [] a t h = h
@@ -55,13 +65,16 @@ module _ (script : Script) (hs : List ℕ) where
 
   -- ---- what is so reached is reached
 
-  weaker : (w y : World) → Ordered w y → Move script (IsHostile hs) AnyNotice (λ w v s d. May script w v s d) (λ w v u s n. Lawful script w v u s n) w y
-  weaker w y (Opened front rest p o i e) = Opened front rest p o i e
-  weaker w y (Stepped entry k o e) = Stepped entry k o e
-  weaker w y (Swallowed k a v l n ns s t o i c j q f e) = Swallowed k a v l n ns s t o i c j q f e
-  weaker w y (Says v u s t r ds n o i p l f e) = Says v u s t r ds n o i (performs w v ds (readied w s) t p) l.0 f e
+  weaker : (w y : World) → Ordered w y → FrameMove script (IsHostile hs) AnyNotice (λ w v s d. May script w v s d) (λ w v u s n. Lawful script w v u s n) (λ w v u s n op new. Lawful script w v u s n) w y
+  weaker w y (Usual (Opened front rest p o i e)) = Usual (Opened front rest p o i e)
+  weaker w y (Usual (Stepped entry k o e)) = Usual (Stepped entry k o e)
+  weaker w y (Recorded h o es e) = Recorded h o es e
+  weaker w y (Framed v u s t r ds n op new o i p l f e) = Framed v u s t r ds n op new o i (performs w v ds (readied w s) t p) l.0 f e
+  weaker w y (Received h o k a v l n ns s t i c j q r f e) = Received h o k a v l n ns s t i c j q r f e
+  weaker w y (Usual (Swallowed k a v l n ns s t o i c j q f e)) = Usual (Swallowed k a v l n ns s t o i c j q f e)
+  weaker w y (Usual (Says v u s t r ds n o i p l f e)) = Usual (Says v u s t r ds n o i (performs w v ds (readied w s) t p) l.0 f e)
 
-  follows : (ws : List World) (y : World) → Follows script (IsHostile hs) AnyNotice (λ w v s d. May script w v s d) (λ w v u s n. Lawful script w v u s n × AnswersFirst w v u s n) ws y → Follows script (IsHostile hs) AnyNotice (λ w v s d. May script w v s d) (λ w v u s n. Lawful script w v u s n) ws y
+  follows : (ws : List World) (y : World) → FramesFollow script (IsHostile hs) AnyNotice (λ w v s d. May script w v s d) (λ w v u s n. Lawful script w v u s n × AnswersFirst w v u s n) (λ w v u s n op new. Lawful script w v u s n × AnswersFirst w v u s n) ws y → FramesFollow script (IsHostile hs) AnyNotice (λ w v s d. May script w v s d) (λ w v u s n. Lawful script w v u s n) (λ w v u s n op new. Lawful script w v u s n) ws y
   follows [] y h = h
   follows (w ∷ ws) y h = (weaker w y h.0, follows ws w h.1)
 
@@ -159,10 +172,58 @@ module _ (script : Script) (hs : List ℕ) where
   puts_first : (g u : ℕ) (m : Msg) (n : Note Name) (ps qs : List (Put Name)) → u ≡ g → Bears m (Answer g m) n → ps ≡ [] → qs ≡ ps ++ record { to = u; note = n } ∷ [] → PutsFirst g m qs
   puts_first g u m n ps qs e b i j = let one : PutsFirst g m (record { to = u; note = n } ∷ []) = inl (e, b) in subst (λ (z : List (Put Name)). PutsFirst g m z) (sym (j ∙ ap (λ (z : List (Put Name)). z ++ record { to = u; note = n } ∷ []) i)) one
 
-  move_holds : (w y : World) → Past script w → Past script y → ((v : ℕ) (s : Vat Name) → slice_get w.vats v ≡ Some s → InScript script v s) → Ordered w y → Holds script w → Holds script y
-  move_holds w y p r own (Opened front rest q o i e) h = holds_on script w y p r (opening_moves script (length front) q w y p.0 (rw (sym i) at (get_mid front q rest)) e) h
-  move_holds w y p r own (Stepped entry k o e) h = holds_on script w y p r (entry_moves script entry k w y p.0 e) h
-  move_holds w y p r own (Swallowed k a v l n ns s t o at c notes there f e) h =
+  -- ---- a note is received
+
+  after_is : (Q : Vat Name → Type 0) (t : Vat Name) (d : Done Name (Unit {0})) → AfterGives Q d → d ≡ Gives tt t → Q t
+  after_is Q t d h e = rw e at h
+
+  does_receive : (x : World) (a v : ℕ) (s t : Vat Name) (m : Note Name) → slice_get x.vats v ≡ Some s → arrive.arrive (names script v) a (read_note (names_of s) m) (readied x s) ≡ Gives tt t → Does script x v s s t (Receives a (read_note (names_of s) m))
+  unfolding does waiting
+  does_receive x a v s t m q f = record { there = q; number = refl; known = refl; promises = refl; messages = refl; gifts = refl; waits = λ n. omega arith; begins = refl; gives = f }
+
+  arrival_grows : (x : World) (a v : ℕ) (s t : Vat Name) (m : Note Name) → arrive.arrive (names script v) a (read_note (names_of s) m) (readied x s) ≡ Gives tt t → Grows s t
+  unfolding does readied
+  arrival_grows x a v s t m f n k = let r = after_gives Stays (readied x s) t (does (names script v) (Receives a (read_note (names_of s) m)) (readied x s)) (steps_stay (names script v) (Receives a (read_note (names_of s) m)) (readied x s)) f in r.1 n k
+
+  module _ (w y : World) (p : Past script w) (r : Past script y) (a v : ℕ) (l : Link) (n : Note Name) (ns : List (Note Name)) (s t : Vat Name) (head : List Event) (at : link_at a v w.links ≡ Some l) (notes : l.notes ≡ n ∷ ns) (there : slice_get w.vats v ≡ Some s)
+      (e : y ≡ went v (without a v ns w) head t) (h : Holds script w) where
+    vats_are : y.vats ≡ put_at v t w.vats
+    unfolding went without
+    vats_are = ap (λ (z : World). z.vats) e
+
+    ends_holding : (known : Grows s t) → ((m : Msg) → Bears m (Answer v m) n → IsAmong (Answer v m) (names_in t.known))
+        → ((g : ℕ) (m : Msg) (q : Vat Name) → (g ≡ v → ⊥) → slice_get (put_at v t w.vats) g ≡ Some q → IsAmong (Answer g m) (names_in t.known) → (IsAmong (Answer g m) (names_in s.known) ⊎ PutsFirst g m t.outbox) ⊎ IsAmong (Answer g m) (names_in q.known)) → Holds script y
+    ends_holding grows bears news = let outs = outs_known script y v t r.0 (there_next script w y v s t there vats_are) in let old = taken_follow script w.vats w.links a v n ns l at notes s t there grows bears h.1 in let known = taken_known script w.vats w.links a v n ns l at notes h.0 in
+        is_so _ y (holds_without a v ns w head t (goes_known w.vats v s t there grows outs (with_link (with_notes ns) a v w.links) known old news, goes_follow w.vats v s t there grows outs (with_link (with_notes ns) a v w.links) known old news)) e
+
+    landed_holds : (x : World) (m : Note Name) → Stands script x → slice_get x.vats v ≡ Some s → NoteOk (Told script x) n → TellsAs v n m → arrive.arrive (names script v) a (read_note (names_of s) m) (readied x s) ≡ Gives tt t → Holds script y
+    landed_holds x m g q o alike f = let ok : NoteOk (Told script x) m = alike.names (Told script x) (told_entries script x) o in let stands = g.vats v s q in let kept = stands.kept in
+        ends_holding (arrival_grows x a v s t m f) (λ z b. bearer_known script x a v s t m z kept.number (does_receive x a v s t m q f) (alike.bears z b))
+        (arrives_first script w a v s t n ns l p h.0 at notes (λ g' z abroad spares. after_is (FirstOut g' z s) t _ (note_first script g' z v abroad x s q g a m ok (alike.names (Avoids (Answer g' z)) (avoids_entries g' z) spares)) f))
+
+    ready_grows : Grows s (readied w s)
+    unfolding readied
+    ready_grows z k = k
+
+    passed_holds : ((m : Msg) → Bears m (Answer v m) n → ⊥) → readied w s ≡ t → Holds script y
+    passed_holds none same = ends_holding (subst (λ z. Grows s z) same ready_grows) (λ m b. absurd (none m b)) (λ g m q far i j. inl (inl (known_readied w s (Answer g m) (rw (sym same) at j))))
+
+    received_holds : Coming script w a v s t n → Holds script y
+    received_holds (Passes none same) = passed_holds none same
+    received_holds (Lands _ m as_before alike f) = landed_holds w m p.0 there (left_stands script a v l n ns w at notes p.0).1 alike f
+    received_holds (Lands _ m (one_more i) alike f) = let x : World = record w { drawn = w.drawn ++ i ∷ [] } in landed_holds x m (drew_stands script w x (one_more i) p.0) there (drew_told script w x n (one_more i) (left_stands script a v l n ns w at notes p.0).1) alike f
+
+  -- what stands in frames, and the lines, do not matter
+  beside_holds : (w : World) (es : List Event) (cs : List Connected) → Holds script w → Holds script (record w { connections = cs; history = es })
+  beside_holds w es cs h = h
+
+  before_frames : (x y : World) (cs : List Connected) → Past script y → y ≡ record x { connections = cs } → Past script x
+  before_frames x y cs g e = let one : Past script (record x { connections = cs }) = rw e at g in (beside_stands script hs (record x { connections = cs }) x.history x.connections one.0, one.1)
+
+  usual_holds : (w y : World) → Past script w → Past script y → ((v : ℕ) (s : Vat Name) → slice_get w.vats v ≡ Some s → InScript script v s) → Usually w y → Holds script w → Holds script y
+  usual_holds w y p r own (Opened front rest q o i e) h = holds_on script w y p r (opening_moves script (length front) q w y p.0 (rw (sym i) at (get_mid front q rest)) e) h
+  usual_holds w y p r own (Stepped entry k o e) h = holds_on script w y p r (entry_moves script entry k w y p.0 e) h
+  usual_holds w y p r own (Swallowed k a v l n ns s t o at c notes there f e) h =
       let left = left_stands script a v l n ns w at notes p.0 in let grows : Grows s t = readied_known w s t (hear_keeps script hs v Grows (deeds_grow v) n (readied w s) t f) in
       let quiet : t.outbox ≡ [] = silent a v n s t there left.1 f in
       let outs : AllOf (λ (x : Put Name). NoteOk (IsKnownTo t) x.note) t.outbox = rw quiet tt in
@@ -177,7 +238,7 @@ module _ (script : Script) (hs : List ℕ) where
       either : (g : ℕ) (m : Msg) → (g ≡ v → ⊥) → IsAmong (Answer g m) (names_in (readied w s).known) ⊎ (host_of (Answer g m) ≡ v) → IsAmong (Answer g m) (names_in s.known)
       either g m far (inl a) = known_readied w s (Answer g m) a
       either g m far (inr x) = absurd (no_host g v m far x)
-  move_holds w y p r own (Says v u s t z ds n o there q l f e) h =
+  usual_holds w y p r own (Says v u s t z ds n o there q l f e) h =
       let grown : Grows (readied w s) z = says_keeps script hs v Grows (deeds_grow v) w u n ds (readied w s) t z (performs w v ds (readied w s) t q) f in let grows : Grows s z = readied_known w s z grown in
       let sent = sent_known u n t z f in let clean = deeds_own script hs w v ds (readied w s) t (ready_clean script hs w v s (own v s there)) (performs w v ds (readied w s) t q) in
       let stood : Stands script (went v w [] z) = rw e at r.0 in let there' : slice_get (went v w [] z).vats v ≡ Some z = there_next script w (went v w [] z) v s z there (went_vats w v [] z) in
@@ -197,6 +258,14 @@ module _ (script : Script) (hs : List ℕ) where
       either g m x i j k (inl (inr b)) = inl (inr (puts_first g u m n t.outbox z.outbox b.0 b.1 i j))
       either g m x i j k (inr f) = inr (f x k)
 
+  move_holds : (w y : World) → Past script w → Past script y → ((v : ℕ) (s : Vat Name) → slice_get w.vats v ≡ Some s → InScript script v s) → Ordered w y → Holds script w → Holds script y
+  move_holds w y p r own (Usual m) h = usual_holds w y p r own m h
+  move_holds w y p r own (Recorded b o es e) h = is_so _ y (beside_holds w (w.history ++ es) w.connections h) e
+  move_holds w y p r own (Framed v u s t z ds n op new o i q l f e) h = let x : World = went v w [] z in
+      is_so (framed_on w v u op n new x) y (beside_holds x x.history (framed_on w v u op n new x).connections (usual_holds w x p (before_frames x y _ r e) own (Says v u s t z ds n o i q l f refl) h)) e
+  move_holds w y p r own (Received b z k a v l n ns s t o i c j q f e) h = let head : List Event = Carried k a v (entered_at w a v s n) (next_frame a v w.connections) ∷ [] in let x : World = went v (without a v ns w) head t in
+      is_so (placed_from a v x) y (beside_holds x x.history (placed_from a v x).connections (received_holds w x p (before_frames x y _ r e) a v l n ns s t head i j q refl h (comes script w a v s t n _ (sight_at w a v s) f))) e
+
   module _ (once : (v : ℕ) (p : Program) → slice_get script.vats v ≡ Some p → Once (v ∷ p.knows)) where
     past : (w : World) → IsReachedInOrder script hs w → Past script w
     past w r = let all = reached_fits script hs once w (reached w r) in (all.0, links_of script w all)
@@ -205,7 +274,7 @@ module _ (script : Script) (hs : List ℕ) where
     own_at w r v s i = let all = reached_fits script hs once w (reached w r) in let b = all.2 in (b.0 v s i).0
 
     reached_holds : (w : World) → IsReachedInOrder script hs w → Holds script w
-    reached_holds w r = lifted script (IsHostile hs) AnyNotice (λ w v s d. May script w v s d) (λ w v u s n. Lawful script w v u s n × AnswersFirst w v u s n) (Holds script) (begins_holds script)
+    reached_holds w r = frames_lifted script (IsHostile hs) AnyNotice (λ w v s d. May script w v s d) (λ w v u s n. Lawful script w v u s n × AnswersFirst w v u s n) (λ w v u s n op new. Lawful script w v u s n × AnswersFirst w v u s n) (Holds script) (begins_holds script)
         (λ x y q h m. move_holds x y (past x q) (past y (x ∷ q.0, (m, q.1))) (own_at x q) m h) w r
 
 pub answers_follow_messages : hostile.AnswersFollowMessages

@@ -7,14 +7,14 @@ use Rattle.def_machine.specs.State.{Made, Note, Deliver, Vat, Done, Gives, Act, 
 use Rattle.def_machine.specs.Arrive as arrive
 use Rattle.def_machine.specs.Arrive.{New}
 use Rattle.def_run.specs.Draws.{draw_word}
-use Rattle.def_run.specs.World.{Script, World, put_at, names, names_of}
+use Rattle.def_run.specs.World.{Script, World, put_at, names, names_of, read_note}
 use Rattle.law_fate.specs.Name.Names.{Bit, Named, Mail, At, Off, bare, promises_of, IsMade, IsHad, NoteOk, GoesOk, names_in}
 use Rattle.law_fate.proofs.Name.Facts.{note_up, Fact, Also, Nothing, IsVat, IsName, IsMail, IsDraw, NoteDoes, NoteGoes, new_names, nothing}
 use Rattle.law_fate.proofs.Name.Care.{Care, Sound, Ends, Fine, fine_then, fine_give, fine_thing, fine_promise, fine_new_message, fine_lone_message, fine_draw, fine_out, come_answer}
 use Rattle.law_fate.proofs.Name.Among.{promises_at, get_put}
 use Rattle.law_fate.proofs.Name.Run.{IsInside, Inside, inside, name_had}
 use Rattle.law_fate.proofs.Name.Tracked.{IsFar, Ok, follows_trans, tracked, tracked_under, tracked_makes}
-use Rattle.law_fate.proofs.Name.Learn.{Grew, Knows, Learned, Ended, grew, learn_name, message_learned, reads_bind, reads_fine}
+use Rattle.law_fate.proofs.Name.Learn.{Grew, Knows, Learned, Ended, grew, learn_name, message_learned, reads_bind, reads_fine, reads_note}
 use Rattle.law_machine.specs.Run.Moves.{Deed, NewObject, NewPromise, NewMessage, NewLone, NewDraw, Learns, Performs, perform, hear, hear_message}
 use Rattle.law_hostile.specs.Hostile.{May, Lawful, IsBelow, IsOther}
 
@@ -109,6 +109,14 @@ module _ (script : Script) (w : World) (v : ℕ) (s : Vat Name) (there : slice_g
   unfolding hear names give
   hear_goes (Deliver d x verb ys) a b o h k e = hears_go d.message d.asks a b o.0.0 o.0.1 h k e
   hear_goes other a b o h k e = nothing_goes a b h e
+
+  -- what arrives at an honest vat
+  pub arrive_goes : (from : ℕ) (n : Note Name) (a b : Vat Name) → NoteOk (λ b. IsMade w.vats w.drawn b × Inside script (bare b)) n → Sound T a → Knows true (inside script) w.vats v s there here Word w.vats w.drawn (names_in s.known) a → arrive.arrive (names script v) from (read_note (names_of s) n) a ≡ Gives tt b → GrewTo a b
+  unfolding names names_of
+  arrive_goes from n a b o h k e = ended a _ b ((reads_note true (inside script) w.vats v s there here Word w.vats w.drawn from (names_in s.known) n o).after a h k tt) e
+    where
+      ended : (a : Vat Name) (d : Done Name (Unit {0})) (b : Vat Name) → Ended true (inside script) w.vats v s there here Word w.vats w.drawn a d → d ≡ Gives (tt {0}) b → GrewTo a b
+      ended a d b h e = let k : Ended true (inside script) w.vats v s there here Word w.vats w.drawn a (Gives (tt {0}) b) = rw e at h in k
 
   -- ---- what is said
 

@@ -2,28 +2,33 @@
 use Rattle.std.proofs.Common.{◌≡◌, ℕ, zero, Bool, true, false, List, [], ◌∷◌, ◌++◌, Option, Some, None, refl, sym, subst, ◌∙◌, ◌⊎◌, inl, inr, length}
 use Rattle.std.specs.Prelude.{slice_get}
 use Rattle.def_machine.specs.Values.{Name, Sent, Answer, IsAnswer, host_of, Naming, naming, name_of, answer_of, mail_of}
-use Rattle.def_machine.specs.State.{Made, Note, Deliver, Put, Vat, Gives, ◌>>=◌, ◌>>◌, and_then, give, new_thing, new_promise, new_message, new_lone_message, draw, draws, send_out, begun, come, mail, is_in}
+use Rattle.def_machine.specs.State.{Made, Note, Deliver, Put, Vat, Done, Gives, ◌>>=◌, ◌>>◌, and_then, give, new_thing, new_promise, new_message, new_lone_message, draw, draws, send_out, begun, come, mail, is_in}
 use Rattle.def_machine.specs.Arrive as arrive
 use Rattle.def_machine.specs.Arrive.{Old, New}
+use Rattle.def_machine.specs.Receive.{receive}
+use Rattle.def_run.specs.Wire.{Connected}
 use Rattle.def_run.specs.Draws.{draw_word}
 use Rattle.def_run.specs.World as world
-use Rattle.def_run.specs.World.{Script, Program, Entry, Event, Link, World, Run, Goes as Going, readied, names, names_of}
-use Rattle.law_fate.specs.Name.Names.{AllOf, Once, IsMessageMade, NoteOk}
-use Rattle.law_fate.proofs.Name.Facts.{all_end, all_map}
+use Rattle.def_run.specs.World.{Script, Program, Entry, Event, Carried, Link, World, Run, Goes as Going, readied, names, names_of, read_note}
+use Rattle.law_fate.specs.Name.Names.{AllOf, Once, IsMessageMade, IsMade, NoteOk}
+use Rattle.law_fate.proofs.Name.Facts.{all_end, all_map, note_up}
 use Rattle.law_fate.proofs.Name.Run.{Stands, Told}
 use Rattle.law_reference.specs.Reference.Own.{IsOwnKnown}
 use Rattle.law_reference.specs.Reference.Notes.{IsBetween, Carries}
 use Rattle.law_reference.proofs.Reference.OwnKeeps.{Whole, came_own}
-use Rattle.law_reference.proofs.Reference.OwnRuns.{Any, InScript, Each}
+use Rattle.law_reference.proofs.Reference.Gentle.{AfterGives}
+use Rattle.law_reference.proofs.Reference.OwnRuns.{Any, InScript, Each, own_keep}
 use Rattle.law_reference.proofs.Reference.RunLift.{put_at_or, all_allowed}
 use Rattle.law_reference.proofs.Reference.NotesLift as lift
-use Rattle.law_reference.proofs.Reference.NotesRuns.{Its, OfNotes, Ever, its_keep, begins_all}
+use Rattle.law_reference.proofs.Reference.NotesRuns.{CarriesOut, Its, OfNotes, Ever, its_keep, note_carries, begins_all}
 use Rattle.law_machine.specs.Run.Moves.{Deed, NewObject, NewPromise, NewMessage, NewLone, NewDraw, Learns, Performs, perform, Move, Opened, Stepped, Swallowed, Says, AnyNotice, Nobody, went, without, hear, hear_message, Follows, IsHonest}
-use Rattle.law_machine.proofs.Run.Honest.{lifted}
+use Rattle.law_adversary.specs.Moves.{Usual, Recorded, Framed, Received, entered_at, sight_at, framed_on, placed_from}
+use Rattle.law_adversary.proofs.Lift.{usual_reached, frames_lifted}
 use Rattle.law_hostile.specs.Hostile as hostile
 use Rattle.law_hostile.specs.Hostile.{May, Lawful, IsHostile, IsReached}
 use Rattle.law_hostile.proofs.Links.{with_link_holds, found_holds, push_all_holds}
-use Rattle.law_hostile.proofs.Known.{Moves, move_stands, left_stands}
+use Rattle.law_hostile.proofs.Comes.{TellsAs, as_before, one_more, Coming, Passes, Lands, comes}
+use Rattle.law_hostile.proofs.Known.{Moves, Usually, beside_stands, move_stands, left_stands, told_entries, drew_stands, drew_told}
 
 -- each half of what the notes are
 half_links : (B C : ℕ → ℕ → Note Name → Type 0) → ((v w : ℕ) (n : Note Name) → B v w n → C v w n) → (ls : List Link) → AllOf (lift.Fits B) ls → AllOf (lift.Fits C) ls
@@ -140,6 +145,22 @@ module _ (script : Script) where
     unfolding send_out
     said_its v u n t r h b c e = said_is v _ r (out_its v u n t h b c t.outbox refl) e
 
+    -- ---- what is received
+
+    after_is : (Q : Vat Name → Type 0) (t : Vat Name) (d : Done Name (Unit {0})) → AfterGives Q d → d ≡ Gives tt t → Q t
+    after_is Q t d h e = rw e at h
+
+    landed_its : (x : World) (a v : ℕ) (s t : Vat Name) (n m : Note Name) → Stands script x → NoteOk (Told script x) n → slice_get x.vats v ≡ Some s → InScript script v s → TellsAs v n m → arrive.arrive (names script v) a (read_note (names_of s) m) (readied x s) ≡ Gives tt t
+        → Its script v t × AllOf (λ (p : Put Name). OfNotes script v p.to p.note) t.outbox
+    landed_its x a v s t n m g o q h alike f = let ok : NoteOk (Told script x) m = alike.names (Told script x) (told_entries script x) o in
+        let its : Its script v t = (after_is (InScript script v) t _ ((own_keep script).note x a v s m g q (note_up (Told script x) (IsMade x.vats x.drawn) (λ b k. k.0) m ok) h) f, after_is (CarriesOut script v) t _ (note_carries script x v s g q a m ok) f) in
+        (its, (its_keep script).outs v t its)
+
+    pub received_its : (w : World) (a v : ℕ) (s t : Vat Name) (n : Note Name) → Stands script w → NoteOk (Told script w) n → slice_get w.vats v ≡ Some s → InScript script v s → Coming script w a v s t n → Its script v t × AllOf (λ (p : Put Name). OfNotes script v p.to p.note) t.outbox
+    received_its w a v s t n g o q h (Passes none same) = silent v t (subst (λ z. Clean v z) same (ready_clean w v s h))
+    received_its w a v s t n g o q h (Lands _ m as_before alike f) = landed_its w a v s t n m g o q h alike f
+    received_its w a v s t n g o q h (Lands _ m (one_more i) alike f) = let x : World = record w { drawn = w.drawn ++ i ∷ [] } in landed_its x a v s t n m (drew_stands script w x (one_more i) g) (drew_told script w x n (one_more i) o) q h alike f
+
     -- ---- moves
 
     abbrev pub All : World → Type 0
@@ -180,15 +201,35 @@ module _ (script : Script) where
     unfolding world.open_from
     one_open v p w y e = then_once (world.open_vat script v p w) (λ z. Going z) y e refl
 
-    move_fits : (w y : World) → Stands script y → All w → Moves script hs w y → All y
-    move_fits w y g h (Opened front rest p o i e) = lift.opens_all script (Its script) (OfNotes script) (Ever script) (Any script) (its_keep script) front (p ∷ []) rest w y i h (one_open (length front) p w y e)
-    move_fits w y g h (Stepped entry k o e) = lift.step_all script (Its script) (OfNotes script) (Ever script) (Any script) (its_keep script) entry k w y (all_allowed (Any script) (λ v to. tt) (entry ∷ [])).0 h e
-    move_fits w y g h (Swallowed k a v l n ns s t o i c j q f e) = let left = left_stands script a v l n ns w i j h.0 in let b = h.2 in let out = silent v t (heard_own v w n (readied w s) t left.1 (ready_clean w v s (b.0 v s q).0) f) in
+    -- what stands in frames, and the lines, do not matter
+    beside_all : (x : World) (es : List Event) (cs : List Connected) → Stands script (record x { connections = cs; history = es }) → All x → All (record x { connections = cs; history = es })
+    beside_all x es cs g h = let b = h.2 in (g, tt, b)
+
+    before_frames : (x y : World) (cs : List Connected) → Stands script y → y ≡ record x { connections = cs } → Stands script x
+    before_frames x y cs g e = let one : Stands script (record x { connections = cs }) = rw e at g in beside_stands script hs (record x { connections = cs }) x.history x.connections one
+
+    usual_fits : (w y : World) → Stands script y → All w → Usually script hs w y → All y
+    usual_fits w y g h (Opened front rest p o i e) = lift.opens_all script (Its script) (OfNotes script) (Ever script) (Any script) (its_keep script) front (p ∷ []) rest w y i h (one_open (length front) p w y e)
+    usual_fits w y g h (Stepped entry k o e) = lift.step_all script (Its script) (OfNotes script) (Ever script) (Any script) (its_keep script) entry k w y (all_allowed (Any script) (λ v to. tt) (entry ∷ [])).0 h e
+    usual_fits w y g h (Swallowed k a v l n ns s t o i c j q f e) = let left = left_stands script a v l n ns w i j h.0 in let b = h.2 in let out = silent v t (heard_own v w n (readied w s) t left.1 (ready_clean w v s (b.0 v s q).0) f) in
         is_so _ y (went_all (without a v ns w) v _ t (rw e at g) (left_all a v l n ns w i j left.0 h) out.0 out.1) e
-    move_fits w y g h (Says v u s t r ds n o i p l f e) = let b = h.2 in let out = said_its v u n t r (deeds_own w v ds (readied w s) t (ready_clean w v s (b.0 v s i).0) p) l.2 l.3 f in is_so (went v w [] r) y (went_all w v [] r (rw e at g) h out.0 out.1) e
+    usual_fits w y g h (Says v u s t r ds n o i p l f e) = let b = h.2 in let out = said_its v u n t r (deeds_own w v ds (readied w s) t (ready_clean w v s (b.0 v s i).0) p) l.2 l.3 f in is_so (went v w [] r) y (went_all w v [] r (rw e at g) h out.0 out.1) e
+
+    came_fits : (w : World) (a v : ℕ) (l : Link) (n : Note Name) (ns : List (Note Name)) (s t : Vat Name) (head : List Event) → world.link_at a v w.links ≡ Some l → l.notes ≡ n ∷ ns → slice_get w.vats v ≡ Some s → All w
+        → receive (names script v) (sight_at w a v s) a (read_note (names_of s) (entered_at w a v s n)) (readied w s) ≡ Gives tt t → Stands script (went v (without a v ns w) head t) → All (went v (without a v ns w) head t)
+    came_fits w a v l n ns s t head i j q h f g = let left = left_stands script a v l n ns w i j h.0 in let b = h.2 in let out = received_its w a v s t n h.0 left.1 q (b.0 v s q).0 (comes script w a v s t n _ (sight_at w a v s) f) in
+        went_all (without a v ns w) v head t g (left_all a v l n ns w i j left.0 h) out.0 out.1
+
+    move_fits : (w y : World) → Stands script y → All w → Moves script hs w y → All y
+    move_fits w y g h (Usual m) = usual_fits w y g h m
+    move_fits w y g h (Recorded b o es e) = is_so _ y (beside_all w (w.history ++ es) w.connections (rw e at g) h) e
+    move_fits w y g h (Framed v u s t r ds n op new o i p l f e) = let x : World = went v w [] r in
+        is_so (framed_on w v u op n new x) y (beside_all x x.history _ (rw e at g) (usual_fits w x (before_frames x y _ g e) h (Says v u s t r ds n o i p l f refl))) e
+    move_fits w y g h (Received u z k a v l n ns s t o i c j q f e) = let x : World = went v (without a v ns w) (Carried k a v (entered_at w a v s n) (world.next_frame a v w.connections) ∷ []) t in
+        is_so (placed_from a v x) y (beside_all x x.history _ (rw e at g) (came_fits w a v l n ns s t _ i j q h f (before_frames x y _ g e))) e
 
     pub reached_fits : ((v : ℕ) (p : Program) → slice_get script.vats v ≡ Some p → Once (v ∷ p.knows)) → (w : World) → IsReached script hs w → All w
-    reached_fits once w r = lifted script (IsHostile hs) AnyNotice (λ w v s d. May script w v s d) (λ w v u s n. Lawful script w v u s n) All (begins_all script once) (λ w y q h m. move_fits w y (move_stands script hs w y h.0 m) h m) w r
+    reached_fits once w r = frames_lifted script (IsHostile hs) AnyNotice (λ w v s d. May script w v s d) (λ w v u s n. Lawful script w v u s n) (λ w v u s n op new. Lawful script w v u s n) All (begins_all script once) (λ w y q h m. move_fits w y (move_stands script hs w y h.0 m) h m) w r
 
 pub notes_name_their_ends : hostile.NotesNameTheirEnds
 notes_name_their_ends script once hs w r = let h = reached_fits script hs once w r in let b = h.2 in half_links (OfNotes script) IsBetween (λ v u n k. k.0) w.links b.1
@@ -212,7 +253,7 @@ module _ (script : Script) where
   honest_entry w (world.CutLink a b) = tt
   honest_entry w (world.NoticeLink v to) = (not_in v, tt)
 
-  honest_move : (w y : World) → Honest w y → Moves script [] w y
+  honest_move : (w y : World) → Honest w y → Move script (IsHostile []) AnyNotice (λ w v s d. May script w v s d) (λ w v u s n. Lawful script w v u s n) w y
   honest_move w y (Opened front rest p o i e) = Opened front rest p (not_in (length front)) i e
   honest_move w y (Stepped entry k o e) = Stepped entry k (honest_entry w entry) e
   honest_move w y (Swallowed k a v l n ns s t o i c j q f e) = absurd o
@@ -223,4 +264,4 @@ module _ (script : Script) where
   follows (w ∷ ws) y h = (honest_move w y h.0, follows ws w h.1)
 
 pub runs_are_reached : hostile.RunsAreReached
-runs_are_reached script w r = (r.0, follows script r.0 w r.1)
+runs_are_reached script w r = usual_reached script (IsHostile []) AnyNotice (λ w v s d. May script w v s d) (λ w v u s n. Lawful script w v u s n) (λ w v u s n op new. Lawful script w v u s n) w (r.0, follows script r.0 w r.1)

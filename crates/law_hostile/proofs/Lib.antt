@@ -1,3 +1,5 @@
+pub mod EnteredNames
+pub mod Comes
 pub mod Deeds
 pub mod Links
 pub mod Known

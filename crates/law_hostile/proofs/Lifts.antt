@@ -2,22 +2,29 @@
 use Rattle.std.proofs.Common.{◌≡◌, ℕ, zero, suc, ◌+◌, Bool, true, false, List, [], ◌∷◌, ◌++◌, Option, Some, None, refl, sym, subst, ◌⊎◌, inl, inr, length, arith}
 use Rattle.std.specs.Prelude.{slice_get}
 use Rattle.def_machine.specs.Values.{Name, Promise, Answer, Sent, Msg, IsLearnt, IsAnswer, IsCarried, host_of, naming, name_of, answer_of, mail_of}
-use Rattle.def_machine.specs.State.{Thing, Made, Note, Deliver, Put, Vat, Gives, ◌>>=◌, ◌>>◌, and_then, give, new_thing, new_promise, new_message, new_lone_message, draw, draws, send_out, begun, come, mail}
+use Rattle.def_machine.specs.State.{Thing, Made, Note, Deliver, Put, Vat, Done, Gives, ◌>>=◌, ◌>>◌, and_then, give, new_thing, new_promise, new_message, new_lone_message, draw, draws, send_out, begun, come, mail}
 use Rattle.def_machine.specs.Arrive as arrive
-use Rattle.def_machine.specs.Arrive.{Old, New}
+use Rattle.def_machine.specs.Arrive.{Incoming, Old, New}
+use Rattle.def_machine.specs.Receive.{Sight, receive}
+use Rattle.law_machine.specs.Machine.Steps.{After}
+use Rattle.def_run.specs.Wire.{Connected}
 use Rattle.law_machine.proofs.Machine.Keeps.{IsKept, IsKeptUnder}
 use Rattle.def_run.specs.World as world
-use Rattle.def_run.specs.World.{Script, Program, Entry, Event, Carried, World, Run, Goes as Going, put_at, readied, names, names_of}
+use Rattle.def_run.specs.World.{Script, Program, Entry, Event, Carried, World, Run, Goes as Going, put_at, readied, names, names_of, read_note}
 use Rattle.law_machine.specs.Run.Runs.{EachVat}
 use Rattle.law_machine.proofs.Run.RunKeeps.{IsKeptInRuns, each_kept, run_keeps, opens_keep}
-use Rattle.law_fate.specs.Name.Names.{Once, NoteOk}
+use Rattle.law_fate.specs.Name.Names.{Once, NoteOk, IsMade}
+use Rattle.law_fate.proofs.Name.Facts.{note_up}
 use Rattle.law_fate.proofs.Name.Run.{Stands, Told}
 use Rattle.law_reference.proofs.Reference.RunLift.{StepsKeep, InVats, put_at_or, step_keeps, opened_keeps, all_allowed}
-use Rattle.law_reference.proofs.Reference.Gentle.{IsGentle}
+use Rattle.law_reference.proofs.Reference.Gentle.{IsGentle, AfterGives}
 use Rattle.law_machine.specs.Run.Moves.{Deed, NewObject, NewPromise, NewMessage, NewLone, NewDraw, Learns, Performs, perform, Opened, Stepped, Swallowed, Says, AnyNotice, went, without, hear, hear_message}
-use Rattle.law_machine.proofs.Run.Honest.{lifted}
+use Rattle.law_adversary.specs.Moves.{Usual, Recorded, Framed, Received, entered_at, sight_at, framed_on, placed_from}
+use Rattle.law_adversary.proofs.Lift.{frames_lifted}
 use Rattle.law_hostile.specs.Hostile.{May, Lawful, IsHostile, IsReached, Leads}
-use Rattle.law_hostile.proofs.Known.{Moves, left_stands, reached_stands}
+use Rattle.law_hostile.proofs.Comes.{TellsAs, as_before, one_more, Coming, Passes, Lands, comes}
+use Rattle.law_hostile.proofs.EnteredNames.{made_entries}
+use Rattle.law_hostile.proofs.Known.{Moves, Usually, left_stands, drew_stands, drew_told, reached_stands}
 
 -- what is to be shown of a relation, for what a hostile record does
 pub record IsKeptByDeeds (v : ℕ) (R : Vat Name → Vat Name → Type 0) : Type 0 where
@@ -128,7 +135,7 @@ module _ (script : Script) (hs : List ℕ) where
 
   -- ---- from one world to another
 
-  module _ (R : ℕ → Vat Name → Vat Name → Type 0) (runs : IsKeptInRuns script R) (deeds : (v : ℕ) → IsKeptByDeeds v (R v)) where
+  module _ (R : ℕ → Vat Name → Vat Name → Type 0) (runs : IsKeptInRuns script R) (deeds : (v : ℕ) → IsKeptByDeeds v (R v)) (receives : (v from : ℕ) (sight : Sight Name) (n : Note (Incoming Name Name)) (s : Vat Name) → After (R v) s (receive (names script v) sight from n s)) where
     put_leads : (d v : ℕ) (xs : List (Vat Name)) (x y : Vat Name) → slice_get xs v ≡ Some x → R (d + v) x y → (u : ℕ) (s : Vat Name) → slice_get xs u ≡ Some s → (t : Vat Name) × (slice_get (put_at v y xs) u ≡ Some t) × R (d + u) s t
     unfolding put_at
     put_leads d v [] x y e r u s h = (s, h, runs.same (d + u) s)
@@ -152,11 +159,29 @@ module _ (script : Script) (hs : List ℕ) where
     each_is : (w x y : World) → EachVat R w x → y ≡ x → EachVat R w y
     each_is w x y h e = subst (λ z. EachVat R w z) (sym e) h
 
+    -- what stands in frames, and the lines, do not matter
+    beside_each : (w x : World) (es : List Event) (cs : List Connected) → EachVat R w x → EachVat R w (record x { connections = cs; history = es })
+    beside_each w x es cs h = h
+
+    gave_is : (x t : Vat Name) → Gives (tt {0}) x ≡ Gives (tt {0}) t → x ≡ t
+    gave_is x t e = cc
+
+    received : (v : ℕ) (s t : Vat Name) (d : Done Name (Unit {0})) → After (R v) s d → d ≡ Gives tt t → R v s t
+    received v s t (Gives u x) h e = subst (λ z. R v s z) (gave_is x t e) h
+    received v s t other h e = cc
+
+    usual_each : (w y : World) → Usually script hs w y → EachVat R w y
+    usual_each w y (Opened front rest p o i e) = opens_keep script (EachVat R) (each_kept script R runs) (length front) (p ∷ []) w y (one_open (length front) p w y e)
+    usual_each w y (Stepped entry k o e) = run_keeps script (EachVat R) (each_kept script R runs) (entry ∷ []) k w y (one_step entry k w y e)
+    usual_each w y (Swallowed k a v l n ns s t o i c j q f e) = let head : List Event = Carried k a v n (world.next_frame a v w.connections) ∷ [] in each_is w (went v (without a v ns w) head t) y (left_each a v ns w (went v (without a v ns w) head t) (went_each (without a v ns w) v head s t (without_there a v ns w v s q) (runs.trans v s (readied w s) t (runs.ready v w s) (hear_keeps v (R v) (deeds v) n (readied w s) t f)))) e
+    usual_each w y (Says v u s t r ds n o i p l f e) = each_is w (went v w [] r) y (went_each w v [] s r i (runs.trans v s (readied w s) r (runs.ready v w s) (says_keeps v (R v) (deeds v) w u n ds (readied w s) t r p f))) e
+
     move_each : (w y : World) → Moves script hs w y → EachVat R w y
-    move_each w y (Opened front rest p o i e) = opens_keep script (EachVat R) (each_kept script R runs) (length front) (p ∷ []) w y (one_open (length front) p w y e)
-    move_each w y (Stepped entry k o e) = run_keeps script (EachVat R) (each_kept script R runs) (entry ∷ []) k w y (one_step entry k w y e)
-    move_each w y (Swallowed k a v l n ns s t o i c j q f e) = let head : List Event = Carried k a v n (world.next_frame a v w.connections) ∷ [] in each_is w (went v (without a v ns w) head t) y (left_each a v ns w (went v (without a v ns w) head t) (went_each (without a v ns w) v head s t (without_there a v ns w v s q) (runs.trans v s (readied w s) t (runs.ready v w s) (hear_keeps v (R v) (deeds v) n (readied w s) t f)))) e
-    move_each w y (Says v u s t r ds n o i p l f e) = each_is w (went v w [] r) y (went_each w v [] s r i (runs.trans v s (readied w s) r (runs.ready v w s) (says_keeps v (R v) (deeds v) w u n ds (readied w s) t r p f))) e
+    move_each w y (Usual m) = usual_each w y m
+    move_each w y (Recorded h b es e) = each_is w _ y (beside_each w w (w.history ++ es) w.connections ((each_kept script R runs).same w)) e
+    move_each w y (Framed v u s t r ds n op new o i p l f e) = let x : World = went v w [] r in each_is w (framed_on w v u op n new x) y (beside_each w x x.history (framed_on w v u op n new x).connections (usual_each w x (Says v u s t r ds n o i p l f refl))) e
+    move_each w y (Received h b k a v l n ns s t o i c j q f e) = let head : List Event = Carried k a v (entered_at w a v s n) (world.next_frame a v w.connections) ∷ [] in let z : World = went v (without a v ns w) head t in
+        each_is w (placed_from a v z) y (beside_each w z z.history (placed_from a v z).connections (left_each a v ns w z (went_each (without a v ns w) v head s t (without_there a v ns w v s q) (runs.trans v s (readied w s) t (runs.ready v w s) (received v (readied w s) t _ (receives v a (sight_at w a v s) _ (readied w s)) f))))) e
 
     pub leads_each : (w : World) (ys : List World) (x : World) → Leads script hs w ys x → EachVat R w x
     leads_each w [] x e = each_is w w x ((each_kept script R runs).same w) (sym e)
@@ -169,7 +194,8 @@ module _ (script : Script) (hs : List ℕ) where
 
   module _ (P : ℕ → Vat Name → Type 0) (law : StepsKeep script P AnyOf)
       (says : (w : World) (v u : ℕ) (s t r : Vat Name) (ds : List Deed) (n : Note Name) → Stands script w → slice_get w.vats v ≡ Some s → Performs script (IsHostile hs) AnyNotice (λ w v s d. May script w v s d) (λ w v u s n. Lawful script w v u s n) w v ds (readied w s) t → Lawful script w v u t n → send_out u n t ≡ Gives tt r → P v s → P v r)
-      (hears : (w : World) (v : ℕ) (s t : Vat Name) (n : Note Name) → Stands script w → NoteOk (Told script w) n → slice_get w.vats v ≡ Some s → hear script v n (readied w s) ≡ Gives tt t → P v s → P v t) where
+      (hears : (w : World) (v : ℕ) (s t : Vat Name) (n : Note Name) → Stands script w → NoteOk (Told script w) n → slice_get w.vats v ≡ Some s → hear script v n (readied w s) ≡ Gives tt t → P v s → P v t)
+      (passes : (w : World) (v : ℕ) (s : Vat Name) → P v s → P v (readied w s)) where
     abbrev All : World → Type 0
     All w = InVats script P AnyOf w
 
@@ -188,11 +214,34 @@ module _ (script : Script) (hs : List ℕ) where
     unfolding without
     left_all a v ns w h = h
 
+    -- ---- a note is received
+
+    after_is : (v : ℕ) (t : Vat Name) (d : Done Name (Unit {0})) → AfterGives (P v) d → d ≡ Gives tt t → P v t
+    after_is v t d h e = rw e at h
+
+    landed_all : (x : World) (a v : ℕ) (s t : Vat Name) (n m : Note Name) → Stands script x → NoteOk (Told script x) n → slice_get x.vats v ≡ Some s → P v s → TellsAs v n m → arrive.arrive (names script v) a (read_note (names_of s) m) (readied x s) ≡ Gives tt t → P v t
+    landed_all x a v s t n m g o q h alike f = after_is v t _ (law.note x a v s m g q (alike.names (IsMade x.vats x.drawn) (made_entries x.vats x.drawn) (note_up (Told script x) (IsMade x.vats x.drawn) (λ b k. k.0) n o)) h) f
+
+    received_all : (w : World) (a v : ℕ) (s t : Vat Name) (n : Note Name) → Stands script w → NoteOk (Told script w) n → slice_get w.vats v ≡ Some s → P v s → Coming script w a v s t n → P v t
+    received_all w a v s t n g o q h (Passes none same) = subst (λ z. P v z) same (passes w v s h)
+    received_all w a v s t n g o q h (Lands _ m as_before alike f) = landed_all w a v s t n m g o q h alike f
+    received_all w a v s t n g o q h (Lands _ m (one_more i) alike f) = let x : World = record w { drawn = w.drawn ++ i ∷ [] } in landed_all x a v s t n m (drew_stands script w x (one_more i) g) (drew_told script w x n (one_more i) o) q h alike f
+
+    beside_all : (x : World) (es : List Event) (cs : List Connected) → All x → All (record x { connections = cs; history = es })
+    beside_all x es cs h = h
+
+    usual_all : (w y : World) → Stands script w → All w → Usually script hs w y → All y
+    usual_all w y g h (Opened front rest p o i e) = opened_keeps script P AnyOf law (length front) p w y g h e
+    usual_all w y g h (Stepped entry k o e) = step_keeps script P AnyOf law entry k w y g (all_allowed AnyOf (λ v to. tt) (entry ∷ [])).0 h e
+    usual_all w y g h (Swallowed k a v l n ns s t o i c j q f e) = is_so _ y (went_all (without a v ns w) v _ t (left_all a v ns w h) (hears w v s t n g (left_stands script a v l n ns w i j g).1 q f (h v s q))) e
+    usual_all w y g h (Says v u s t r ds n o i p l f e) = is_so (went v w [] r) y (went_all w v [] r h (says w v u s t r ds n g i p l f (h v s i))) e
+
     move_all : (w y : World) → Stands script w → All w → Moves script hs w y → All y
-    move_all w y g h (Opened front rest p o i e) = opened_keeps script P AnyOf law (length front) p w y g h e
-    move_all w y g h (Stepped entry k o e) = step_keeps script P AnyOf law entry k w y g (all_allowed AnyOf (λ v to. tt) (entry ∷ [])).0 h e
-    move_all w y g h (Swallowed k a v l n ns s t o i c j q f e) = is_so _ y (went_all (without a v ns w) v _ t (left_all a v ns w h) (hears w v s t n g (left_stands script a v l n ns w i j g).1 q f (h v s q))) e
-    move_all w y g h (Says v u s t r ds n o i p l f e) = is_so (went v w [] r) y (went_all w v [] r h (says w v u s t r ds n g i p l f (h v s i))) e
+    move_all w y g h (Usual m) = usual_all w y g h m
+    move_all w y g h (Recorded b o es e) = is_so _ y (beside_all w (w.history ++ es) w.connections h) e
+    move_all w y g h (Framed v u s t r ds n op new o i p l f e) = let x : World = went v w [] r in is_so (framed_on w v u op n new x) y (beside_all x x.history (framed_on w v u op n new x).connections (usual_all w x g h (Says v u s t r ds n o i p l f refl))) e
+    move_all w y g h (Received b p k a v l n ns s t o i c j q f e) = let head : List Event = Carried k a v (entered_at w a v s n) (world.next_frame a v w.connections) ∷ [] in let x : World = went v (without a v ns w) head t in
+        let one : All x = went_all (without a v ns w) v head t (left_all a v ns w h) (received_all w a v s t n g (left_stands script a v l n ns w i j g).1 q (h v s q) (comes script w a v s t n _ (sight_at w a v s) f)) in is_so (placed_from a v x) y (beside_all x x.history (placed_from a v x).connections one) e
 
     pub reached_all : ((v : ℕ) (p : Program) → slice_get script.vats v ≡ Some p → Once (v ∷ p.knows)) → All (world.begins script) → (w : World) → IsReached script hs w → All w
-    reached_all once begun w r = lifted script (IsHostile hs) AnyNotice (λ w v s d. May script w v s d) (λ w v u s n. Lawful script w v u s n) All begun (λ w y q h m. move_all w y (reached_stands script hs once w q) h m) w r
+    reached_all once begun w r = frames_lifted script (IsHostile hs) AnyNotice (λ w v s d. May script w v s d) (λ w v u s n. Lawful script w v u s n) (λ w v u s n op new. Lawful script w v u s n) All begun (λ w y q h m. move_all w y (reached_stands script hs once w q) h m) w r

@@ -6,6 +6,7 @@ use Rattle.def_run.specs.World as world
 use Rattle.def_run.specs.World.{Script, Link, World, readied, opened_world}
 use Rattle.law_fate.specs.Name.Names.{opened_names}
 use Rattle.law_machine.specs.Run.Moves.{NewMessage, Says, went, opened_moves}
+use Rattle.law_adversary.specs.Moves.{Usual}
 use Rattle.law_hostile.specs.Hostile.{a_note, IsReached, HostileVatsSpeak}
 
 other : suc zero ≡ zero → ⊥
@@ -34,8 +35,8 @@ module _ (key : List ℕ) (fuel depth : ℕ) (a b : List ℕ) where
     (
       W ∷ [],
       (
-        Says 1 0 V T R (NewMessage 0 ∷ []) a_note refl refl (T, (omega arith), refl, refl)
-            (((omega arith, inl refl, tt, tt), (tt, inr (inl refl), tt, (omega arith)), tt), (tt, tt, other, (omega arith)), refl, (tt, refl)) refl refl,
+        Usual (Says 1 0 V T R (NewMessage 0 ∷ []) a_note refl refl (T, (omega arith), refl, refl)
+            (((omega arith, inl refl, tt, tt), (tt, inr (inl refl), tt, (omega arith)), tt), (tt, tt, other, (omega arith)), refl, (tt, refl)) refl refl),
         refl,
       ),
     ),

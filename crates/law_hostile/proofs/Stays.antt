@@ -3,6 +3,7 @@ use Rattle.std.proofs.Common.{ℕ, [], refl}
 use Rattle.def_machine.specs.Values.{Name, Root, naming}
 use Rattle.def_machine.specs.State.{Vat}
 use Rattle.law_machine.specs.Machine.Laws.{SettledStays, NoticedStays}
+use Rattle.law_machine.proofs.Machine.ArriveKeeps.{keeps_receive}
 use Rattle.law_machine.proofs.Machine.StepLaws.{noticed_law, noticed_names, noticed_stays, settled_law, settled_names, settled_stays}
 use Rattle.def_run.specs.Draws.{draw_word}
 use Rattle.def_run.specs.World as world
@@ -56,21 +57,25 @@ module _ (script : Script) where
   readied_go v w s h = h
 
 pub notices_stay : hostile.NoticesStay
-notices_stay script hs w x ys p = leads_each script hs (λ v. NoticedStays) (notices script) (λ v. single_deeds (draw_word script.key) v NoticedStays noticed_law (noticed_names (naming (draw_word script.key) v))) w ys x p
+notices_stay script hs w x ys p = leads_each script hs (λ v. NoticedStays) (notices script) (λ v. single_deeds (draw_word script.key) v NoticedStays noticed_law (noticed_names (naming (draw_word script.key) v)))
+    (λ v from sight n s. (keeps_receive (names script v) NoticedStays noticed_law (noticed_names (names script v)) sight from n).after s) w ys x p
 
 pub settlings_stay : hostile.SettlingsStay
-settlings_stay script hs w x ys p = leads_each script hs (λ v. SettledStays (names script v)) (settlings script) (settling_deeds script) w ys x p
+settlings_stay script hs w x ys p = leads_each script hs (λ v. SettledStays (names script v)) (settlings script) (settling_deeds script)
+    (λ v from sight n s. (keeps_receive (names script v) (SettledStays (names script v)) (settled_law (names script v)) (settled_names (names script v)) sight from n).after s) w ys x p
 
 pub views_wait : hostile.ViewsWaitInReached
 unfolding world.open_from
 views_wait script once hs w r = reached_all script hs (λ v s. ViewsWait (names script v) s.known) (views_keep script)
     (λ w v u s t r ds n g i p l f h. gone script v (readied w s) r (says_keeps script hs v (ViewsGo (names script v)) (view_deeds script v) w u n ds (readied w s) t r p f) (readied_go script v w s h))
-    (λ w v s t n g o i f h. gone script v (readied w s) t (hear_keeps script hs v (ViewsGo (names script v)) (view_deeds script v) n (readied w s) t f) (readied_go script v w s h)) once ((views_wait_in_runs script once).0 [] script.vats (world.begins script) refl refl) w r
+    (λ w v s t n g o i f h. gone script v (readied w s) t (hear_keeps script hs v (ViewsGo (names script v)) (view_deeds script v) n (readied w s) t f) (readied_go script v w s h))
+    (λ w v s h. readied_go script v w s h) once ((views_wait_in_runs script once).0 [] script.vats (world.begins script) refl refl) w r
 
 pub what_a_vat_has_is_its_own : hostile.WhatAVatHasIsItsOwn
 what_a_vat_has_is_its_own script once hs w r v s e = let o = reached_all script hs (InScript script) (own_keep script)
     (λ w v u s t r ds n g i p l f h. (said_its script hs v u n t r (deeds_own script hs w v ds (readied w s) t (ready_clean script hs w v s h) p) l.2 l.3 f).0.0)
-    (λ w v s t n g o i f h. (heard_own script v w n (readied w s) t o (ready_clean script hs w v s h) f).0) once (begins_own script) w r v s e in (o.0, o.1, o.2, o.3)
+    (λ w v s t n g o i f h. (heard_own script v w n (readied w s) t o (ready_clean script hs w v s h) f).0)
+    (λ w v s h. (ready_clean script hs w v s h).0) once (begins_own script) w r v s e in (o.0, o.1, o.2, o.3)
 
 -- ---- the laws of runs follow
 

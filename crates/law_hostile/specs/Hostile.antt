@@ -13,7 +13,8 @@ use Rattle.law_reference.specs.Reference.Own.{Own}
 use Rattle.law_reference.specs.Reference.Behind.{Bears, ComesFirst}
 use Rattle.law_machine.specs.Machine.Laws.{SettledStays, NoticedStays}
 use Rattle.law_machine.specs.Run.Runs.{EachVat}
-use Rattle.law_machine.specs.Run.Moves.{Deed, NewObject, NewPromise, NewMessage, NewLone, NewDraw, Learns, Move, Reached, AnyNotice, perform}
+use Rattle.law_machine.specs.Run.Moves.{Deed, NewObject, NewPromise, NewMessage, NewLone, NewDraw, Learns, Reached, AnyNotice, perform}
+use Rattle.law_adversary.specs.Moves.{FrameMove, FramesReached}
 
 -- its host, or the vat, is one of so many
 abbrev pub IsBelow : ℕ → Bit Name → Type 0
@@ -62,7 +63,7 @@ IsHostile hs v = is_in v hs ≡ true
 
 -- reached where those vats are hostile
 abbrev pub IsReached : Script → List ℕ → World → Type 0
-IsReached script hs = Reached script (IsHostile hs) AnyNotice (λ w v s d. May script w v s d) (λ w v u s n. Lawful script w v u s n)
+IsReached script hs = FramesReached script (IsHostile hs) AnyNotice (λ w v s d. May script w v s d) (λ w v u s n. Lawful script w v u s n) (λ w v u s n op new. Lawful script w v u s n)
 
 -- It holds of each world that is reached, whichever vats are hostile.
 abbrev pub InReached : (World → Type 0) → Type 0
@@ -103,7 +104,7 @@ module _ (script : Script) (hs : List ℕ) where
   -- by such moves, the last first
   abbrev pub Leads : World → List World → World → Type 0
   Leads w [] x = w ≡ x
-  Leads w (y ∷ ys) x = Move script (IsHostile hs) AnyNotice (λ w v s d. May script w v s d) (λ w v u s n. Lawful script w v u s n) y x × Leads w ys y
+  Leads w (y ∷ ys) x = FrameMove script (IsHostile hs) AnyNotice (λ w v s d. May script w v s d) (λ w v u s n. Lawful script w v u s n) (λ w v u s n op new. Lawful script w v u s n) y x × Leads w ys y
 
 -- R leads from each vat of a world to the same vat after any moves, whichever vats are hostile
 abbrev pub KeptByMoves : (Script → ℕ → Vat Name → Vat Name → Type 0) → Type 0
@@ -141,7 +142,7 @@ AnswersFirst w v u t n = (s : Vat Name) → slice_get w.vats v ≡ Some s → (g
 
 -- reached where those vats are hostile, and name answers so
 abbrev pub IsReachedInOrder : Script → List ℕ → World → Type 0
-IsReachedInOrder script hs = Reached script (IsHostile hs) AnyNotice (λ w v s d. May script w v s d) (λ w v u s n. Lawful script w v u s n × AnswersFirst w v u s n)
+IsReachedInOrder script hs = FramesReached script (IsHostile hs) AnyNotice (λ w v s d. May script w v s d) (λ w v u s n. Lawful script w v u s n × AnswersFirst w v u s n) (λ w v u s n op new. Lawful script w v u s n × AnswersFirst w v u s n)
 
 -- What vat u knows as the answer of a message at another vat, that vat knows; or the link to it is cut; or the message is under way there, in front of all that names the answer.
 abbrev pub AnswersFollowMessages : Type 0

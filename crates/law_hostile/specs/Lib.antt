@@ -1,1 +1,2 @@
 pub mod Hostile
+pub mod Entering

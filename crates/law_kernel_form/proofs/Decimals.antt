@@ -19,7 +19,7 @@ use Rattle.def_kernel.specs.Reading.{step, add_item, wanted, takes_exit, literal
 use Rattle.std.specs.Char.{encode_utf8}
 use Rattle.std.proofs.lemmas.Str.{encode_ascii}
 use Rattle.std.proofs.lemmas.Option.{same_Some, option_and_then_some}
-use Rattle.law_kernel_form.specs.Trees.{IsInt}
+use Rattle.def_kernel.specs.Trees.{IsInt}
 use Rattle.law_kernel_form.proofs.Writing.{IsSigned}
 use Rattle.law_kernel_form.proofs.Steps.{steps, reads_one, Stops, space, bracket, Goes, item, state, framed, at, space_wanted}
 use Rattle.law_kernel_form.proofs.Names.{begins_wanted}

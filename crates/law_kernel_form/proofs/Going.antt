@@ -23,7 +23,7 @@ use Rattle.def_kernel.specs.declared.shape.Want.TheVariants.{Tree}
 use Rattle.def_kernel.specs.declared.shape.Tail.TheVariants.{Many}
 use Rattle.def_kernel.specs.Forms.{enclosed, items as written, form_of, form_within}
 use Rattle.def_kernel.specs.Reading.{step, no_node, node_of, wanted, more, fixed, tail, ends, tail_ends, close_in, close_frame}
-use Rattle.law_kernel_form.specs.Trees.{Has}
+use Rattle.def_kernel.specs.Trees.{Has}
 use Rattle.law_kernel_form.proofs.Parts.{Part, done, there, joined, long}
 use Rattle.law_kernel_form.proofs.Steps.{steps, reads_one, Stops, space, bracket, Goes, goes_nowhere, goes_on, split, bracketed, bracketed_utf8, item, state, at, closed, closes_in, ReadsTree, tree_item}
 use Rattle.law_kernel_form.proofs.Heads.{Begins}

@@ -10,7 +10,7 @@ use Rattle.def_kernel.specs.declared.shape.Head.{Head}
 use Rattle.def_kernel.specs.declared.shape.Want.TheVariants.{Literal as ALiteral}
 use Rattle.def_kernel.specs.Forms.{literal_form}
 use Rattle.def_kernel.specs.Reading.{wanted, takes_exit}
-use Rattle.law_kernel_form.specs.Trees.{IsLiteral}
+use Rattle.def_kernel.specs.Trees.{IsLiteral}
 use Rattle.law_kernel_form.proofs.Steps.{Goes, at}
 use Rattle.law_kernel_form.proofs.Going.{Going, then_word}
 use Rattle.law_kernel_form.proofs.Names.{begins_wanted}

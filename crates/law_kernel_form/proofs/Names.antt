@@ -18,7 +18,7 @@ use Rattle.def_kernel.specs.declared.shape.Head.{Head}
 use Rattle.def_kernel.specs.declared.shape.Want.{Want}
 use Rattle.def_kernel.specs.declared.shape.Want.TheVariants.{Name}
 use Rattle.def_kernel.specs.Reading.{step, add_item, wanted, takes_exit, open_wanted, begin_wanted, ends_word, item_ends}
-use Rattle.law_kernel_form.specs.Trees.{IsName}
+use Rattle.def_kernel.specs.Trees.{IsName}
 use Rattle.law_kernel_form.proofs.Steps.{steps, reads_one, Stops, space, bracket, Goes, item, state, framed, at, space_wanted}
 use Rattle.law_kernel_form.proofs.Going.{Going, then_word}
 

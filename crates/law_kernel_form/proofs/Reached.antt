@@ -26,7 +26,7 @@ use Rattle.def_kernel.specs.declared.shape.Want.TheVariants as want
 use Rattle.def_kernel.specs.Reading.{next_wanted, add_item, step, step_in, step_bare, step_digits, step_negative, step_text, step_text_escape, step_character, step_character_escape, step_character_end, item_ends, is_digit, is_zero, fits, with_digit, more_digits, letter_escape, character_letter, hexadecimal, low_control, number_digit, text_digit, character_digit, text_item, may_end_text, ends_word}
 use Rattle.def_kernel.specs.declared.shape.Kind.TheVariants.{Expression}
 use Rattle.def_kernel.specs.Reading.{read_on, finished, started}
-use Rattle.law_kernel_form.specs.Trees.{IsInt, IsLiteral, IsTree, Tree}
+use Rattle.def_kernel.specs.Trees.{IsInt, IsLiteral, IsTree, Tree}
 use Rattle.law_kernel_form.specs.Laws.{WhatIsReadIsATree}
 use Rattle.std.specs.List.{flat_map}
 use Rattle.std.specs.Fmt.{signed_decimal}

@@ -5,7 +5,7 @@ use Rattle.def_kernel.specs.declared.node.Node.TheVariants as node
 use Rattle.def_kernel.specs.declared.shape.Kind.{Kind}
 use Rattle.def_kernel.specs.declared.shape.Kind.TheVariants.{Expression, Pattern, Member}
 use Rattle.def_kernel.specs.declared.shape.Head.TheVariants as head
-use Rattle.law_kernel_form.specs.Trees.{Tree, Row, literal, noun, set, def, def_exit, call, sequence, choice, escape, escape_catch, try_catch, finally, hide, match_bind, object, method, matcher, final, final_guarded, variable, variable_guarded, any, any_guarded, list, via, named, unnamed, none, one_more}
+use Rattle.def_kernel.specs.Trees.{Tree, Row, literal, noun, set, def, def_exit, call, sequence, choice, escape, escape_catch, try_catch, finally, hide, match_bind, object, method, matcher, final, final_guarded, variable, variable_guarded, any, any_guarded, list, via, named, unnamed, none, one_more}
 use Rattle.law_kernel_form.proofs.Heads.{begins_lit, begins_noun, begins_set, begins_def, begins_call, begins_seq, begins_if, begins_escape, begins_try, begins_finally, begins_hide, begins_match, begins_object, begins_final, begins_var, begins_any, begins_list_head, begins_via, begins_method, begins_matcher, begins_final_name, begins_no_name}
 use Rattle.law_kernel_form.proofs.Going.{TreeRead, begin, then_tree, then_exit, node_read, wants_more, may_end}
 use Rattle.law_kernel_form.proofs.Groups.{RowRead, then_row, then_group, empty_row, longer_row, numbers_are}

@@ -3,7 +3,7 @@ use Rattle.std.specs.Prelude.{[], ◌∷◌, codes, refl, pos}
 use Rattle.std.specs.Char.{encode_utf8}
 use Rattle.def_kernel.specs.declared.node.Node.TheVariants.{Lit, Call, Hide}
 use Rattle.def_kernel.specs.declared.node.Literal.TheVariants.{Int}
-use Rattle.law_kernel_form.specs.Trees.{IsTree, literal, set, def, def_exit, call, sequence, choice, escape, escape_catch, try_catch, finally, hide, match_bind, object, one_more, none}
+use Rattle.def_kernel.specs.Trees.{IsTree, literal, set, def, def_exit, call, sequence, choice, escape, escape_catch, try_catch, finally, hide, match_bind, object, one_more, none}
 use Rattle.std.proofs.Common.{lit<}
 
 -- `(call (lit 1) add (hide (lit 2)))`

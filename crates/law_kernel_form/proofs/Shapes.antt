@@ -18,7 +18,7 @@ use Rattle.def_kernel.specs.declared.shape.Want.{Want}
 use Rattle.def_kernel.specs.declared.shape.Want.TheVariants as want
 use Rattle.def_kernel.specs.declared.shape.Tail.TheVariants.{Many}
 use Rattle.def_kernel.specs.Reading.{heads, head_of, fixed, tail, wanted, ends, numbers, node_of}
-use Rattle.law_kernel_form.specs.Trees.{Has, IsName, IsLiteral, Tree, Row, literal, noun, set, def, def_exit, call, sequence, choice, escape, escape_catch, try_catch, finally, hide, match_bind, object, method, matcher, final, final_guarded, variable, variable_guarded, any, any_guarded, list, via, named, unnamed, none, one_more}
+use Rattle.def_kernel.specs.Trees.{Has, IsName, IsLiteral, Tree, Row, literal, noun, set, def, def_exit, call, sequence, choice, escape, escape_catch, try_catch, finally, hide, match_bind, object, method, matcher, final, final_guarded, variable, variable_guarded, any, any_guarded, list, via, named, unnamed, none, one_more}
 use Rattle.law_kernel_form.proofs.Going.{wants_more}
 use Rattle.std.specs.Prelude.{codes}
 use Rattle.def_text.specs.Keywords.{printed_verb}

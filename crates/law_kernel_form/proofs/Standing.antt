@@ -19,7 +19,7 @@ use Rattle.def_kernel.specs.declared.shape.Want.{Want}
 use Rattle.def_kernel.specs.declared.shape.Want.TheVariants as want
 use Rattle.def_kernel.specs.Reading.{node_of, numbers, ends, next_wanted, may_exit, add_item}
 use Rattle.std.proofs.Common.{append_assoc, map}
-use Rattle.law_kernel_form.specs.Trees.{Has, IsInt, Tree, Row}
+use Rattle.def_kernel.specs.Trees.{Has, IsInt, Tree, Row}
 use Rattle.law_kernel_form.proofs.Parts.{long}
 use Rattle.law_kernel_form.proofs.Steps.{state, framed, at, closed}
 use Rattle.law_kernel_form.proofs.ReadingTrees.{tree_read, row_read}

@@ -22,7 +22,7 @@ use Rattle.def_kernel.specs.declared.shape.Head.TheVariants as head
 use Rattle.def_kernel.specs.declared.shape.Want.{Want}
 use Rattle.def_kernel.specs.declared.shape.Want.TheVariants as want
 use Rattle.def_kernel.specs.Reading.{heads, head_of, no_node, node_of, numbers, takes_exit, ends, next_wanted, may_exit, with_exit, add_item, begin, begin_head, close_frame, close, step_behind, step_before, step_heading, step_exiting, open_wanted, begin_wanted, item_begins, item_ends, literal_begins, is_digit, ends_word, is_front_of_head}
-use Rattle.law_kernel_form.specs.Trees.{IsInt}
+use Rattle.def_kernel.specs.Trees.{IsInt}
 use Rattle.law_kernel_form.proofs.Steps.{state, framed, at, closed, closes_in}
 use Rattle.std.proofs.lemmas.List.{append-nil}
 use Rattle.std.proofs.lemmas.Str.{encode_ascii}

@@ -4,7 +4,7 @@ use Rattle.std.specs.Str.{IsUtf8}
 use Rattle.def_kernel.specs.declared.node.Node.{Node}
 use Rattle.def_kernel.specs.Forms.{form}
 use Rattle.def_kernel.specs.Reading.{read}
-use Rattle.law_kernel_form.specs.Trees.{IsTree}
+use Rattle.def_kernel.specs.Trees.{IsTree}
 
 -- the form of a tree is read as that tree
 abbrev pub ReadingUndoesPrinting : Type 0

@@ -3,3 +3,4 @@ pub mod RunLaws
 pub mod BreakRuns
 pub mod Honest
 pub mod Told
+pub mod Entries

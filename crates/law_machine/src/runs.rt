@@ -17,6 +17,7 @@ ghost use Rattle.law_machine.specs.Run.Runs.{SeveringsStay};
 ghost use Rattle.law_machine.specs.Run.Runs.{BeginAtRest};
 ghost use Rattle.law_machine.specs.Run.Runs.{FuelNeverRises};
 ghost use Rattle.law_machine.specs.Run.Runs.{HistoryGrows};
+ghost use Rattle.law_machine.specs.Run.Entries.{IdleWhereNothingIs};
 
 /// In a run an object keeps its number, and its node, captures and stamps.
 pub fn objects_stay()
@@ -101,4 +102,11 @@ pub fn fuel_never_rises()
 /// In a run the history is added to at its end alone.
 pub fn history_grows()
     ensures { HistoryGrows }
+{}
+
+/// An entry is idle exactly where nothing is there: a turn where the queue is empty, and a carry where no note is under way on
+/// a link that is not cut. Else a turn takes the first message of the queue, which the line behind its own tells, and leaves
+/// those behind it in front of what comes to be queued; and a carry brings the first note.
+pub fn entries_are_idle_where_nothing_is()
+    ensures { IdleWhereNothingIs }
 {}

@@ -4,8 +4,8 @@ use Rattle.std.specs.Prelude.{slice_get, drop}
 use Rattle.def_kernel.specs.declared.node.Node.{Node}
 use Rattle.def_kernel.specs.declared.node.Node.TheVariants.{Noun, Set, Def, Call, Sequence, If, Escape, Try, Finally, Hide, MatchBind, Object, Method, Matcher, Final, Var, Any, ListPattern, Via}
 use Rattle.def_kernel.specs.declared.shape.Kind.{Kind}
-use Rattle.law_kernel_form.specs.Trees.{Has, Tree, Row, literal, noun, set, def, def_exit, call, sequence, choice, escape, escape_catch, try_catch, finally, hide, match_bind, object, method, matcher, final, final_guarded, variable, variable_guarded, any, any_guarded, list, via, named, unnamed, none}
-use Rattle.law_kernel_form.specs.Trees as trees
+use Rattle.def_kernel.specs.Trees.{Has, Tree, Row, literal, noun, set, def, def_exit, call, sequence, choice, escape, escape_catch, try_catch, finally, hide, match_bind, object, method, matcher, final, final_guarded, variable, variable_guarded, any, any_guarded, list, via, named, unnamed, none}
+use Rattle.def_kernel.specs.Trees as trees
 use Rattle.ev_reader.specs.declared.scan.Scan.{Scan}
 use Rattle.ev_reader.specs.Scopes.{bound, with_name_here, assignment_of, is_clean, enter, inside, all, perhaps, visit, visit_found, scan, started}
 use Rattle.law_never_astray.specs.Scoped.{Scopes, Scoped, MayScoped, AllScoped, is_literal, is_noun, is_set, is_def, is_call, is_sequence, is_choice, is_escape, is_escape_catch, is_try, is_finally, is_hide, is_match, is_object, is_method, is_matcher, is_final, is_var, is_any, is_list, is_via, has_none, has_one, no_more, one_more, AcceptedTreesAreScoped}

@@ -8,7 +8,7 @@ use Rattle.def_machine.specs.Calls as calls
 use Rattle.def_machine.specs.Eval.{evaluator}
 use Rattle.def_kernel.specs.declared.node.Node.{Node}
 use Rattle.def_kernel.specs.declared.shape.Kind.TheVariants.{Expression}
-use Rattle.law_kernel_form.specs.Trees.{IsTree}
+use Rattle.def_kernel.specs.Trees.{IsTree}
 use Rattle.ev_reader.specs.declared.scope.Binding.{Binding as Named}
 use Rattle.ev_reader.specs.Scopes as static
 use Rattle.ev_reader.specs.Scopes.{bound, with_name, with_given, first_fault}

@@ -9,7 +9,7 @@ use Rattle.def_machine.specs.Perform as perform
 use Rattle.def_machine.specs.Calls as calls
 use Rattle.def_machine.specs.Scopes.{Caller, ResolverAsk, Resolves}
 use Rattle.def_kernel.specs.declared.node.Node.{Node}
-use Rattle.law_kernel_form.specs.Trees.{Has}
+use Rattle.def_kernel.specs.Trees.{Has}
 use Rattle.law_never_astray.proofs.Leads.{AtStops, Leads, Nothing, Refers, MayStop, leads, lead_stop, lead_spend, lead_thing, lead_kill, lead_then, lead_ends, lead_give, lead_throw, lead_eject}
 
 -- a call does, whatever is called

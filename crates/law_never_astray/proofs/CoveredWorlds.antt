@@ -11,7 +11,7 @@ use Rattle.def_run.specs.World.{Script, Program, World, Goes, CutLink, names, tr
 use Rattle.law_machine.specs.Run.Moves.{Moved, Still, Severs, Drops, Steps, Arrives, Hears, Tells, Does, Nobody, AnyNotice, IsReached, went}
 use Rattle.law_machine.proofs.Run.Honest.{honest_reached, lifted}
 use Rattle.law_machine.proofs.Run.Told.{moves_told}
-use Rattle.law_kernel_form.specs.Trees.{IsTree}
+use Rattle.def_kernel.specs.Trees.{IsTree}
 use Rattle.ev_reader.specs.Scopes.{first_fault}
 use Rattle.law_never_astray.specs.Covered.{Carries}
 use Rattle.law_never_astray.specs.CoveredLaws.{AreGiven, EndsCarrying}

@@ -8,7 +8,7 @@ use Rattle.def_machine.specs.Calls as calls
 use Rattle.def_kernel.specs.declared.node.Literal.{Literal}
 use Rattle.def_kernel.specs.declared.node.Node.{Node}
 use Rattle.def_kernel.specs.declared.node.Node.TheVariants.{Lit, Noun, Set, Def, Call, Sequence, If, Escape, Try, Finally, Hide, MatchBind, Object, Method, Matcher, Final, Var, Any, ListPattern, Via}
-use Rattle.law_kernel_form.specs.Trees.{Has}
+use Rattle.def_kernel.specs.Trees.{Has}
 use Rattle.law_never_astray.proofs.Leads.{AtStops, Leads, Nothing, lead_next}
 use Rattle.law_never_astray.proofs.CoveredNatives.{list_leads}
 

@@ -8,7 +8,7 @@ use Rattle.def_machine.specs.Scopes.{Body, Case, suits, method_of, matcher_in, m
 use Rattle.def_kernel.specs.declared.node.Node.{Node}
 use Rattle.def_kernel.specs.declared.node.Node.TheVariants.{Method, Matcher}
 use Rattle.def_kernel.specs.declared.shape.Kind.TheVariants.{Expression, Pattern, Member}
-use Rattle.law_kernel_form.specs.Trees.{Has}
+use Rattle.def_kernel.specs.Trees.{Has}
 use Rattle.law_never_astray.specs.Scoped.{Scopes, Scoped, AllScoped, is_literal, is_noun, is_set, is_def, is_call, is_sequence, is_choice, is_escape, is_escape_catch, is_try, is_finally, is_hide, is_match, is_object, is_method, is_matcher, is_final, is_var, is_any, is_list, is_via, no_more, one_more}
 use Rattle.law_never_astray.specs.Formed.{AllOf, Formed}
 use Rattle.law_never_astray.proofs.Parts.{formed_parts}

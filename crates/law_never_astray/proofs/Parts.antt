@@ -5,8 +5,8 @@ use Rattle.def_kernel.specs.declared.node.Node.{Node}
 use Rattle.def_kernel.specs.declared.node.Node.TheVariants.{Lit, Noun, Set, Def, Call, Sequence, If, Escape, Try, Finally, Hide, MatchBind, Object, Method, Matcher, Final, Var, Any, ListPattern, Via}
 use Rattle.def_kernel.specs.declared.shape.Kind.{Kind}
 use Rattle.def_kernel.specs.declared.shape.Kind.TheVariants.{Expression, Pattern, Member, Naming}
-use Rattle.law_kernel_form.specs.Trees.{Has, Tree, Row, literal, noun, set, def, def_exit, call, sequence, choice, escape, escape_catch, try_catch, finally, hide, match_bind, object, method, matcher, final, final_guarded, variable, variable_guarded, any, any_guarded, list, via, named, unnamed, none}
-use Rattle.law_kernel_form.specs.Trees as trees
+use Rattle.def_kernel.specs.Trees.{Has, Tree, Row, literal, noun, set, def, def_exit, call, sequence, choice, escape, escape_catch, try_catch, finally, hide, match_bind, object, method, matcher, final, final_guarded, variable, variable_guarded, any, any_guarded, list, via, named, unnamed, none}
+use Rattle.def_kernel.specs.Trees as trees
 use Rattle.law_never_astray.proofs.AcceptedTrees.{tree_ends, row_ends}
 use Rattle.law_never_astray.specs.Formed.{AllOf, FormedBy, FormedWithin, Formed}
 

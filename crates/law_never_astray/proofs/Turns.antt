@@ -7,7 +7,7 @@ use Rattle.def_machine.specs.Calls as calls
 use Rattle.def_machine.specs.Eval as eval
 use Rattle.def_kernel.specs.declared.node.Node.{Node}
 use Rattle.def_kernel.specs.declared.shape.Kind.TheVariants.{Expression}
-use Rattle.law_kernel_form.specs.Trees.{IsTree}
+use Rattle.def_kernel.specs.Trees.{IsTree}
 use Rattle.ev_reader.specs.Scopes.{first_fault}
 use Rattle.law_never_astray.proofs.AcceptedTrees.{accepted_scoped}
 use Rattle.law_machine.proofs.Machine.Walks.{walk_bind, walk_give}

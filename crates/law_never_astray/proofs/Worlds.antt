@@ -8,7 +8,7 @@ use Rattle.def_kernel.specs.declared.node.Node.{Node}
 use Rattle.def_run.specs.Draws.{draw_word}
 use Rattle.def_run.specs.World as world
 use Rattle.def_run.specs.World.{Script, Program, World, readied}
-use Rattle.law_kernel_form.specs.Trees.{IsTree}
+use Rattle.def_kernel.specs.Trees.{IsTree}
 use Rattle.ev_reader.specs.Scopes.{first_fault}
 use Rattle.law_fate.specs.Name.Names.{Named, AllOf, IsAmong, MessageOk, NounOk, Parts, Everywhere, names_in}
 use Rattle.law_fate.proofs.Name.Facts.{message_up, nouns_up}

@@ -6,7 +6,7 @@ use Rattle.def_machine.specs.Native.{safe_value}
 use Rattle.def_machine.specs.Scopes.{bound_in, members_of}
 use Rattle.def_kernel.specs.declared.node.Node.{Node}
 use Rattle.def_kernel.specs.declared.shape.Kind.TheVariants.{Member}
-use Rattle.law_kernel_form.specs.Trees.{Has}
+use Rattle.def_kernel.specs.Trees.{Has}
 use Rattle.ev_reader.specs.Scopes.{bound}
 use Rattle.law_never_astray.specs.Scoped.{Scopes, AllScoped}
 use Rattle.law_never_astray.specs.Formed.{AllOf, Formed}

@@ -7,7 +7,7 @@ use Rattle.def_machine.specs.Scopes.{bound_in, read_bound}
 use Rattle.def_machine.specs.Calls.{build, turn_value}
 use Rattle.def_machine.specs.Eval.{evaluator}
 use Rattle.def_kernel.specs.declared.node.Node.{Node}
-use Rattle.law_kernel_form.specs.Trees.{Has, IsTree}
+use Rattle.def_kernel.specs.Trees.{Has, IsTree}
 use Rattle.ev_reader.specs.Scopes.{bound, first_fault}
 use Rattle.law_never_astray.specs.Scoped.{Scopes}
 use Rattle.law_never_astray.specs.Formed.{AllOf}

@@ -3,7 +3,7 @@ use Rattle.std.specs.Prelude.{◌≡◌, ℕ, zero, List, ◌++◌, Some, None, 
 use Rattle.def_machine.specs.Values.{Words, Name}
 use Rattle.def_machine.specs.State.{Vat}
 use Rattle.def_run.specs.World.{Script, Program, Entry, World, Goes, begins, given, tree_at, open_from, steps_from}
-use Rattle.law_kernel_form.specs.Trees.{IsTree}
+use Rattle.def_kernel.specs.Trees.{IsTree}
 use Rattle.ev_reader.specs.Scopes.{first_fault}
 use Rattle.law_never_astray.specs.Covered.{Carries}
 use Rattle.law_never_astray.specs.CoveredLaws.{AreGiven}

@@ -5,7 +5,7 @@ use Rattle.def_kernel.specs.declared.node.Node.TheVariants.{Lit, Noun, Set, Def,
 use Rattle.def_kernel.specs.declared.shape.Kind.{Kind}
 use Rattle.def_kernel.specs.declared.shape.Kind.TheVariants.{Expression, Pattern, Member, Naming}
 use Rattle.def_machine.specs.State.{WhereSome}
-use Rattle.law_kernel_form.specs.Trees.{Has}
+use Rattle.def_kernel.specs.Trees.{Has}
 
 -- what holds of each of a list
 abbrev pub AllOf : {A : Type 0} → (A → Type 0) → List A → Type 0

@@ -3,7 +3,7 @@ use Rattle.std.specs.Prelude.{◌≡◌, ℕ, Bool, true, false, List, [], ◌�
 use Rattle.def_kernel.specs.declared.node.Literal.{Literal}
 use Rattle.def_kernel.specs.declared.node.Node.{Node}
 use Rattle.def_kernel.specs.declared.node.Node.TheVariants.{Lit, Noun, Set, Def, Call, Sequence, If, Escape, Try, Finally, Hide, MatchBind, Object, Method, Matcher, Final, Var, Any, ListPattern, Via}
-use Rattle.law_kernel_form.specs.Trees.{Has, IsTree}
+use Rattle.def_kernel.specs.Trees.{Has, IsTree}
 use Rattle.ev_reader.specs.declared.scope.Binding.{Binding}
 use Rattle.ev_reader.specs.Scopes.{bound, is_bound_here, with_name_here, with_given, first_fault}
 

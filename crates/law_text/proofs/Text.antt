@@ -5,6 +5,7 @@ pub mod Quotes
 pub mod Spelled
 pub mod Split
 pub mod Told
+pub mod Claims
 pub mod Named
 pub mod Valued
 pub mod Kinded

@@ -11,7 +11,9 @@ pub mod RenamedFits
 pub mod RenamedSame
 pub mod LinesAgain
 pub mod NotesAgain
+pub mod BytesAgain
 pub mod EventsAgain
+pub mod ByHand
 pub mod NamesFound
 pub mod WholeAgain
 pub mod ScanLemmas

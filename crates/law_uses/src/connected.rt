@@ -6,7 +6,7 @@ ghost use Rattle.law_uses.specs.Connectivity.Liveness.{WhatIsMadeDies};
 ghost use Rattle.law_uses.specs.Connectivity.Runs.{NothingLiveInRuns};
 ghost use Rattle.law_uses.specs.Connectivity.Natives.{DataAddsNothing};
 ghost use Rattle.law_uses.specs.Connectivity.Nesting.{CallsNest};
-ghost use Rattle.law_uses.specs.Connectivity.ConnectedLaws.{AuditIsConnected, CoercingIsConnected, EscapeIsConnected, HandedIsConnected, KeptIsNotConnected, KnownIsLeast, KnownStays, LeakIsNotConnected, ProgramIsConnected, StrayIsNotConnected};
+ghost use Rattle.law_uses.specs.Connectivity.ConnectedLaws.{AuditIsConnected, CoercingIsConnected, EscapeIsConnected, HandedIsConnected, KeptIsNotConnected, KnownIsLeast, KnownStays, LeakIsNotConnected, PartedIsNotConnected, ProgramIsConnected, RinglessIsNotConnected, StrayIsNotConnected};
 
 /// What an activation knows is the least that initial conditions, endowment, parenthood and
 /// introduction give it: what holds of all that these give holds of all that it knows.
@@ -44,6 +44,16 @@ pub fn leak_is_not_connected()
 /// null.
 pub fn stray_is_not_connected()
     ensures { StrayIsNotConnected }
+{}
+
+/// A history is not connected in which the answer of a turn breaks with `cycle`, where the turn gave an object.
+pub fn ringless_is_not_connected()
+    ensures { RinglessIsNotConnected }
+{}
+
+/// Nor is one in which it breaks with `partition`, where the turn gave null and the cut of some vat was noticed.
+pub fn parted_is_not_connected()
+    ensures { PartedIsNotConnected }
 {}
 
 /// The opening turn of a small program is connected, in which an object uses a capture, an argument

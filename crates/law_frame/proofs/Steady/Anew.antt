@@ -18,7 +18,7 @@ use Rattle.law_frame.proofs.Local.WholeRuns.{each_step_mirrors}
 use Rattle.def_run.specs.Vats.{Member, connection_for, heard_in, heard_on}
 use Rattle.def_run.specs.Numbers as numbers
 use Rattle.def_run.specs.Numbers.{Vats, Runs, Way, Frame, Brought, way_at, with_way, left_by}
-use Rattle.ev_wire.specs.Asking.{AskAnew}
+use Rattle.def_run.specs.Asking.{AskAnew}
 use Rattle.law_frame.specs.Steady.Statements.{TurnAsksAnew, EntryAsksAnew, RunsAreSteady, LawfulRunsAreSteady}
 use Rattle.law_frame.proofs.Steady.Abroad.{AllAbroad, opened_abroad, stepped_abroad}
 use Rattle.law_frame.proofs.Steady.Asks.{GoesOut, ask_anew, sound}

@@ -15,8 +15,8 @@ use Rattle.law_frame.specs.Frame.Together.{TablesMay, changed_tables}
 use Rattle.law_frame.specs.Frame.OwnFrames.{refers}
 use Rattle.def_run.specs.Vats.{Member, connection_for, unconnected, sight_for, is_own}
 use Rattle.def_run.specs.Numbers.{Vats, all_written, written_on}
-use Rattle.ev_wire.specs.Asking.{AreNew, AskAnew}
-use Rattle.ev_wire.specs.Standing.{among}
+use Rattle.def_run.specs.Asking.{AreNew, AskAnew}
+use Rattle.def_run.specs.Seeing.{among}
 use Rattle.law_frame.specs.Steady.Statements.{AsksOnce, HostsAsked}
 use Rattle.law_frame.proofs.Steady.Hearing.{set_at, written_or, imports_stay, unlike}
 use Rattle.law_frame.proofs.Steady.Owns.{among_found, own_by_host}

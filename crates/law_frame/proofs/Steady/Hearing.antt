@@ -16,7 +16,7 @@ use Rattle.law_frame.specs.Frame.Together.{TablesMay, changed_tables}
 use Rattle.law_frame.specs.Frame.OwnFrames.{refers}
 use Rattle.def_run.specs.Vats.{Member, connection_for, unconnected, heard_on, asked_by, sight_for}
 use Rattle.def_run.specs.Numbers.{Vats, all_written, written_on}
-use Rattle.ev_wire.specs.Steady.{AllOwn}
+use Rattle.def_run.specs.Steady.{AllOwn}
 use Rattle.law_frame.proofs.Steady.Owns.{own_by_host}
 use Rattle.law_frame.proofs.Steady.Went.{Grows, Pair, is, now, table}
 

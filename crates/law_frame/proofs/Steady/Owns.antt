@@ -19,7 +19,7 @@ use Rattle.law_frame.specs.Local.Mirrors.{Mirrors, VatMirrors}
 use Rattle.law_frame.specs.Local.Writing.{PutsSo}
 use Rattle.law_frame.proofs.Local.Sights.{own_so, found_refers, refers_found, is_refers}
 use Rattle.law_frame.proofs.Local.Steps.{more_found}
-use Rattle.ev_wire.specs.Standing.{among, has_number, SeesAsBefore}
+use Rattle.def_run.specs.Seeing.{among, has_number, SeesAsBefore}
 
 -- ---- what stands on a connection has a name there
 

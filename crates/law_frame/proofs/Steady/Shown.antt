@@ -20,7 +20,7 @@ use Rattle.def_run.specs.Numbers.{Vats, Way, Frame, way_at}
 use Rattle.law_frame.specs.Local.Mirrors.{Mirrors}
 use Rattle.law_frame.proofs.Local.Positions.{there_is}
 use Rattle.law_frame.proofs.Local.Ways.{MayMirror, at_mirrors}
-use Rattle.ev_wire.specs.Steady.{ShownAlike}
+use Rattle.def_run.specs.Steady.{ShownAlike}
 use Rattle.law_frame.specs.Steady.Statements.{RunsAreShownSteadily}
 use Rattle.law_frame.proofs.Steady.Draws.{drawn_on, entry_draws, opening_draws}
 use Rattle.law_frame.proofs.Steady.Reached.{opens_mirror, steps_mirror}

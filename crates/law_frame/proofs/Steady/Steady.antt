@@ -18,8 +18,8 @@ use Rattle.law_frame.proofs.Local.Ways.{MayMirror, at_mirrors, way_same, way_oth
 use Rattle.def_run.specs.Vats.{Member, connection_for, asked_by, heard_in}
 use Rattle.def_run.specs.Numbers as numbers
 use Rattle.def_run.specs.Numbers.{Vats, Course, Runs, Way, Frame, Addressed, Brought, way_at, with_way, left_by}
-use Rattle.ev_wire.specs.Standing.{SeesAsBefore}
-use Rattle.ev_wire.specs.Steady.{AllOwn, TurnIsSteady, EntryIsSteady}
+use Rattle.def_run.specs.Seeing.{SeesAsBefore}
+use Rattle.def_run.specs.Steady.{AllOwn, TurnIsSteady, EntryIsSteady}
 use Rattle.law_frame.specs.Steady.Statements.{TurnAsksAnew, EntryAsksAnew, RunsAreSteadyWhereTheyAskAnew}
 use Rattle.law_frame.proofs.Steady.Hosted.{Hosted, Apart}
 use Rattle.law_frame.proofs.Steady.Hearing.{imports_of, answers_of, imports_heard, answers_heard}

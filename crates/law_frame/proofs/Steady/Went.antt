@@ -27,7 +27,7 @@ use Rattle.law_frame.specs.Local.Mirrors.{Mirrors, VatMirrors}
 use Rattle.law_frame.specs.Local.Runs.{EachStepMirrors}
 use Rattle.law_frame.proofs.Local.Positions.{there_is}
 use Rattle.law_frame.proofs.Local.Steps.{set_there}
-use Rattle.ev_wire.specs.Standing.{SeesAsBefore}
+use Rattle.def_run.specs.Seeing.{SeesAsBefore}
 use Rattle.law_frame.specs.Steady.Statements.{AsksOnce, EachAsksOnce, HostsAsked, EachHostsAsked}
 use Rattle.law_frame.proofs.Steady.Hosted.{Hosted, Apart, hosted_so, apart_so}
 use Rattle.law_frame.proofs.Steady.Owns.{sees_as_before}

@@ -15,8 +15,8 @@ use Rattle.law_fate.specs.Fates.WholeFateRuns.{KnowsVats}
 use Rattle.law_reference.specs.Reference.ApartAsking.{InRunsBehindCuts}
 use Rattle.law_frame.specs.Local.Joined.{IsLawful}
 use Rattle.law_frame.specs.Local.Runs.{EachStepMirrors}
-use Rattle.ev_wire.specs.Asking.{AskAnew}
-use Rattle.ev_wire.specs.Steady.{ShownAlike, RunsSteadily}
+use Rattle.def_run.specs.Asking.{AskAnew}
+use Rattle.def_run.specs.Steady.{ShownAlike, RunsSteadily}
 
 -- what was told stays as it was told, in each opening turn and in each entry
 pub record IsShownSteadily (script : Script) : Type 0 where

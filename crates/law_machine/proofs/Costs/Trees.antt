@@ -8,7 +8,7 @@ use Rattle.def_machine.specs.Free as free
 use Rattle.def_kernel.specs.declared.node.Node.{Node}
 use Rattle.def_kernel.specs.declared.node.Node.TheVariants.{Lit, Noun, Set, Def, Call, Sequence, If, Escape, Try, Finally, Hide, MatchBind, Object, Method, Matcher, Final, Var, Any, ListPattern, Via}
 use Rattle.def_kernel.specs.declared.shape.Kind.{Kind}
-use Rattle.law_kernel_form.specs.Trees.{Has, Tree, Row, IsTree, literal, noun, set, def, def_exit, call, sequence, choice, escape, escape_catch, try_catch, finally, hide, match_bind, object, method, matcher, final, final_guarded, variable, variable_guarded, any, any_guarded, list, via, named, unnamed, none, one_more}
+use Rattle.def_kernel.specs.Trees.{Has, Tree, Row, IsTree, literal, noun, set, def, def_exit, call, sequence, choice, escape, escape_catch, try_catch, finally, hide, match_bind, object, method, matcher, final, final_guarded, variable, variable_guarded, any, any_guarded, list, via, named, unnamed, none, one_more}
 use Rattle.law_machine.proofs.Costs.Calls.{ends_in}
 
 -- ---- the parts of a node, in the order in which they stand in the tree

@@ -5,7 +5,7 @@ use Rattle.std.specs.List.{AllByRecursion}
 use Rattle.def_machine.specs.Values.{Name}
 use Rattle.def_machine.specs.State.{Vat}
 use Rattle.def_run.specs.World.{Script, Program, Run, Goes, Stopped, run}
-use Rattle.law_kernel_form.specs.Trees.{IsTree}
+use Rattle.def_kernel.specs.Trees.{IsTree}
 use Rattle.law_machine.specs.Costs.Sizes.{made}
 use Rattle.law_machine.specs.Costs.Laws.{step_price, unit_price, comes_to, AreTrees, FuelPays, IsModest, NumbersAreLow}
 use Rattle.law_machine.proofs.Costs.Costs.{Prices, paid}

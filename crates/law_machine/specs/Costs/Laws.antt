@@ -4,7 +4,7 @@ use Rattle.std.specs.List.{AllByRecursion}
 use Rattle.def_machine.specs.Values.{Name}
 use Rattle.def_machine.specs.State.{Vat}
 use Rattle.def_run.specs.World.{Script, Program, World, Run, Goes, Stopped, run}
-use Rattle.law_kernel_form.specs.Trees.{IsTree}
+use Rattle.def_kernel.specs.Trees.{IsTree}
 use Rattle.law_machine.specs.Costs.Sizes.{made}
 
 -- What a step makes at most beside what its fuel pays for, where there is so much fuel, and trees have so many nodes.

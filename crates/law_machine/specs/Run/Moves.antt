@@ -1,23 +1,12 @@
 -- The moves of a world: openings and entries of honest vats, notes that come to hostile vats, and what hostile vats say.
-use Rattle.std.specs.Prelude.{◌≡◌, ℕ, zero, Bool, true, false, List, [], ◌∷◌, ◌++◌, Some, None, length, slice_get}
-use Rattle.def_machine.specs.Values.{Name, Root, IsAnswer, host_of}
-use Rattle.def_machine.specs.State.{Made, Message, Note, Deliver, Vat, Gives, Act, ◌>>=◌, ◌>>◌, give, come, new_thing, new_promise, new_message, new_lone_message, draw, send_out}
-use Rattle.def_machine.specs.Arrive.{New, learn_name, learn_message}
+use Rattle.std.specs.Prelude.{◌≡◌, ℕ, zero, false, List, [], ◌∷◌, ◌++◌, Some, None, length, slice_get}
+use Rattle.def_machine.specs.Values.{Name, Root}
+use Rattle.def_machine.specs.State.{Message, Note, Vat, Gives, send_out}
 use Rattle.law_machine.specs.Machine.Steps.{Step, Opens as Starts, Takes, Receives, Notices, does}
+pub use Rattle.def_run.specs.Deeds.{Deed, NewObject, NewPromise, NewMessage, NewLone, NewDraw, Learns}
+unfoldable pub use Rattle.def_run.specs.Deeds.{perform, hear_message, hear}
 use Rattle.def_run.specs.Wire.{Connected}
-use Rattle.def_run.specs.World.{Script, Program, Entry, Turn, Carry, CutLink, NoticeLink, Event, Carried, Link, World, Goes, with_link, with_notes, link_at, push_all, events_of, connections_after, next_frame, heard_by, put_at, readied, begins, names, names_of, read_name, read_note, given, tree_at, open_vat, open_from, step, steps_from}
-
--- what the record of a hostile vat does, so as to have names for what it says
-pub data Deed : Type 0 where
-  NewObject : Deed
-  NewPromise : Deed
-  -- a message, with its answer at that host
-  NewMessage : ℕ → Deed
-  -- a message without an answer
-  NewLone : Deed
-  NewDraw : Deed
-  -- a name of which it was told
-  Learns : Name → Deed
+use Rattle.def_run.specs.World.{Script, Program, Entry, Turn, Carry, CutLink, NoticeLink, Event, Carried, Link, World, Goes, with_link, with_notes, link_at, push_all, events_of, connections_after, next_frame, heard_by, put_at, readied, begins, names, names_of, read_note, given, tree_at, open_vat, open_from, step, steps_from}
 
 -- the world in which a vat went on to t: its lines behind those, its notes on its links
 unfoldable pub went : ℕ → World → List Event → Vat Name → World
@@ -39,30 +28,12 @@ unfoldable pub left_link : ℕ → ℕ → ℕ → Note Name → List (Note Name
 left_link k a v n ns w = record w { links = with_link (with_notes ns) a v w.links; history = w.history ++ Carried k a v n (next_frame a v w.connections) ∷ [] }
 
 module _ (script : Script) where
-  unfoldable pub perform : ℕ → Deed → Act Name (Unit {0})
-  perform v NewObject = new_thing (Made zero [] []) >> give tt
-  perform v NewPromise = new_promise (names script v) >> give tt
-  perform v (NewMessage h) = new_message (names script v) h >> give tt
-  perform v NewLone = new_lone_message (names script v) >> give tt
-  perform v NewDraw = draw (names script v) >> give tt
-  perform v (Learns n) = λ s. (learn_name (names script v) (read_name (names_of s) n) >> give tt) s
-
-  -- a message comes, and its answer where it asks for one
-  unfoldable pub hear_message : ℕ → Name → Bool → Act Name (Unit {0})
-  hear_message v m true = learn_message (names script v) (New m (host_of m)) >>= (λ id. come (names script v) (IsAnswer v id) v >> give tt)
-  hear_message v m false = learn_message (names script v) (New m (host_of m)) >> give tt
-
-  -- a note comes to a hostile vat, which hosts the answer of a message that comes and asks for one
-  unfoldable pub hear : ℕ → Note Name → Act Name (Unit {0})
-  hear v (Deliver d x verb ys) = hear_message v d.message d.asks
-  hear v _ = give tt
-
   -- which vats are hostile, which notices may be, and what hostile vats may learn and say
   module _ (Hostile : ℕ → Type 0) (MayNotice : World → ℕ → ℕ → Type 0) (May : World → ℕ → Vat Name → Deed → Type 0) (Lawful : World → ℕ → ℕ → Vat Name → Note Name → Type 0) where
     -- one deed after another
     abbrev pub Performs : World → ℕ → List Deed → Vat Name → Vat Name → Type 0
     Performs w v [] s t = s ≡ t
-    Performs w v (d ∷ ds) s t = (r : Vat Name) × May w v s d × (perform v d s ≡ Gives tt r) × Performs w v ds r t
+    Performs w v (d ∷ ds) s t = (r : Vat Name) × May w v s d × (perform script v d s ≡ Gives tt r) × Performs w v ds r t
 
     abbrev pub IsHonest : World → Entry → Type 0
     IsHonest w (Turn v) = Hostile v → ⊥
@@ -76,7 +47,7 @@ module _ (script : Script) where
       -- an entry, other than of hostile vats
       Stepped : (entry : Entry) (k : ℕ) → IsHonest w entry → step script entry k w ≡ Goes y → Move w y
       -- a note comes to a hostile vat, which answers nothing
-      Swallowed : (k a v : ℕ) (l : Link) (n : Note Name) (ns : List (Note Name)) (s t : Vat Name) → Hostile v → link_at a v w.links ≡ Some l → l.cut ≡ false → l.notes ≡ n ∷ ns → slice_get w.vats v ≡ Some s → hear v n (readied w s) ≡ Gives tt t
+      Swallowed : (k a v : ℕ) (l : Link) (n : Note Name) (ns : List (Note Name)) (s t : Vat Name) → Hostile v → link_at a v w.links ≡ Some l → l.cut ≡ false → l.notes ≡ n ∷ ns → slice_get w.vats v ≡ Some s → hear script v n (readied w s) ≡ Gives tt t
           → y ≡ went v (without a v ns w) (Carried k a v n (next_frame a v w.connections) ∷ []) t → Move w y
       -- a hostile vat says n to u: its record makes the names, and the note stands on its link
       Says : (v u : ℕ) (s t r : Vat Name) (ds : List Deed) (n : Note Name) → Hostile v → slice_get w.vats v ≡ Some s → Performs w v ds (readied w s) t → Lawful w v u t n → send_out u n t ≡ Gives tt r → y ≡ went v w [] r → Move w y
@@ -168,5 +139,5 @@ MovesLift = (script : Script) (Hostile : ℕ → Type 0) (MayNotice : World → 
 
 -- opens each definition of this file
 unfoldable pub opened_moves : Unit {0}
-unfolding went without left_link hear hear_message perform
+unfolding went without left_link perform hear_message hear
 opened_moves = tt

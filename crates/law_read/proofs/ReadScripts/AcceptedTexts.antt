@@ -4,7 +4,7 @@ use Rattle.std.specs.Prelude.{slice_get}
 use Rattle.std.proofs.lemmas.List.Elements.{All-head, All-tail}
 use Rattle.def_kernel.specs.declared.node.Node.{Node}
 use Rattle.def_run.specs.World.{Program}
-use Rattle.law_kernel_form.specs.Trees.{IsTree}
+use Rattle.def_kernel.specs.Trees.{IsTree}
 use Rattle.law_schedule.specs.Scripts.{machine_entry, machine_vats, machine_script}
 use Rattle.law_read.proofs.ReadScripts.Vats.{vats_named}
 use Rattle.law_text.specs.Text.Feeds.{AllOf}

@@ -3,7 +3,7 @@ use Rattle.std.proofs.Common.{ℕ, zero, suc, ◌+◌, ◌≤◌, ◌<◌, ◌^�
 use Rattle.std.specs.List.{AllByRecursion}
 use Rattle.def_kernel.specs.declared.node.Node.{Node}
 use Rattle.def_run.specs.World.{Program}
-use Rattle.law_kernel_form.specs.Trees.{IsTree}
+use Rattle.def_kernel.specs.Trees.{IsTree}
 use Rattle.law_machine.specs.Costs.Laws.{IsModest}
 use Rattle.law_machine.proofs.Costs.Whole.{low}
 use Rattle.law_schedule.specs.Scripts.{machine_vats, machine_script}

@@ -9,7 +9,7 @@ use Rattle.def_machine.specs.State.{Bound, Fixed}
 use Rattle.def_machine.specs.Free.{same_words}
 use Rattle.def_machine.specs.Scopes.{bound_in, any_guard}
 use Rattle.def_run.specs.World.{Program, given, name_at}
-use Rattle.law_kernel_form.specs.Trees.{IsTree}
+use Rattle.def_kernel.specs.Trees.{IsTree}
 use Rattle.ev_reader.specs.Scopes.{first_fault}
 use Rattle.ev_script.specs.Rules.{IsEntryOf, IsAdmitted}
 use Rattle.ev_script.specs.declared.script.Entry.{Entry}

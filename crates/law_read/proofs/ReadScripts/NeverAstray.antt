@@ -3,7 +3,7 @@ use Rattle.std.proofs.Common.{◌≡◌, ℕ, zero, suc, List, [], ◌∷◌, So
 use Rattle.std.specs.Str.{IsUtf8}
 use Rattle.std.proofs.lemmas.List.Elements.{All-head, All-tail}
 use Rattle.def_kernel.specs.declared.node.Node.{Node}
-use Rattle.law_kernel_form.specs.Trees.{IsTree}
+use Rattle.def_kernel.specs.Trees.{IsTree}
 use Rattle.ev_reader.specs.Scopes.{first_fault}
 use Rattle.ev_script.specs.Script.{read}
 use Rattle.ev_script.specs.declared.script.Script.{Script}

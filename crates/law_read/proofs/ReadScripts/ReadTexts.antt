@@ -3,7 +3,7 @@ use Rattle.std.proofs.Common.{◌≡◌, ℕ, zero, suc, ◌*◌, ◌^◌, ◌�
 use Rattle.std.specs.Str.{IsUtf8}
 use Rattle.std.proofs.lemmas.List.Elements.{All-head, All-tail}
 use Rattle.def_kernel.specs.declared.node.Node.{Node}
-use Rattle.law_kernel_form.specs.Trees.{IsTree}
+use Rattle.def_kernel.specs.Trees.{IsTree}
 use Rattle.law_text.specs.Text.Feeds.{AllOf}
 use Rattle.law_text.specs.RunTexts.Laws.{IsShort}
 use Rattle.ev_script.specs.Vats.{is_vat_name}

@@ -1,5 +1,5 @@
 -- The words of the line of an event, and the names that are found in it.
-use Rattle.std.proofs.Common.{◌≡◌, ◌<◌, ◌++◌, ◌^◌, ℕ, true, List, [], ◌∷◌, Option, Some, None, length, refl, sym, ◌∙◌, ap, subst, arith}
+use Rattle.std.proofs.Common.{◌≡◌, ◌<◌, ◌++◌, ◌^◌, ℕ, true, false, List, [], ◌∷◌, Option, Some, None, length, refl, sym, ◌∙◌, ap, subst, arith}
 use Rattle.std.specs.Prelude.{codes, decimal, is_some}
 use Rattle.std.specs.Str.{IsUtf8}
 use Rattle.std.proofs.lemmas.List.{append-nil}
@@ -10,21 +10,27 @@ use Rattle.def_event.specs.declared.shown.Shown.{Shown}
 use Rattle.def_event.specs.declared.note.ShownNote.{ShownNote}
 use Rattle.def_event.specs.declared.note.ShownNote.TheVariants.{Deliver, DeliverOnly, Settled, Elsewhere, Open as Opens, Ask, Shorten}
 use Rattle.def_event.specs.declared.event.Event.{Event}
-use Rattle.def_event.specs.declared.event.Event.TheVariants.{Open, Turn, Idle, Carry, Cut, Notice, Frame, Take, Call, Back, Thrown, Gone, Got, Slot as SlotMade, Read, Wrote, List as ListMade, Arrived, Ejector, Audition, Promise, Made, Send, SendOnly, When, Done, Threw, Settle, Wait, View, LostCut, LostBroken, LeftQueue, LeftHeld, LeftWait, LeftLink, End}
-use Rattle.def_event.specs.Lines.{begun_words, note_words, part, vat, words}
+use Rattle.def_event.specs.declared.event.Event.TheVariants.{Open, Turn, Idle, Carry, Cut, Notice, Frame, Take, Call, Back, Thrown, Gone, Got, Slot as SlotMade, Read, Wrote, List as ListMade, Arrived, Ejector, Audition, Promise, Made, Send, SendOnly, When, Done, Threw, Settle, Wait, View, LostCut, LostBroken, LeftQueue, LeftHeld, LeftWait, LeftLink, End, Raw}
+use Rattle.def_event.specs.declared.raw.RawLine.{RawLine}
+use Rattle.def_event.specs.declared.raw.RawLine.TheVariants.{Inject, InjectCut, Malformed, Bytes, LeftBytes}
+use Rattle.def_event.specs.Lines.{begun_words, hex, note_words, part, raw_words, vat, words}
+use Rattle.ev_script.specs.Vats.{is_lower_or_digit}
 use Rattle.def_event.specs.Lines as lines
 use Rattle.law_text.specs.Text.Feeds.{AllOf}
 use Rattle.ev_trace_words.specs.Laws.{AreNames}
 use Rattle.ev_trace_words.specs.declared.words.Quote.TheVariants.{Outside}
-use Rattle.ev_trace_words.proofs.Printed.{count_again, vat_letters}
+use Rattle.ev_trace_words.proofs.Hexed.{hex_lower}
+use Rattle.ev_trace_words.proofs.Printed.{count_again, letters_too, vat_letters}
 use Rattle.ev_trace_lines.specs.Events.{Words}
 use Rattle.ev_trace.specs.Naming.{line_vats, note_vats, pair_vats, entry_vats, scan, scanned}
-use Rattle.law_trace.specs.Trace.Readable.{AreValues, Below, IsMessage, IsNote, IsPassed, IsRead, IsThing, IsValue}
+use Rattle.law_trace.specs.Trace.Readable.{AreBytes, AreValues, Below, IsMessage, IsNote, IsPassed, IsRawRead, IsRead, IsThing, IsValue}
+use Rattle.law_trace.proofs.Trace.BytesAgain.{each_byte}
 use Rattle.law_trace.proofs.Trace.IntegersAgain.{digits_alone, no_mark, not_word}
 use Rattle.law_trace.proofs.Trace.ScanLemmas.{run_on}
 use Rattle.law_trace.proofs.Trace.WordsAgain.{fits_as}
-use Rattle.law_read.proofs.ReadTexts.Quiet.{In, rooted}
-use Rattle.law_read.proofs.ReadTexts.Tells.{AreVats, Tells, activation, fixed, list_word, message, name, number, passed, slot_word, stands, value, vat_word, verb}
+use Rattle.law_read.proofs.ReadTexts.Quiet.{In, is_quiet, quiet_by, rooted}
+use Rattle.law_read.proofs.ReadTexts.Utf8.{is_low}
+use Rattle.law_read.proofs.ReadTexts.Tells.{AreVats, Tells, activation, fixed, letter_low, list_word, message, name, number, passed, slot_word, stands, value, vat_word, verb, weaker}
 
 pub all_join : {A : Type 0} (P : A → Type 0) (xs ys : List A) → AllOf P xs → AllOf P ys → AllOf P (xs ++ ys)
 all_join P [] ys h k = k
@@ -69,9 +75,9 @@ module _ (names : List (List ℕ)) (are : AreNames names) where
   in_words [] t = tt
   in_words (w ∷ ws) t = join (In w) (scanned ws) (in_word w t.0) (in_words ws t.1)
 
-  alone : (v : ℕ) → v < length names → Vats (scan Outside true [] (vat names v))
+  alone : (v : ℕ) → v < length names → Vats (scan Outside true false [] (vat names v))
   alone v h =
-      subst (λ w. Vats (scan Outside true [] w)) (append-nil (vat names v)) (subst Vats (sym (run_on true [] (vat names v) [] (vat_letters names v are.lawful) ∙ rooted (vat names v) [] tt)) (stands names v h, none_found))
+      subst (λ w. Vats (scan Outside true false [] w)) (append-nil (vat names v)) (subst Vats (sym (run_on true [] (vat names v) [] (vat_letters names v are.lawful) ∙ rooted (vat names v) [] tt)) (stands names v h, none_found))
 
   -- ---- values
 
@@ -106,12 +112,12 @@ module _ (names : List (List ℕ)) (are : AreNames names) where
       let d : Tell (lines.name names n ∷ lines.value names x ∷ []) = (name names are n h.0, (passed names are 100 x h.1, tt)) in ((fixed names are (codes "settled") refl refl, d), in_words (lines.name names n ∷ lines.value names x ∷ []) d)
   note (Elsewhere n v) h =
       let first = name names are n h.0 in
-      ((fixed names are (codes "elsewhere") refl refl, (first, (vat_word names are v, tt))), join (In (lines.name names n)) (scan Outside true [] (vat names v) ++ []) (in_word (lines.name names n) first) (join (scan Outside true [] (vat names v)) [] (alone v h.1) tt))
+      ((fixed names are (codes "elsewhere") refl refl, (first, (vat_word names are v, tt))), join (In (lines.name names n)) (scan Outside true false [] (vat names v) ++ []) (in_word (lines.name names n) first) (join (scan Outside true false [] (vat names v)) [] (alone v h.1) tt))
   note (Opens p q) h =
       let d : Tell (lines.name names p ∷ lines.name names q ∷ []) = (name names are p h.0, (name names are q h.1, tt)) in ((fixed names are (codes "open") refl refl, d), in_words (lines.name names p ∷ lines.name names q ∷ []) d)
   note (Ask n v) h =
       let first = name names are n h.0 in
-      ((fixed names are (codes "ask") refl refl, (first, (vat_word names are v, tt))), join (In (lines.name names n)) (scan Outside true [] (vat names v) ++ []) (in_word (lines.name names n) first) (join (scan Outside true [] (vat names v)) [] (alone v h.1) tt))
+      ((fixed names are (codes "ask") refl refl, (first, (vat_word names are v, tt))), join (In (lines.name names n)) (scan Outside true false [] (vat names v) ++ []) (in_word (lines.name names n) first) (join (scan Outside true false [] (vat names v)) [] (alone v h.1) tt))
   note (Shorten p q) h =
       let d : Tell (lines.name names p ∷ lines.name names q ∷ []) = (name names are p h.0, (name names are q h.1, tt)) in ((fixed names are (codes "shorten") refl refl, d), in_words (lines.name names p ∷ lines.name names q ∷ []) d)
 
@@ -133,17 +139,38 @@ module _ (names : List (List ℕ)) (are : AreNames names) where
   of_entry : (k : ℕ) (word : List ℕ) (rest : Words) → k < 2 ^ 64 → Tells names are word → Tell rest → Vats (pair_vats rest) → TellsLine (decimal k ∷ word ∷ rest)
   of_entry k word rest h t d f = ((number names are k, (t, d)), subst Vats (sym (entry_names k (word ∷ rest) h)) f)
 
-  pair : (v w : ℕ) (ns : List (List ℕ)) → v < length names → w < length names → Vats ns → Vats (scan Outside true [] (vat names v) ++ (scan Outside true [] (vat names w) ++ ns))
-  pair v w ns h k d = join (scan Outside true [] (vat names v)) (scan Outside true [] (vat names w) ++ ns) (alone v h) (join (scan Outside true [] (vat names w)) ns (alone w k) d)
+  pair : (v w : ℕ) (ns : List (List ℕ)) → v < length names → w < length names → Vats ns → Vats (scan Outside true false [] (vat names v) ++ (scan Outside true false [] (vat names w) ++ ns))
+  pair v w ns h k d = join (scan Outside true false [] (vat names v)) (scan Outside true false [] (vat names w) ++ ns) (alone v h) (join (scan Outside true false [] (vat names w)) ns (alone w k) d)
 
-  host_first : (v : ℕ) (rest : Words) → v < length names → Tell rest → Vats (scan Outside true [] (vat names v) ++ scanned rest)
-  host_first v rest h t = join (scan Outside true [] (vat names v)) (scanned rest) (alone v h) (in_words rest t)
+  host_first : (v : ℕ) (rest : Words) → v < length names → Tell rest → Vats (scan Outside true false [] (vat names v) ++ scanned rest)
+  host_first v rest h t = join (scan Outside true false [] (vat names v)) (scanned rest) (alone v h) (in_words rest t)
+
+  -- ---- frames that no vat judged
+
+  digits : (bytes : List ℕ) → AreBytes bytes → Tells names are (hex bytes)
+  digits bytes h =
+      let each = letters_too (hex bytes) (hex_lower bytes (each_byte bytes h.1)) in
+      fixed names are (hex bytes) (weaker is_lower_or_digit is_low letter_low (hex bytes) each) (weaker is_lower_or_digit is_quiet (λ b i. quiet_by is_lower_or_digit b refl i) (hex bytes) each)
+
+  raw_bytes : (v w : ℕ) (bytes : List ℕ) → v < length names → w < length names → AreBytes bytes
+      → Tell (vat names v ∷ vat names w ∷ codes "bytes" ∷ hex bytes ∷ []) × Vats (pair_vats (vat names v ∷ vat names w ∷ codes "bytes" ∷ hex bytes ∷ []))
+  raw_bytes v w bytes h k l =
+      let d = digits bytes l in
+      ((vat_word names are v, (vat_word names are w, (fixed names are (codes "bytes") refl refl, (d, tt)))), pair v w (note_vats (codes "bytes" ∷ hex bytes ∷ [])) h k (in_words (hex bytes ∷ []) (d, tt)))
+
+  raw : (l : RawLine) → IsRawRead (Below names) l → TellsLine (raw_words names l)
+  raw (Inject k v w bytes) h = absurd h
+  raw (InjectCut k v w) h = absurd h
+  raw (Malformed k v w place) h = absurd h
+  raw (Bytes k v w bytes) h =
+      let d = raw_bytes v w bytes h.1 h.2 h.3 in of_entry k (codes "carry") (vat names v ∷ vat names w ∷ codes "bytes" ∷ hex bytes ∷ []) h.0 (fixed names are (codes "carry") refl refl) d.0 d.1
+  raw (LeftBytes v w bytes) h = let d = raw_bytes v w bytes h.0 h.1 h.2 in ((fixed names are (codes "left") refl refl, (fixed names are (codes "link") refl refl, d.0)), d.1)
 
   -- ---- events
 
   pub line : (e : Event) → IsRead (Below names) e → TellsLine (words names e)
-  line (Open v) h = ((fixed names are (codes "open") refl refl, (vat_word names are v, tt)), join (scan Outside true [] (vat names v)) [] (alone v h) tt)
-  line (Turn k v) h = of_entry k (codes "turn") (vat names v ∷ []) h.0 (fixed names are (codes "turn") refl refl) (vat_word names are v, tt) (join (scan Outside true [] (vat names v)) [] (alone v h.1) tt)
+  line (Open v) h = ((fixed names are (codes "open") refl refl, (vat_word names are v, tt)), join (scan Outside true false [] (vat names v)) [] (alone v h) tt)
+  line (Turn k v) h = of_entry k (codes "turn") (vat names v ∷ []) h.0 (fixed names are (codes "turn") refl refl) (vat_word names are v, tt) (join (scan Outside true false [] (vat names v)) [] (alone v h.1) tt)
   line (Idle k) h = of_entry k (codes "idle") [] h (fixed names are (codes "idle") refl refl) tt tt
   line (Carry k v w n) h =
       let d = note n h.3 in
@@ -207,3 +234,4 @@ module _ (names : List (List ℕ)) (are : AreNames names) where
       let d = note n h.2 in
       ((fixed names are (codes "left") refl refl, (fixed names are (codes "link") refl refl, (vat_word names are v, (vat_word names are w, d.0)))), pair v w (note_vats (note_words names n)) h.0 h.1 d.1)
   line End h = ((fixed names are (codes "end") refl refl, tt), tt)
+  line (Raw l) h = raw l h

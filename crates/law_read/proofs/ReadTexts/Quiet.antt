@@ -1,5 +1,5 @@
 -- Where no name is found: in words without marks, and between quotes.
-use Rattle.std.proofs.Common.{◌≡◌, ◌++◌, ◌+◌, ◌/◌, ◌%◌, ◌<◌, ◌&&◌, ℕ, zero, suc, Bool, true, false, not, cond, eqb, ltb, List, [], ◌∷◌, Some, refl, sym, ◌∙◌, ap, subst, append_assoc, arith}
+use Rattle.std.proofs.Common.{◌≡◌, ◌++◌, ◌+◌, ◌/◌, ◌%◌, ◌<◌, ◌&&◌, ◌||◌, ℕ, zero, suc, Bool, true, false, not, cond, eqb, ltb, List, [], ◌∷◌, Some, refl, sym, ◌∙◌, ap, subst, append_assoc, arith}
 use Rattle.std.specs.Prelude.{slice_get}
 use Rattle.std.specs.List.{flat_map, list_all}
 use Rattle.std.specs.Char.{digit_char, encode_utf8}
@@ -14,11 +14,11 @@ use Rattle.ev_trace_words.specs.declared.words.Quote.TheVariants.{Outside, InTex
 use Rattle.ev_trace_words.specs.Words.{behind_quote, is_outside}
 use Rattle.ev_trace.specs.Naming.{is_mark, only_if, scan}
 use Rattle.law_trace.proofs.Trace.ValuesAgain.{both}
-use Rattle.law_trace.proofs.Trace.ScanLemmas.{other_on, run_on}
+use Rattle.law_trace.proofs.Trace.ScanLemmas.{ends_on, other_on, run_on}
 
 -- what is found in a word that stands for a value
 abbrev pub In : List ℕ → List (List ℕ)
-In word = scan Outside false [] word
+In word = scan Outside false false [] word
 
 -- ---- bytes of words without marks
 
@@ -52,38 +52,46 @@ no_mark b h = rw (off b h 3 46 refl, off b h 4 126 refl, off b h 5 63 refl, off 
 stays : (b : ℕ) → is_quiet b ≡ true → behind_quote Outside b ≡ Outside
 stays b h = rw (off b h 0 34 refl, off b h 1 39 refl) refl
 
-quiet_one : (run : List ℕ) (b : ℕ) (rest : List ℕ) → is_quiet b ≡ true → is_lower_or_digit b ≡ false → scan Outside false run (b ∷ rest) ≡ In rest
+quiet_one : (run : List ℕ) (b : ℕ) (rest : List ℕ) → is_quiet b ≡ true → is_lower_or_digit b ≡ false → scan Outside false false run (b ∷ rest) ≡ In rest
 quiet_one run b rest h e =
-    other_on Outside false run b rest e ∙ ap (λ t. only_if t run ++ scan (behind_quote Outside b) (eqb b 64) [] rest) (no_mark b h)
-    ∙ ap (λ q. scan q (eqb b 64) [] rest) (stays b h) ∙ ap (λ t. scan Outside t [] rest) (off b h 2 64 refl)
+    other_on Outside false run b rest e ∙ ap (λ t. only_if t run ++ scan (behind_quote Outside b) (eqb b 64) (eqb b 94) [] rest) (no_mark b h)
+    ∙ ap (λ q. scan q (eqb b 64) (eqb b 94) [] rest) (stays b h) ∙ ap (λ t. scan Outside t (eqb b 94) [] rest) (off b h 2 64 refl) ∙ ap (λ t. scan Outside false t [] rest) (off b h 6 94 refl)
 
--- ---- what may stand behind a word: nothing, or a byte that is no letter, no digit and no mark
+-- ---- what may stand behind a word: nothing, or a byte that is no letter, no digit, no mark and no colon
 
 abbrev pub Stops : List ℕ → Type 0
 Stops [] = Unit {0}
-Stops (c ∷ rest) = (is_lower_or_digit c ≡ false) × (is_mark c ≡ false)
+Stops (c ∷ rest) = (is_lower_or_digit c ≡ false) × (is_mark c ≡ false) × (eqb c 58 ≡ false)
 
 -- the run that was read is no name there
-unrooted : (run tail : List ℕ) → Stops tail → scan Outside false run tail ≡ In tail
+unrooted : (run tail : List ℕ) → Stops tail → scan Outside false false run tail ≡ In tail
 unfolding scan
 unrooted run [] e = refl
 unrooted run (c ∷ tail) e =
-    let more = scan (behind_quote Outside c) (eqb c 64) [] tail in
+    let more = scan (behind_quote Outside c) (eqb c 64) (eqb c 94) [] tail in
     other_on Outside false run c tail e.0 ∙ ap (λ t. only_if t run ++ more) e.1 ∙ sym (ap (λ t. only_if t [] ++ more) e.1) ∙ sym (other_on Outside false [] c tail e.0)
 
 -- and behind `@`, or where a vat stands, it is one
-pub rooted : (run tail : List ℕ) → Stops tail → scan Outside true run tail ≡ run ∷ In tail
+pub rooted : (run tail : List ℕ) → Stops tail → scan Outside true false run tail ≡ run ∷ In tail
 unfolding scan
 rooted run [] e = refl
 rooted run (c ∷ tail) e =
-    let more = scan (behind_quote Outside c) (eqb c 64) [] tail in
+    let more = scan (behind_quote Outside c) (eqb c 64) (eqb c 94) [] tail in
     other_on Outside true run c tail e.0 ∙ ap (λ xs. run ∷ xs) (sym (other_on Outside false [] c tail e.0 ∙ ap (λ t. only_if t [] ++ more) e.1))
 
-quiet_from : (run w tail : List ℕ) → list_all is_quiet w ≡ true → Stops tail → scan Outside false run (w ++ tail) ≡ In tail
+-- behind `^` it is the number of a gift
+pub numbering : (run tail : List ℕ) → Stops tail → scan Outside false true run tail ≡ In tail
+unfolding scan
+numbering run [] e = refl
+numbering run (c ∷ tail) e =
+    let more = scan (behind_quote Outside c) (eqb c 64) (eqb c 94) [] tail in
+    ends_on Outside false true run c tail e.0 ∙ ap (λ t. only_if (t || (false || is_mark c)) run ++ more) e.2 ∙ ap (λ t. only_if t run ++ more) e.1 ∙ sym (ap (λ t. only_if t [] ++ more) e.1) ∙ sym (other_on Outside false [] c tail e.0)
+
+quiet_from : (run w tail : List ℕ) → list_all is_quiet w ≡ true → Stops tail → scan Outside false false run (w ++ tail) ≡ In tail
 quiet_from run [] tail h e = unrooted run tail e
 quiet_from run (b ∷ w) tail h e = let t = both (is_quiet b) (list_all is_quiet w) h in by (is_lower_or_digit b) refl t.0 (λ r. quiet_from r w tail t.1 e)
   where
-    by : (t : Bool) → is_lower_or_digit b ≡ t → is_quiet b ≡ true → ((r : List ℕ) → scan Outside false r (w ++ tail) ≡ In tail) → scan Outside false run (b ∷ (w ++ tail)) ≡ In tail
+    by : (t : Bool) → is_lower_or_digit b ≡ t → is_quiet b ≡ true → ((r : List ℕ) → scan Outside false false r (w ++ tail) ≡ In tail) → scan Outside false false run (b ∷ (w ++ tail)) ≡ In tail
     by true s q more = run_on false run (b ∷ []) (w ++ tail) (both_true (is_lower_or_digit b) true s refl) ∙ more (run ++ b ∷ [])
     by false s q more = quiet_one run b (w ++ tail) q s ∙ more []
 
@@ -93,9 +101,9 @@ quiet_word w tail h e = quiet_from [] w tail h e
 
 -- ---- between quotes
 
-step : (q r : Quote) (b : ℕ) (rest : List ℕ) → is_outside q ≡ false → behind_quote q b ≡ r → scan q false [] (b ∷ rest) ≡ scan r false [] rest
+step : (q r : Quote) (b : ℕ) (rest : List ℕ) → is_outside q ≡ false → behind_quote q b ≡ r → scan q false false [] (b ∷ rest) ≡ scan r false false [] rest
 step q r b rest e f =
-    other_on q false [] b rest (ap (λ t. t && is_lower_or_digit b) e) ∙ ap (λ t. only_if (t && is_mark b) [] ++ scan (behind_quote q b) (t && eqb b 64) [] rest) e ∙ ap (λ k. scan k false [] rest) f
+    other_on q false [] b rest (ap (λ t. t && is_lower_or_digit b) e) ∙ ap (λ t. only_if (t && is_mark b) [] ++ scan (behind_quote q b) (t && eqb b 64) (t && eqb b 94) [] rest) e ∙ ap (λ k. scan k false false [] rest) f
 
 -- between quotes of one kind, where a byte that is neither the quote nor a backslash stays there, and an escape comes back
 record Between (here shield : Quote) (quote : ℕ) : Type 0 where
@@ -130,7 +138,7 @@ wide_is b k h l = (grind (arith, nat_tests), grind (arith, nat_tests))
 module _ (here shield : Quote) (quote : ℕ) (q : Between here shield quote) (low : quote < 48) where
   -- nothing is found in it, and what stands behind is between the quotes too
   abbrev Silent : List ℕ → Type 0
-  Silent w = (rest : List ℕ) → scan here false [] (w ++ rest) ≡ scan here false [] rest
+  Silent w = (rest : List ℕ) → scan here false false [] (w ++ rest) ≡ scan here false false [] rest
 
   one : (b : ℕ) → eqb b quote ≡ false → eqb b 92 ≡ false → Silent (b ∷ [])
   one b e f rest = step here here b rest q.within (q.on b e f)
@@ -139,7 +147,7 @@ module _ (here shield : Quote) (quote : ℕ) (q : Between here shield quote) (lo
   escape b rest = step here shield 92 (b ∷ rest) q.within q.slash ∙ step shield here b rest q.shielded (q.back b)
 
   joined : (xs ys : List ℕ) → Silent xs → Silent ys → Silent (xs ++ ys)
-  joined xs ys h k rest = ap (scan here false []) (append_assoc xs ys rest) ∙ h (ys ++ rest) ∙ k rest
+  joined xs ys h k rest = ap (scan here false false []) (append_assoc xs ys rest) ∙ h (ys ++ rest) ∙ k rest
 
   digit : (d : ℕ) → Silent (digit_char d ∷ [])
   digit d = let t = digit_is d quote low in one (digit_char d) t.0 t.1
@@ -178,7 +186,7 @@ module _ (here shield : Quote) (quote : ℕ) (q : Between here shield quote) (lo
 pub quoted_word : (text rest : List ℕ) → In (quoted text ++ rest) ≡ In rest
 quoted_word text rest =
     let inner = flat_map escaped text in
-    other_on Outside false [] 34 ((inner ++ 34 ∷ []) ++ rest) refl ∙ ap (scan InText false []) (append_assoc inner (34 ∷ []) rest)
+    other_on Outside false [] 34 ((inner ++ 34 ∷ []) ++ rest) refl ∙ ap (scan InText false false []) (append_assoc inner (34 ∷ []) rest)
     ∙ each_escaped InText EscapedText 34 double (omega arith) text (λ b. one_escaped InText EscapedText 34 double (omega arith) b (λ e. e)) (34 ∷ rest)
     ∙ step InText Outside 34 rest refl refl
 
@@ -193,5 +201,5 @@ character_inner c =
 pub character_word : (c : ℕ) (rest : List ℕ) → In (quoted_character c ++ rest) ≡ In rest
 character_word c rest =
     let inner = cond (eqb c 39) (92 ∷ 39 ∷ []) (escaped_character c) in
-    other_on Outside false [] 39 ((inner ++ 39 ∷ []) ++ rest) refl ∙ ap (scan InCharacter false []) (append_assoc inner (39 ∷ []) rest)
+    other_on Outside false [] 39 ((inner ++ 39 ∷ []) ++ rest) refl ∙ ap (scan InCharacter false false []) (append_assoc inner (39 ∷ []) rest)
     ∙ character_inner c (39 ∷ rest) ∙ step InCharacter Outside 39 rest refl refl

@@ -12,11 +12,11 @@ use Rattle.std.proofs.lemmas.Str.{IsUtf8-append, IsUtf8-nil, encodes-chars}
 use Rattle.ev_base.specs.SafeScope.{primitives}
 use Rattle.ev_base.specs.declared.names.Msg.{Msg}
 use Rattle.ev_base.specs.declared.names.Name.{Name}
-use Rattle.ev_base.specs.declared.names.Name.TheVariants.{Object, Own, Answer, Gift, Root}
+use Rattle.ev_base.specs.declared.names.Name.TheVariants.{Object, Own, Answer, Gift, Root, Claimed}
 use Rattle.def_text.specs.Quoting.{quoted, quoted_character, shortened, shown_length}
 use Rattle.def_text.specs.Keywords.{begins_identifier, continues_identifier, has_identifier_form, is_identifier, printed_verb}
 use Rattle.def_event.specs.declared.shown.Shown.{Shown, Null, Bool, Int, Char, Text, Broken, Prim, List as ListOf, Slot, Name as Named, Members', Row_of-Shown, end_of-Shown, more_of-Shown}
-use Rattle.def_event.specs.Lines.{member_values, primitive_name, spaced, vat}
+use Rattle.def_event.specs.Lines.{hex, low_first, member_values, primitive_name, spaced, vat}
 use Rattle.def_event.specs.Lines as lines
 use Rattle.ev_script.specs.Vats.{is_lower_or_digit}
 use Rattle.law_text.specs.Text.Feeds.{AllOf}
@@ -26,26 +26,29 @@ use Rattle.law_text.proofs.Text.Valued.{decimal_passes}
 use Rattle.ev_trace_words.specs.Laws.{AreNames}
 use Rattle.ev_trace_words.specs.declared.words.Quote.TheVariants.{Outside}
 use Rattle.ev_trace_words.specs.Words.{behind_quote}
-use Rattle.ev_trace_words.proofs.Printed.{vat_letters}
+use Rattle.ev_trace_words.proofs.Printed.{key_letters, vat_letters}
 use Rattle.ev_trace.specs.Naming.{is_mark, only_if, scan}
 use Rattle.law_trace.specs.Trace.Found.{Stands}
 use Rattle.law_trace.specs.Trace.Readable.{AreMembers, Below, IsMessage, IsName, IsPassed, IsSimple, IsValue}
 use Rattle.law_trace.proofs.Trace.ValuesAgain.{both}
-use Rattle.law_trace.proofs.Trace.ScanLemmas.{other_on, run_on}
-use Rattle.law_read.proofs.ReadTexts.Quiet.{In, Stops, character_word, is_quiet, quiet_by, quiet_word, quoted_word, rooted}
+use Rattle.law_trace.proofs.Trace.ScanLemmas.{ends_on, other_on, run_on, runs_on}
+use Rattle.law_read.proofs.ReadTexts.Quiet.{In, Stops, character_word, is_quiet, numbering, quiet_by, quiet_word, quoted_word, rooted}
 use Rattle.law_read.proofs.ReadTexts.Utf8.{ascii, decimal_low, is_low, quoted_character_utf8, shortened_utf8, verb_utf8}
 
 -- ---- bytes without marks
 
-weaker : (p q : ℕ → Bools) → ((b : ℕ) → p b ≡ true → q b ≡ true) → (w : List ℕ) → list_all p w ≡ true → list_all q w ≡ true
+pub weaker : (p q : ℕ → Bools) → ((b : ℕ) → p b ≡ true → q b ≡ true) → (w : List ℕ) → list_all p w ≡ true → list_all q w ≡ true
 weaker p q f [] h = refl
 weaker p q f (b ∷ w) h = let t = both (p b) (list_all p w) h in both_true (q b) (list_all q w) (f b t.0) (weaker p q f w t.1)
 
-letter_low : (b : ℕ) → is_lower_or_digit b ≡ true → is_low b ≡ true
+pub letter_low : (b : ℕ) → is_lower_or_digit b ≡ true → is_low b ≡ true
 letter_low b h = grind (arith, nat_tests)
 
 digit_letter : (d : ℕ) → d < 10 → is_lower_or_digit (48 + d) ≡ true
 digit_letter d h = grind (arith, nat_tests)
+
+decimal_letters : (n : ℕ) → list_all is_lower_or_digit (decimal n) ≡ true
+decimal_letters n = decimal_passes is_lower_or_digit digit_letter n
 
 decimal_quiet : (n : ℕ) → list_all is_quiet (decimal n) ≡ true
 decimal_quiet n = decimal_passes is_quiet (λ d h. quiet_by is_lower_or_digit (48 + d) refl (digit_letter d h)) n
@@ -100,8 +103,8 @@ primitive_all p h k less more n =
 -- ---- texts
 
 short_stops : (t : Bools) (text other : List ℕ) (n : ℕ) (tail : List ℕ) → Stops (cond t (quoted text) (quoted other ++ 43 ∷ decimal n) ++ tail)
-short_stops true text other n tail = (refl, refl)
-short_stops false text other n tail = (refl, refl)
+short_stops true text other n tail = (refl, refl, refl)
+short_stops false text other n tail = (refl, refl, refl)
 
 short_word : (t : Bools) (text other : List ℕ) (n : ℕ) (tail : List ℕ) → Stops tail → In (cond t (quoted text) (quoted other ++ 43 ∷ decimal n) ++ tail) ≡ In tail
 short_word true text other n tail e = quoted_word text tail
@@ -122,6 +125,7 @@ record IsMark (mark : ℕ) : Type 0 where
   behind_name : is_mark mark ≡ true
   stays : behind_quote Outside mark ≡ Outside
   no_root : eqb mark 64 ≡ false
+  no_gift : eqb mark 94 ≡ false
   low : is_low mark ≡ true
 
 pub stands : (names : List (List ℕ)) (v : ℕ) → v < length names → Stands (vat names v) names
@@ -164,8 +168,8 @@ module _ (names : List (List ℕ)) (are : AreNames names) where
   marked : (v mark : ℕ) (rest : List ℕ) → IsMark mark → In (vat names v ++ mark ∷ rest) ≡ vat names v ∷ In rest
   marked v mark rest m =
       run_on false [] (vat names v) (mark ∷ rest) (letters v) ∙ other_on Outside false (vat names v) mark rest m.other
-      ∙ ap (λ t. only_if t (vat names v) ++ scan (behind_quote Outside mark) (eqb mark 64) [] rest) m.behind_name ∙ ap (λ q. vat names v ∷ scan q (eqb mark 64) [] rest) m.stays
-      ∙ ap (λ t. vat names v ∷ scan Outside t [] rest) m.no_root
+      ∙ ap (λ t. only_if t (vat names v) ++ scan (behind_quote Outside mark) (eqb mark 64) (eqb mark 94) [] rest) m.behind_name ∙ ap (λ q. vat names v ∷ scan q (eqb mark 64) (eqb mark 94) [] rest) m.stays
+      ∙ ap (λ t. vat names v ∷ scan Outside t (eqb mark 94) [] rest) m.no_root ∙ ap (λ t. vat names v ∷ scan Outside false t [] rest) m.no_gift
 
   thing : (v mark n : ℕ) → IsMark mark → v < length names → Tells (lines.numbered names v mark n)
   thing v mark n m h = (
@@ -174,19 +178,19 @@ module _ (names : List (List ℕ)) (are : AreNames names) where
   )
 
   pub list_word : (v n : ℕ) → v < length names → Tells (lines.numbered names v 37 n)
-  list_word v n h = thing v 37 n (record { other = refl; behind_name = refl; stays = refl; no_root = refl; low = refl }) h
+  list_word v n h = thing v 37 n (record { other = refl; behind_name = refl; stays = refl; no_root = refl; no_gift = refl; low = refl }) h
 
   pub slot_word : (v n : ℕ) → v < length names → Tells (lines.numbered names v 38 n)
-  slot_word v n h = thing v 38 n (record { other = refl; behind_name = refl; stays = refl; no_root = refl; low = refl }) h
+  slot_word v n h = thing v 38 n (record { other = refl; behind_name = refl; stays = refl; no_root = refl; no_gift = refl; low = refl }) h
 
   pub message : (m : Msg) → IsMessage (Below names) m → Tells (lines.message names m)
-  message m h = thing m.sender 47 m.number (record { other = refl; behind_name = refl; stays = refl; no_root = refl; low = refl }) h.0
+  message m h = thing m.sender 47 m.number (record { other = refl; behind_name = refl; stays = refl; no_root = refl; no_gift = refl; low = refl }) h.0
 
   answer : (host : ℕ) (m : Msg) → host < length names → IsMessage (Below names) m → Tells (lines.name names (Answer host m))
   answer host m h k =
       let rest = lines.message names m in let t = message m k in (
         IsUtf8-append (vat names host) (63 ∷ rest) (vat_utf8 host) (IsUtf8-append (63 ∷ []) rest (ascii (63 ∷ []) refl) t.0),
-        λ tail e i. subst AreVats (sym (ap In (append_assoc (vat names host) (63 ∷ rest) tail) ∙ marked host 63 (rest ++ tail) (record { other = refl; behind_name = refl; stays = refl; no_root = refl; low = refl }))) (stands names host h, t.1 tail e i),
+        λ tail e i. subst AreVats (sym (ap In (append_assoc (vat names host) (63 ∷ rest) tail) ∙ marked host 63 (rest ++ tail) (record { other = refl; behind_name = refl; stays = refl; no_root = refl; no_gift = refl; low = refl }))) (stands names host h, t.1 tail e i),
       )
 
   root : (v : ℕ) → v < length names → Tells (lines.name names (Root v))
@@ -195,12 +199,38 @@ module _ (names : List (List ℕ)) (are : AreNames names) where
     λ tail e k. subst AreVats (sym (other_on Outside false [] 64 (vat names v ++ tail) refl ∙ run_on true [] (vat names v) tail (letters v) ∙ rooted (vat names v) tail e)) (stands names v h, k),
   )
 
+  -- the host of a gift
+  hosts : (v : ℕ) (rest : List ℕ) → In (vat names v ++ 94 ∷ rest) ≡ vat names v ∷ scan Outside false true [] rest
+  hosts v rest = run_on false [] (vat names v) (94 ∷ rest) (letters v) ∙ other_on Outside false (vat names v) 94 rest refl
+
+  gift : (host i : ℕ) → host < length names → Tells (lines.name names (Gift host i))
+  gift host i h = (
+    IsUtf8-append (vat names host) (94 ∷ decimal i) (vat_utf8 host) (ascii (94 ∷ decimal i) (decimal_low i)),
+    λ tail e k. subst AreVats (sym (ap In (append_assoc (vat names host) (94 ∷ decimal i) tail) ∙ hosts host (decimal i ++ tail)
+        ∙ ap (λ ns. vat names host ∷ ns) (runs_on false true [] (decimal i) tail (decimal_letters i) ∙ numbering (decimal i) tail e))) (stands names host h, k),
+  )
+
+  claimed : (host p word : ℕ) → host < length names → p < length names → Tells (lines.name names (Claimed host p word))
+  claimed host p word h k =
+      let digits = hex (low_first 16 word) in
+      let rest = vat names p ++ 58 ∷ digits in
+      let low = weaker is_lower_or_digit is_low letter_low digits (key_letters word) in
+      let quiet = weaker is_lower_or_digit is_quiet (λ b i. quiet_by is_lower_or_digit b refl i) digits (key_letters word) in (
+        IsUtf8-append (vat names host) (94 ∷ rest) (vat_utf8 host)
+            (IsUtf8-append (94 ∷ []) rest (ascii (94 ∷ []) refl) (IsUtf8-append (vat names p) (58 ∷ digits) (vat_utf8 p) (ascii (58 ∷ digits) low))),
+        λ tail e i. subst AreVats (sym (ap In (append_assoc (vat names host) (94 ∷ rest) tail) ∙ hosts host (rest ++ tail)
+            ∙ ap (λ r. vat names host ∷ scan Outside false true [] r) (append_assoc (vat names p) (58 ∷ digits) tail)
+            ∙ ap (λ ns. vat names host ∷ ns) (runs_on false true [] (vat names p) (58 ∷ (digits ++ tail)) (letters p) ∙ ends_on Outside false true (vat names p) 58 (digits ++ tail) refl)
+            ∙ ap (λ ns. vat names host ∷ vat names p ∷ ns) (quiet_word digits tail quiet e))) (stands names host h, (stands names p k, i)),
+      )
+
   pub name : (x : Name) → IsName (Below names) x → Tells (lines.name names x)
-  name (Object v n) h = thing v 46 n (record { other = refl; behind_name = refl; stays = refl; no_root = refl; low = refl }) h.0
-  name (Own v n) h = thing v 126 n (record { other = refl; behind_name = refl; stays = refl; no_root = refl; low = refl }) h.0
-  name (Gift host i) h = thing host 94 i (record { other = refl; behind_name = refl; stays = refl; no_root = refl; low = refl }) h.0
+  name (Object v n) h = thing v 46 n (record { other = refl; behind_name = refl; stays = refl; no_root = refl; no_gift = refl; low = refl }) h.0
+  name (Own v n) h = thing v 126 n (record { other = refl; behind_name = refl; stays = refl; no_root = refl; no_gift = refl; low = refl }) h.0
+  name (Gift host i) h = gift host i h.0
   name (Answer host m) h = answer host m h.0 h.1
   name (Root v) h = root v h
+  name (Claimed host p word) h = claimed host p word h.0 h.1
 
   integer : (z : ℤ) → Tells (signed_decimal z)
   integer (pos n) = number n
@@ -254,8 +284,8 @@ module _ (names : List (List ℕ)) (are : AreNames names) where
   spaced_utf8 (w ∷ ws) h = IsUtf8-append w (Behind ws) h.0.0 (behind_utf8 ws h.1)
 
   behind_stops : (ws : List (List ℕ)) (tail : List ℕ) → Stops (Behind ws ++ 93 ∷ tail)
-  behind_stops [] tail = (refl, refl)
-  behind_stops (w ∷ ws) tail = (refl, refl)
+  behind_stops [] tail = (refl, refl, refl)
+  behind_stops (w ∷ ws) tail = (refl, refl, refl)
 
   behind_vats : (ws : List (List ℕ)) (tail : List ℕ) → AllOf Tells ws → AreVats (In (93 ∷ tail)) → AreVats (In (Behind ws ++ 93 ∷ tail))
   behind_vats [] tail h k = k

@@ -5,7 +5,7 @@ use Rattle.def_machine.specs.Values.{Words, Value, Name}
 use Rattle.def_machine.specs.Native.{safe_value}
 use Rattle.def_machine.specs.State.{Stop, Astray}
 use Rattle.def_run.specs.World.{World, Stopped, run}
-use Rattle.law_kernel_form.specs.Trees.{IsTree}
+use Rattle.def_kernel.specs.Trees.{IsTree}
 use Rattle.ev_reader.specs.Scopes.{first_fault}
 use Rattle.ev_script.specs.Script.{read}
 use Rattle.ev_script.specs.declared.script.Script.{Script}

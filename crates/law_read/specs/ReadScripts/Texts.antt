@@ -3,7 +3,7 @@ use Rattle.std.specs.Prelude.{◌≡◌, ◌<◌, ◌≤◌, ◌^◌, ℕ, List,
 use Rattle.def_kernel.specs.declared.node.Node.{Node}
 use Rattle.def_run.specs.World.{run}
 use Rattle.def_run.specs.Text.{vat_names}
-use Rattle.law_kernel_form.specs.Trees.{IsTree}
+use Rattle.def_kernel.specs.Trees.{IsTree}
 use Rattle.law_schedule.specs.Scripts.{machine_script}
 use Rattle.law_text.specs.Text.Feeds.{AllOf}
 use Rattle.law_text.specs.RunTexts.Laws.{IsShort, IsBounded, TextsTell}

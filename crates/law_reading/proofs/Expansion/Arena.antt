@@ -17,7 +17,7 @@ use Rattle.def_syntax.specs.declared.sugar.SugarNode.{SugarNode}
 use Rattle.def_kernel.specs.declared.node.Node.{Node as Kernel}
 use Rattle.def_kernel.specs.declared.shape.Kind.{Kind}
 use Rattle.def_kernel.specs.declared.shape.Kind.TheVariants.{Expression}
-use Rattle.law_kernel_form.specs.Trees.{IsTree}
+use Rattle.def_kernel.specs.Trees.{IsTree}
 use Rattle.ev_piece.specs.Pieces.{Piece}
 use Rattle.ev_piece.specs.Placed.{placed}
 use Rattle.ev_expand.specs.declared.marks.Marks.{Marks}

@@ -6,7 +6,7 @@ use Rattle.def_kernel.specs.declared.node.Node.{Node}
 use Rattle.def_kernel.specs.declared.node.Node.TheVariants as node
 use Rattle.def_kernel.specs.declared.shape.Kind.{Kind}
 use Rattle.def_kernel.specs.declared.shape.Kind.TheVariants.{Expression, Pattern, Member, Naming}
-use Rattle.law_kernel_form.specs.Trees.{IsLiteral, IsName, IsTree, Has, Tree, Row, literal, noun as noun_tree, set as set_tree, def as def_tree, def_exit, call as call_tree, sequence, choice, escape as escape_tree, escape_catch as catch_tree, try_catch as try_tree, finally as finally_tree, hide as hide_tree, match_bind as match_tree, object as object_tree, method as method_tree, matcher as matcher_tree, final, final_guarded, variable as variable_tree, variable_guarded, any as any_tree, any_guarded, list as list_tree, via as via_tree, named, unnamed, none, one_more}
+use Rattle.def_kernel.specs.Trees.{IsLiteral, IsName, IsTree, Has, Tree, Row, literal, noun as noun_tree, set as set_tree, def as def_tree, def_exit, call as call_tree, sequence, choice, escape as escape_tree, escape_catch as catch_tree, try_catch as try_tree, finally as finally_tree, hide as hide_tree, match_bind as match_tree, object as object_tree, method as method_tree, matcher as matcher_tree, final, final_guarded, variable as variable_tree, variable_guarded, any as any_tree, any_guarded, list as list_tree, via as via_tree, named, unnamed, none, one_more}
 use Rattle.ev_piece.specs.Pieces.{Piece, joined, starts, optional, start_if, lit, noun, set, def, call, seq, if_, escape, escape_catch, try_catch, finally, hide, match_bind, object, method, matcher, final_pattern, variable, any, list, via}
 use Rattle.ev_piece.specs.Placed.{node_at, placed}
 use Rattle.law_reading.specs.Expansion.Fitting.{Lies, Fits, FitsIf, AllFit}

@@ -14,7 +14,7 @@ use Rattle.ev_parser.specs.declared.draft.Part.TheVariants as piece
 use Rattle.ev_parser.specs.Surface.{tree_if, tree_at, last_tree, front, mark, before, behind, catches as all_catches, is_part, for_form, literal, rest_of, guard_of, word_text, part_text, text_at, name_if, surface}
 use Rattle.def_kernel.specs.declared.node.Literal.TheVariants as literals
 use Rattle.def_kernel.specs.declared.shape.Kind.TheVariants.{Expression, Pattern, Member}
-use Rattle.law_kernel_form.specs.Trees.{IsName}
+use Rattle.def_kernel.specs.Trees.{IsName}
 use Rattle.ev_desugar.specs.Words.{Words, number, text, character, verb_behind, ejector}
 use Rattle.ev_expand.specs.declared.marks.Marks.{Marks}
 use Rattle.ev_expand.specs.declared.part.Part.{Part as Expansion}

@@ -12,7 +12,7 @@ use Rattle.std.proofs.lemmas.Option.{option_and_then_some, same_Some}
 use Rattle.std.proofs.lemmas.Str.{IsUtf8-nil, IsUtf8-take, IsUtf8-drop, IsUtf8-append, IsUtf8-encode, IsUtf8-between, IsCharBoundary-after_ascii, scalars-chars}
 use Rattle.def_syntax.specs.declared.token.Token.{Token}
 use Rattle.def_syntax.specs.declared.syntax.Word.{Word}
-use Rattle.law_kernel_form.specs.Trees.{IsInt}
+use Rattle.def_kernel.specs.Trees.{IsInt}
 use Rattle.ev_text.specs.Unquoting.{text_behind, unquoted, escape, by_digits, hexadecimal, numbered, named, with_front, closed, is_plain}
 use Rattle.ev_text.proofs.UnquotingLemmas.{bool_cases, chosen, closing, no_escape, some_escapes, cut_behind, plain_front, cut_plain}
 use Rattle.ev_integer.specs.Numerals.{greatest}

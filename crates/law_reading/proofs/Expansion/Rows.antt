@@ -7,7 +7,7 @@ use Rattle.def_text.specs.Keywords.{is_identifier}
 use Rattle.def_kernel.specs.declared.node.Literal.TheVariants as literals
 use Rattle.def_kernel.specs.declared.shape.Kind.{Kind}
 use Rattle.def_kernel.specs.declared.shape.Kind.TheVariants.{Expression, Pattern, Member, Naming}
-use Rattle.law_kernel_form.specs.Trees.{IsName}
+use Rattle.def_kernel.specs.Trees.{IsName}
 use Rattle.ev_piece.specs.Pieces.{Piece, noun, call, def, seq, if_, escape, try_catch, final_pattern, variable, any, lit, method}
 use Rattle.ev_desugar.specs.Words.{Words, arithmetic, updating, comparing, ranging, prefixing, ejector}
 use Rattle.ev_desugar.specs.Rows.{null, truth, falsehood, body, made_list, sent_verb, send, assign_with, assign, put, prefix, same, different, conjunction, disjunction, compared, computed, binary, else_or_null, conditional, leavable, closure, repeated, key_or_any, iterated, while_loop, for_loop, escaped, caught, tried, fulfilment, fulfilled, settled, awaited, guarded, to_method, plain_method, object_pattern, defined_object, defined_function, defined_var, value_or_null, leave, noun_guard}

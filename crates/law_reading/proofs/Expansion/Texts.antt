@@ -3,7 +3,7 @@ use Rattle.std.proofs.Common.{◌≡◌, ℕ, suc, List, [], ◌∷◌, ◌++◌
 use Rattle.def_syntax.specs.declared.token.Token.{Token}
 use Rattle.def_syntax.specs.declared.sugar.SugarNode.{SugarNode}
 use Rattle.def_syntax.specs.Grammar.{no_word}
-use Rattle.law_kernel_form.specs.Trees.{IsName}
+use Rattle.def_kernel.specs.Trees.{IsName}
 use Rattle.ev_parser.specs.Surface.{token_text}
 use Rattle.ev_parser.specs.Parsed.{numbered}
 use Rattle.ev_desugar.specs.Words.{ejector}

@@ -13,7 +13,7 @@ use Rattle.def_syntax.specs.declared.token.TokenKind.TheVariants as kinds
 use Rattle.ev_lexer.specs.Words.{kind_among, reserved, word_kind}
 use Rattle.ev_lexer.specs.Pieces.{front_word}
 use Rattle.ev_lexer.proofs.Operators.{either, both}
-use Rattle.law_kernel_form.specs.Trees.{IsName}
+use Rattle.def_kernel.specs.Trees.{IsName}
 use Rattle.ev_desugar.specs.Words.{ejector}
 use Rattle.law_reading.specs.Expansion.Shapes.{IsLeave}
 

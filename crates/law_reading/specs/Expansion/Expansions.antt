@@ -5,7 +5,7 @@ use Rattle.def_syntax.specs.declared.token.Token.{Token}
 use Rattle.def_syntax.specs.declared.token.TokenKind.TheVariants as kinds
 use Rattle.def_syntax.specs.declared.sugar.Sugar.{Sugar}
 use Rattle.def_kernel.specs.declared.node.Node.{Node}
-use Rattle.law_kernel_form.specs.Trees.{IsName, IsTree}
+use Rattle.def_kernel.specs.Trees.{IsName, IsTree}
 use Rattle.ev_parser.specs.Surface.{token_text}
 use Rattle.ev_parser.specs.Parsed.{IsParsed}
 use Rattle.ev_desugar.specs.Words.{ejector}

@@ -2,7 +2,7 @@
 use Rattle.std.specs.Prelude.{ℕ, suc, ◌+◌, List, [], ◌∷◌, length, Option, Some, None}
 use Rattle.def_kernel.specs.declared.node.Node.{Node}
 use Rattle.def_kernel.specs.declared.shape.Kind.{Kind}
-use Rattle.law_kernel_form.specs.Trees.{Has, Tree}
+use Rattle.def_kernel.specs.Trees.{Has, Tree}
 use Rattle.ev_piece.specs.Pieces.{Piece}
 use Rattle.ev_piece.specs.Placed.{node_at}
 

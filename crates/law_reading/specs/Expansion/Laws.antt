@@ -2,7 +2,7 @@
 use Rattle.std.specs.Prelude.{◌≡◌, List, [], ◌∷◌}
 use Rattle.def_kernel.specs.declared.shape.Kind.{Kind}
 use Rattle.def_kernel.specs.declared.shape.Kind.TheVariants.{Expression}
-use Rattle.law_kernel_form.specs.Trees.{IsTree}
+use Rattle.def_kernel.specs.Trees.{IsTree}
 use Rattle.def_syntax.specs.declared.syntax.Word.{Word}
 use Rattle.def_syntax.specs.Grammar.{Tree, SpellsProgram, shape_of}
 use Rattle.ev_piece.specs.Pieces.{Piece}

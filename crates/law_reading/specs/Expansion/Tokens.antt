@@ -2,7 +2,7 @@
 use Rattle.std.specs.Prelude.{◌≡◌, ℕ, List, Ok}
 use Rattle.std.specs.Str.{IsUtf8}
 use Rattle.def_syntax.specs.declared.token.Token.{Token}
-use Rattle.law_kernel_form.specs.Trees.{IsTree}
+use Rattle.def_kernel.specs.Trees.{IsTree}
 use Rattle.ev_lexer.specs.Lexed.{lexed}
 use Rattle.law_reading.specs.Expansion.Expansions.{AreSpelled}
 use Rattle.ev_reader.specs.declared.accepted.Scoped.{Scoped}

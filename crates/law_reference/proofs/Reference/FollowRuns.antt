@@ -160,12 +160,12 @@ module _ (script : Script) where
       asked_of : Name → Bool → Delivery Name
       asked_of x b = record { message = x; asks = b; answer = r.answer }
 
-  bearer_known : (w : World) (a v : ℕ) (s t : Vat Name) (n : Note Name) (m : Msg) → s.number ≡ v → Does script w v s s t (Receives a (read_note (names_of s) n)) → Bears m (Answer v m) n → IsAmong (Answer v m) (names_in t.known)
+  pub bearer_known : (w : World) (a v : ℕ) (s t : Vat Name) (n : Note Name) (m : Msg) → s.number ≡ v → Does script w v s s t (Receives a (read_note (names_of s) n)) → Bears m (Answer v m) n → IsAmong (Answer v m) (names_in t.known)
   bearer_known w a v s t (Deliver r x verb ys) m e d b = delivered w a v s t x verb ys m r.answer e (subst (λ z. does (names script v) (Receives a (read_note (names_of s) (Deliver z x verb ys))) (readied w s) ≡ Gives tt t) (is_delivery r m b.0 b.1) d.gives)
   bearer_known w a v s t other m e d b = absurd b
 
   -- the note that arrives does not name the answer, or its host knows it
-  arrives_first : (w : World) (a v : ℕ) (s t : Vat Name) (n : Note Name) (ns : List (Note Name)) (l : Link) → Past w → NotesKnown w.vats w.links → link_at a v w.links ≡ Some l → l.notes ≡ n ∷ ns
+  pub arrives_first : (w : World) (a v : ℕ) (s t : Vat Name) (n : Note Name) (ns : List (Note Name)) (l : Link) → Past w → NotesKnown w.vats w.links → link_at a v w.links ≡ Some l → l.notes ≡ n ∷ ns
       → (first : (g : ℕ) (m : Msg) → (g ≡ v → ⊥) → NamesNot (Answer g m) n → IsAmong (Answer g m) (names_in t.known) → IsAmong (Answer g m) (names_in s.known) ⊎ PutsFirst g m t.outbox)
       → (g : ℕ) (m : Msg) (q : Vat Name) → (g ≡ v → ⊥) → slice_get (put_at v t w.vats) g ≡ Some q → IsAmong (Answer g m) (names_in t.known) → (IsAmong (Answer g m) (names_in s.known) ⊎ PutsFirst g m t.outbox) ⊎ IsAmong (Answer g m) (names_in q.known)
   arrives_first w a v s t n ns l past known at notes first g m q abroad e h = by_host (eq_dec g a)

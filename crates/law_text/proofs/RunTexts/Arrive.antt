@@ -1,5 +1,5 @@
 -- What arrives, and what a notice does.
-use Rattle.law_kernel_form.specs.Trees.{IsInt}
+use Rattle.def_kernel.specs.Trees.{IsInt}
 use Rattle.std.proofs.Common.{◌≡◌, ℕ, zero, suc, Bool, true, false, List, [], ◌∷◌, Option, Some, None, ◌==◌, refl, codes}
 use Rattle.std.specs.Char.{IsScalar}
 use Rattle.def_machine.specs.Values.{Words, Value, Null, Flag, Number, Letter, Text, Prim, Broken, Items, Ref, Name, Root, Gift, IsAnswer, IsGift, IsLearnt, IsCarried, Naming, naming, name_of, mail_of, host_of, under}

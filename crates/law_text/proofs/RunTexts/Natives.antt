@@ -1,6 +1,6 @@
 -- What data and primitives answer fits where what they are given does.
 use lib.Utf8.{scalar_fits}
-use Rattle.law_kernel_form.specs.Trees.{IsInt}
+use Rattle.def_kernel.specs.Trees.{IsInt}
 use Rattle.def_machine.specs.State.{WhereSome}
 use Rattle.std.proofs.lemmas.Nat.{or_lt, xor_lt, and_le_l}
 use Rattle.std.proofs.lemmas.Int.{ints}

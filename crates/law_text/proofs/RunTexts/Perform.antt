@@ -1,5 +1,5 @@
 -- What guards, data and primitives do.
-use Rattle.law_kernel_form.specs.Trees.{IsInt}
+use Rattle.def_kernel.specs.Trees.{IsInt}
 use Rattle.std.specs.Str.{IsUtf8}
 use Rattle.std.proofs.Common.{ℕ, zero, suc, ◌<◌, Bool, true, false, List, [], ◌∷◌, Option, Some, None, length, codes, pos, refl, ◌+◌, ◌^◌, arith}
 use Rattle.std.specs.Prelude.{nat_le}

@@ -19,7 +19,7 @@ use Rattle.law_text.specs.Text.Feeds.{NoteFits as ShownFits}
 use Rattle.law_text.specs.Text.Parts.{Part, Word, Entry, Vat, IsPartOf, IsRestOf, IsEventOf, note_tells}
 use Rattle.law_text.specs.RunTexts.Fitting.{Limits, IsVat, IsLow, NameFits, ValueFits, ValuesFit, BoundFits, MessageFits, PassedFits, PassedsFit, NoteFits, LineFits}
 use Rattle.law_text.specs.RunTexts.Worlds.{EventFits}
-use Rattle.law_kernel_form.specs.Trees.{IsInt}
+use Rattle.def_kernel.specs.Trees.{IsInt}
 use Rattle.law_text.proofs.RunTexts.Fine.{all_append}
 use Rattle.law_text.proofs.RunTexts.Trees.{object_word}
 

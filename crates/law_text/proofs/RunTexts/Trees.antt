@@ -13,7 +13,7 @@ use Rattle.def_kernel.specs.declared.node.Literal.{Literal}
 use Rattle.def_kernel.specs.declared.node.Literal.TheVariants.{Text}
 use Rattle.def_kernel.specs.declared.node.Node.{Node}
 use Rattle.def_kernel.specs.declared.shape.Kind.{Kind}
-use Rattle.law_kernel_form.specs.Trees.{IsLiteral, IsName, Has, Tree, Row, IsTree, literal, noun, set, def, def_exit, call, sequence, choice, escape, escape_catch, try_catch, finally, hide, match_bind, object, method, matcher, final, final_guarded, variable, variable_guarded, any, any_guarded, list, via, named, unnamed, none, one_more}
+use Rattle.def_kernel.specs.Trees.{IsLiteral, IsName, Has, Tree, Row, IsTree, literal, noun, set, def, def_exit, call, sequence, choice, escape, escape_catch, try_catch, finally, hide, match_bind, object, method, matcher, final, final_guarded, variable, variable_guarded, any, any_guarded, list, via, named, unnamed, none, one_more}
 use Rattle.law_text.specs.Text.Words.{IsWord}
 use Rattle.law_text.proofs.Text.Quotes.{verb_word}
 use Rattle.law_text.specs.RunTexts.Fitting.{IsObjectName}

@@ -2,8 +2,9 @@
 use Rattle.std.proofs.Common.{◌≡◌, ℕ, cond, Bool, true, false, List, [], ◌∷◌, ◌++◌, refl, sym, map, ap, ◌∙◌}
 use Rattle.std.specs.Prelude.{decimal, codes, bytes_eq}
 use Rattle.def_event.specs.declared.event.Event.{Event}
-use Rattle.def_event.specs.declared.event.Event.TheVariants.{Turn, Idle, Carry, Cut, Notice}
-use Rattle.def_event.specs.Lines.{vat, note_words, words}
+use Rattle.def_event.specs.declared.event.Event.TheVariants.{Turn, Idle, Carry, Cut, Notice, Raw}
+use Rattle.def_event.specs.declared.raw.RawLine.TheVariants.{Inject, InjectCut, Malformed, Bytes, LeftBytes}
+use Rattle.def_event.specs.Lines.{vat, hex, note_words, words}
 use Rattle.law_text.specs.Text.Kinds.{kind, kind_in, first_of, second_of, is_number, is_activation, WordsTellKinds, TextsTellKinds}
 use Rattle.law_text.proofs.Text.Front.{true_false, cons_is}
 use Rattle.law_text.proofs.Text.Told.{texts_tell_words}
@@ -23,6 +24,11 @@ kinds_told vats (Idle k) = numbered_kind k (codes "idle" ∷ [])
 kinds_told vats (Carry k v w note) = numbered_kind k (codes "carry" ∷ vat vats v ∷ vat vats w ∷ note_words vats note)
 kinds_told vats (Cut k v w) = numbered_kind k (codes "cut" ∷ vat vats v ∷ vat vats w ∷ [])
 kinds_told vats (Notice k v w) = numbered_kind k (codes "notice" ∷ vat vats v ∷ vat vats w ∷ [])
+kinds_told vats (Raw (Inject k v w bytes)) = numbered_kind k (codes "inject" ∷ vat vats v ∷ vat vats w ∷ hex bytes ∷ [])
+kinds_told vats (Raw (InjectCut k v w)) = numbered_kind k (codes "inject" ∷ vat vats v ∷ vat vats w ∷ codes "cut" ∷ [])
+kinds_told vats (Raw (Malformed k v w place)) = numbered_kind k (codes "carry" ∷ vat vats v ∷ vat vats w ∷ codes "malformed" ∷ decimal place ∷ [])
+kinds_told vats (Raw (Bytes k v w bytes)) = numbered_kind k (codes "carry" ∷ vat vats v ∷ vat vats w ∷ codes "bytes" ∷ hex bytes ∷ [])
+kinds_told vats (Raw (LeftBytes v w bytes)) = refl
 kinds_told vats other = refl
 
 kinds_of : (vats : List (List ℕ)) (xs : List Event) → map kind_in (map (words vats) xs) ≡ map kind xs

@@ -4,10 +4,11 @@ use Rattle.std.specs.Prelude.{decimal}
 use Rattle.std.specs.List.{list_all}
 use Rattle.std.proofs.lemmas.Fmt.{decimal_injective}
 use Rattle.ev_base.specs.declared.names.Name.{Name}
-use Rattle.ev_base.specs.declared.names.Name.TheVariants.{Object, Own, Answer, Gift, Root}
+use Rattle.ev_base.specs.declared.names.Name.TheVariants.{Object, Own, Answer, Gift, Root, Claimed}
 use Rattle.ev_base.specs.declared.names.Msg.{Msg}
-use Rattle.def_event.specs.Lines.{vat, message, name}
+use Rattle.def_event.specs.Lines.{vat, message, name, hex, low_first}
 use Rattle.law_text.proofs.Text.Front.{two_marks, apart}
+use Rattle.law_text.proofs.Text.Claims.{no_colon, provided_told}
 use Rattle.law_text.specs.Text.Names.{unmarked, AreNames, IsMessageOf, IsNameOf}
 
 abbrev Unmarked : List ℕ → Type 0
@@ -31,6 +32,7 @@ module _ (vats : List (List ℕ)) (good : AreNames vats) where
   front (Answer h m) = vat vats h
   front (Gift h i) = vat vats h
   front (Root v) = []
+  front (Claimed h p word) = vat vats h
 
   abbrev mark : Name → ℕ
   mark (Object v n) = 46
@@ -38,6 +40,7 @@ module _ (vats : List (List ℕ)) (good : AreNames vats) where
   mark (Answer h m) = 63
   mark (Gift h i) = 94
   mark (Root v) = 64
+  mark (Claimed h p word) = 94
 
   abbrev rest : Name → List ℕ
   rest (Object v n) = decimal n
@@ -45,6 +48,7 @@ module _ (vats : List (List ℕ)) (good : AreNames vats) where
   rest (Answer h m) = message vats m
   rest (Gift h i) = decimal i
   rest (Root v) = vat vats v
+  rest (Claimed h p word) = vat vats p ++ 58 ∷ hex (low_first 16 word)
 
   by_parts : (a : Name) → name vats a ≡ front a ++ mark a ∷ rest a
   by_parts (Object v n) = refl
@@ -56,6 +60,7 @@ module _ (vats : List (List ℕ)) (good : AreNames vats) where
   front_plain (Answer h m) = good.unmarked h
   front_plain (Gift h i) = good.unmarked h
   front_plain (Root v) = refl
+  front_plain (Claimed h p word) = good.unmarked h
 
   marked : (a : Name) → unmarked (mark a) ≡ false
   marked (Object v n) = refl
@@ -67,26 +72,42 @@ module _ (vats : List (List ℕ)) (good : AreNames vats) where
   parts_told (Object v n) (Answer w x) h k e t f = absurd (two_marks 46 63 refl t)
   parts_told (Object v n) (Gift w x) h k e t f = absurd (two_marks 46 94 refl t)
   parts_told (Object v n) (Root w) h k e t f = absurd (two_marks 46 64 refl t)
+  parts_told (Object v n) (Claimed w x y) h k e t f = absurd (two_marks 46 94 refl t)
   parts_told (Own v n) (Object w x) h k e t f = absurd (two_marks 126 46 refl t)
   parts_told (Own v n) (Own w x) h k e t f = let one : v ≡ w = good.differ v w h.0 k.0 e in let two : n ≡ x = decimal_injective n x h.1 k.1 f in λ i. Own (one i) (two i)
   parts_told (Own v n) (Answer w x) h k e t f = absurd (two_marks 126 63 refl t)
   parts_told (Own v n) (Gift w x) h k e t f = absurd (two_marks 126 94 refl t)
   parts_told (Own v n) (Root w) h k e t f = absurd (two_marks 126 64 refl t)
+  parts_told (Own v n) (Claimed w x y) h k e t f = absurd (two_marks 126 94 refl t)
   parts_told (Answer v n) (Object w x) h k e t f = absurd (two_marks 63 46 refl t)
   parts_told (Answer v n) (Own w x) h k e t f = absurd (two_marks 63 126 refl t)
   parts_told (Answer v n) (Answer w x) h k e t f = let one : v ≡ w = good.differ v w h.0 k.0 e in let two : n ≡ x = message_told n x h.1 k.1 f in λ i. Answer (one i) (two i)
   parts_told (Answer v n) (Gift w x) h k e t f = absurd (two_marks 63 94 refl t)
   parts_told (Answer v n) (Root w) h k e t f = absurd (two_marks 63 64 refl t)
+  parts_told (Answer v n) (Claimed w x y) h k e t f = absurd (two_marks 63 94 refl t)
   parts_told (Gift v n) (Object w x) h k e t f = absurd (two_marks 94 46 refl t)
   parts_told (Gift v n) (Own w x) h k e t f = absurd (two_marks 94 126 refl t)
   parts_told (Gift v n) (Answer w x) h k e t f = absurd (two_marks 94 63 refl t)
   parts_told (Gift v n) (Gift w x) h k e t f = let one : v ≡ w = good.differ v w h.0 k.0 e in let two : n ≡ x = decimal_injective n x h.1 k.1 f in λ i. Gift (one i) (two i)
   parts_told (Gift v n) (Root w) h k e t f = absurd (two_marks 94 64 refl t)
+  parts_told (Gift v n) (Claimed w x y) h k e t f = absurd (no_colon n (vat vats x) (hex (low_first 16 y)) h.1 f)
   parts_told (Root v) (Object w x) h k e t f = absurd (two_marks 64 46 refl t)
   parts_told (Root v) (Own w x) h k e t f = absurd (two_marks 64 126 refl t)
   parts_told (Root v) (Answer w x) h k e t f = absurd (two_marks 64 63 refl t)
   parts_told (Root v) (Gift w x) h k e t f = absurd (two_marks 64 94 refl t)
   parts_told (Root v) (Root w) h k e t f = ap Root (good.differ v w h k f)
+  parts_told (Root v) (Claimed w x y) h k e t f = absurd (two_marks 64 94 refl t)
+  parts_told (Claimed w x y) (Object v n) h k e t f = absurd (two_marks 94 46 refl t)
+  parts_told (Claimed w x y) (Own v n) h k e t f = absurd (two_marks 94 126 refl t)
+  parts_told (Claimed w x y) (Answer v n) h k e t f = absurd (two_marks 94 63 refl t)
+  parts_told (Claimed w x y) (Gift v n) h k e t f = absurd (no_colon n (vat vats x) (hex (low_first 16 y)) k.1 (sym f))
+  parts_told (Claimed w x y) (Root v) h k e t f = absurd (two_marks 94 64 refl t)
+  parts_told (Claimed w x y) (Claimed v u z) h k e t f =
+      let one : w ≡ v = good.differ w v h.0 k.0 e in
+      let both = provided_told (vat vats x) (vat vats u) y z h.2 k.2 f in
+      let two : x ≡ u = good.differ x u h.1 k.1 both.0 in
+      let three : y ≡ z = both.1 in
+      λ i. Claimed (one i) (two i) (three i)
 
   pub name_told : (a b : Name) → IsNameOf vats a → IsNameOf vats b → name vats a ≡ name vats b → a ≡ b
   name_told a b h k e =

@@ -1,12 +1,14 @@
 -- Events with the same words tell the same, but for texts that are shown alike.
-use Rattle.std.proofs.Common.{◌≡◌, ℕ, cond, Option, Some, None, List, [], ◌∷◌, ◌++◌, map, refl, sym, ◌∙◌, ap, subst}
+use Rattle.std.proofs.Common.{◌≡◌, ℕ, ◌/◌, ◌%◌, ◌&&◌, eqb, cond, Bool as Bools, true, false, Option, Some, None, List, [], ◌∷◌, ◌++◌, map, refl, sym, ◌∙◌, ap, subst}
 use Rattle.std.specs.Prelude.{decimal, codes, bytes_eq, filter}
+use Rattle.std.specs.Char.{digit_char}
 use Rattle.std.proofs.lemmas.Fmt.{decimal_injective}
 use Rattle.def_text.specs.Keywords.{printed_verb}
 use Rattle.def_event.specs.declared.shown.Shown.{Shown}
 use Rattle.def_event.specs.declared.note.ShownNote.TheVariants.{Deliver}
 use Rattle.def_event.specs.declared.event.Event.{Event}
-use Rattle.def_event.specs.declared.event.Event.TheVariants.{Open, Carry, LeftLink}
+use Rattle.def_event.specs.declared.event.Event.TheVariants.{Open, Carry, LeftLink, Raw}
+use Rattle.def_event.specs.declared.raw.RawLine.TheVariants.{Inject, InjectCut, Malformed, Bytes as RawBytes, LeftBytes}
 use Rattle.def_event.specs.Lines.{hex, activation, begun_words, vat, numbered, message, name, value, values as value_words, part, words, is_no_frame}
 use Rattle.law_text.specs.Text.Feeds.{AllOf}
 use Rattle.law_text.specs.Text.Words.{WordsFit}
@@ -107,17 +109,36 @@ note_rows =
     row (codes "elsewhere") (0 ∷ 5 ∷ 3 ∷ []) 0 ∷
     row (codes "open") (0 ∷ 5 ∷ 5 ∷ []) 0 ∷
     row (codes "ask") (0 ∷ 5 ∷ 3 ∷ []) 0 ∷
-    row (codes "shorten") (0 ∷ 5 ∷ 5 ∷ []) 0 ∷ []
+    row (codes "shorten") (0 ∷ 5 ∷ 5 ∷ []) 0 ∷
+    row (codes "malformed") (0 ∷ 1 ∷ []) 0 ∷
+    row (codes "bytes") (0 ∷ 10 ∷ []) 0 ∷ []
 
 abbrev in_front : List ℕ → Shape → Shape
 in_front ps s = record { parts = ps ++ s.parts; rest = s.rest }
+
+-- what stands behind the vats of an inject
+abbrev injected : List ℕ → Shape
+injected w = cond (bytes_eq w (codes "cut")) (record { parts = 0 ∷ []; rest = 0 }) (record { parts = 10 ∷ []; rest = 0 })
+
+-- bytes as digits are an even number of digits
+and_no : (b : Bools) → (b && false) ≡ false
+and_no true = refl
+and_no false = refl
+
+no_cut : (bytes : List ℕ) → bytes_eq (hex bytes) (codes "cut") ≡ false
+no_cut [] = refl
+no_cut (b ∷ []) = ap (λ z. eqb (digit_char (b / 16)) 99 && z) (and_no (eqb (digit_char (b % 16)) 117)) ∙ and_no (eqb (digit_char (b / 16)) 99)
+no_cut (b ∷ c ∷ bs) = ap (λ z. eqb (digit_char (b / 16)) 99 && (eqb (digit_char (b % 16)) 117 && z)) (and_no (eqb (digit_char (c / 16)) 116)) ∙ ap (λ z. eqb (digit_char (b / 16)) 99 && z) (and_no (eqb (digit_char (b % 16)) 117)) ∙ and_no (eqb (digit_char (b / 16)) 99)
+
+injected_bytes : (bytes : List ℕ) → injected (hex bytes) ≡ record { parts = 10 ∷ []; rest = 0 }
+injected_bytes bytes = ap (λ b. cond b (record { parts = 0 ∷ []; rest = 0 }) (record { parts = 10 ∷ []; rest = 0 })) (no_cut bytes)
 
 abbrev fifth : List (List ℕ) → List ℕ
 fifth (a ∷ b ∷ c ∷ d ∷ w ∷ ws) = w
 fifth _ = []
 
 abbrev shape_by : List ℕ → List ℕ → Shape
-shape_by k w = cond (bytes_eq k (codes "#carry")) (in_front (1 ∷ 0 ∷ 3 ∷ 3 ∷ []) (found note_rows w)) (cond (bytes_eq k (codes "left link")) (in_front (0 ∷ 0 ∷ 3 ∷ 3 ∷ []) (found note_rows w)) (found rows k))
+shape_by k w = cond (bytes_eq k (codes "#carry")) (in_front (1 ∷ 0 ∷ 3 ∷ 3 ∷ []) (found note_rows w)) (cond (bytes_eq k (codes "left link")) (in_front (0 ∷ 0 ∷ 3 ∷ 3 ∷ []) (found note_rows w)) (cond (bytes_eq k (codes "#inject")) (in_front (1 ∷ 0 ∷ 3 ∷ 3 ∷ []) (injected w)) (found rows k)))
 
 module _ (vats : List (List ℕ)) where
   abbrev pub part_word : Part → List ℕ
@@ -148,6 +169,11 @@ module _ (vats : List (List ℕ)) where
   forms (Open v) = (refl, refl)
   forms (Carry k v w (Deliver m target verb args)) = (refl, refl)
   forms (LeftLink v w (Deliver m target verb args)) = (refl, refl)
+  forms (Raw (Inject k v w bytes)) = (refl, ap (in_front (1 ∷ 0 ∷ 3 ∷ 3 ∷ [])) (injected_bytes bytes))
+  forms (Raw (InjectCut k v w)) = (refl, refl)
+  forms (Raw (Malformed k v w place)) = (refl, refl)
+  forms (Raw (RawBytes k v w bytes)) = (refl, refl)
+  forms (Raw (LeftBytes v w bytes)) = (refl, refl)
   forms other = (refl, refl)
 
   pub by_parts : (e : Event) → words vats e ≡ told_words (told e)

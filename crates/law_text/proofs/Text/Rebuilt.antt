@@ -8,7 +8,9 @@ use Rattle.def_event.specs.declared.shown.Shown.{Shown, Null}
 use Rattle.def_event.specs.declared.note.ShownNote.{ShownNote}
 use Rattle.def_event.specs.declared.note.ShownNote.TheVariants.{Deliver, DeliverOnly, Settled, Elsewhere, Open as Opens, Ask, Shorten}
 use Rattle.def_event.specs.declared.event.Event.{Event}
-use Rattle.def_event.specs.declared.event.Event.TheVariants.{Open, Turn, Idle, Carry, Cut, Notice, Frame, Take, Call, Back, Thrown, Gone, Got, Slot as SlotMade, Read, Wrote, List as ListMade, Arrived, Ejector, Audition, Promise, Made, Send, SendOnly, When, Done, Threw, Settle, Wait, View, LostCut, LostBroken, LeftQueue, LeftHeld, LeftWait, LeftLink, End}
+use Rattle.def_event.specs.declared.event.Event.TheVariants.{Open, Turn, Idle, Carry, Cut, Notice, Frame, Take, Call, Back, Thrown, Gone, Got, Slot as SlotMade, Read, Wrote, List as ListMade, Arrived, Ejector, Audition, Promise, Made, Send, SendOnly, When, Done, Threw, Settle, Wait, View, LostCut, LostBroken, LeftQueue, LeftHeld, LeftWait, LeftLink, End, Raw}
+use Rattle.def_event.specs.declared.raw.RawLine.{RawLine}
+use Rattle.def_event.specs.declared.raw.RawLine.TheVariants.{Inject, InjectCut, Malformed, Bytes as RawBytes, LeftBytes}
 use Rattle.law_text.specs.Text.Kinds.{kind, kind_in}
 use Rattle.law_text.specs.Text.Parts.{Part, Word, Entry, Activation, Vat, Message, Name, Value, Verb, AList, ASlot, Bytes, Rest, Nothing, Values, Begins, Answered, Holds, Told, told, EventsAreTold}
 use Rattle.law_text.proofs.Text.Kinded.{kinds_told}
@@ -111,6 +113,18 @@ note_in w ps r =
     cond (bytes_eq w (codes "ask")) (Ask (name_at 5 ps) (number_at 6 ps)) (
     Shorten (name_at 5 ps) (name_at 6 ps)))))))
 
+abbrev carried : List ℕ → List Part → Rest → Event
+carried w ps r =
+    cond (bytes_eq w (codes "malformed")) (Raw (Malformed (number_at 0 ps) (number_at 2 ps) (number_at 3 ps) (number_at 5 ps))) (
+    cond (bytes_eq w (codes "bytes")) (Raw (RawBytes (number_at 0 ps) (number_at 2 ps) (number_at 3 ps) (bytes_at 5 ps))) (
+    Carry (number_at 0 ps) (number_at 2 ps) (number_at 3 ps) (note_in w ps r)))
+
+abbrev left_there : List ℕ → List Part → Rest → Event
+left_there w ps r = cond (bytes_eq w (codes "bytes")) (Raw (LeftBytes (number_at 2 ps) (number_at 3 ps) (bytes_at 5 ps))) (LeftLink (number_at 2 ps) (number_at 3 ps) (note_in w ps r))
+
+abbrev injected : List ℕ → List Part → RawLine
+injected w ps = cond (bytes_eq w (codes "cut")) (InjectCut (number_at 0 ps) (number_at 2 ps) (number_at 3 ps)) (Inject (number_at 0 ps) (number_at 2 ps) (number_at 3 ps) (bytes_at 4 ps))
+
 abbrev made : List ℕ → List ℕ → List Part → Rest → Event
 made k w ps r =
     cond (bytes_eq k (codes "open")) (Open (number_at 1 ps)) (
@@ -147,14 +161,20 @@ made k w ps r =
     cond (bytes_eq k (codes "left queue")) (LeftQueue (number_at 2 ps) (message_at 3 ps)) (
     cond (bytes_eq k (codes "left held")) (LeftHeld (number_at 2 ps) (name_at 3 ps) (message_at 4 ps)) (
     cond (bytes_eq k (codes "left wait")) (LeftWait (number_at 2 ps) (value_at 3 ps) (message_at 4 ps)) (
-    cond (bytes_eq k (codes "#carry")) (Carry (number_at 0 ps) (number_at 2 ps) (number_at 3 ps) (note_in w ps r)) (
-    cond (bytes_eq k (codes "left link")) (LeftLink (number_at 2 ps) (number_at 3 ps) (note_in w ps r)) (
-    End))))))))))))))))))))))))))))))))))))
+    cond (bytes_eq k (codes "#carry")) (carried w ps r) (
+    cond (bytes_eq k (codes "left link")) (left_there w ps r) (
+    cond (bytes_eq k (codes "#inject")) (Raw (injected w ps)) (
+    End)))))))))))))))))))))))))))))))))))))
 
 made_again : (e : Event) → made (kind e) (word_at 4 (told e).parts) (told e).parts (told e).rest ≡ e
 made_again (Open v) = refl
 made_again (Carry k v w (Deliver m target verb args)) = refl
 made_again (LeftLink v w (Deliver m target verb args)) = refl
+made_again (Raw (Inject k v w bytes)) = refl
+made_again (Raw (InjectCut k v w)) = refl
+made_again (Raw (Malformed k v w place)) = refl
+made_again (Raw (RawBytes k v w bytes)) = refl
+made_again (Raw (LeftBytes v w bytes)) = refl
 made_again other = refl
 
 -- of no vats

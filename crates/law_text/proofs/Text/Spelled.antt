@@ -5,7 +5,7 @@ use Rattle.std.specs.Fmt.{signed_decimal}
 use Rattle.std.specs.Str.{IsUtf8}
 use Rattle.ev_base.specs.SafeScope.{primitives}
 use Rattle.ev_base.specs.declared.names.Name.{Name}
-use Rattle.ev_base.specs.declared.names.Name.TheVariants.{Object, Own, Answer, Gift, Root}
+use Rattle.ev_base.specs.declared.names.Name.TheVariants.{Object, Own, Answer, Gift, Root, Claimed}
 use Rattle.ev_base.specs.declared.names.Msg.{Msg}
 use Rattle.def_text.specs.Quoting.{shortened, quoted_character}
 use Rattle.def_text.specs.Keywords.{printed_verb}
@@ -13,8 +13,9 @@ use Rattle.def_event.specs.declared.shown.Shown.{Shown, Bool, Int, Char, Text, B
 use Rattle.def_event.specs.declared.note.ShownNote.{ShownNote}
 use Rattle.def_event.specs.declared.note.ShownNote.TheVariants.{Deliver, DeliverOnly, Settled, Elsewhere, Open as Opens, Ask, Shorten}
 use Rattle.def_event.specs.declared.event.Event.{Event}
-use Rattle.def_event.specs.declared.event.Event.TheVariants.{Open, Turn, Idle, Carry, Cut, Notice, Frame, Take, Call, Back, Thrown, Gone, Got, Slot as SlotMade, Read, Wrote, List as ListMade, Arrived, Ejector, Audition, Promise, Made, Send, SendOnly, When, Done, Threw, Settle, Wait, View, LostCut, LostBroken, LeftQueue, LeftHeld, LeftWait, LeftLink, End}
-use Rattle.def_event.specs.Lines.{spaced, hex, primitive_name, activation, begun_words, vat, numbered, message, name, value, member_values, values, note_words, part, words}
+use Rattle.def_event.specs.declared.event.Event.TheVariants.{Open, Turn, Idle, Carry, Cut, Notice, Frame, Take, Call, Back, Thrown, Gone, Got, Slot as SlotMade, Read, Wrote, List as ListMade, Arrived, Ejector, Audition, Promise, Made, Send, SendOnly, When, Done, Threw, Settle, Wait, View, LostCut, LostBroken, LeftQueue, LeftHeld, LeftWait, LeftLink, End, Raw}
+use Rattle.def_event.specs.declared.raw.RawLine.TheVariants.{Inject, InjectCut, Malformed, Bytes, LeftBytes}
+use Rattle.def_event.specs.Lines.{spaced, hex, low_first, primitive_name, activation, begun_words, vat, numbered, message, name, value, member_values, values, note_words, part, words}
 use Rattle.law_text.specs.Text.Feeds.{AllOf, NoteFits, FitsAs}
 use Rattle.law_text.specs.Text.Words.{ordinary, IsOrdinary}
 
@@ -81,6 +82,7 @@ module _ (vats : List (List ℕ)) (P : List ℕ → Type 0) (L : Leaves vats P) 
   name_line (Answer host m) = L.append (vat vats host) (63 ∷ message vats m) (L.place host) (L.first 63 (message vats m) refl (message_line m))
   name_line (Gift host i) = numbered_line host 94 i refl
   name_line (Root v) = L.first 64 (vat vats v) refl (L.place v)
+  name_line (Claimed h p word) = L.append (vat vats h) (94 ∷ (vat vats p ++ 58 ∷ hex (low_first 16 word))) (L.place h) (L.first 94 (vat vats p ++ 58 ∷ hex (low_first 16 word)) refl (L.append (vat vats p) (58 ∷ hex (low_first 16 word)) (L.place p) (L.first 58 (hex (low_first 16 word)) refl (L.bytes (low_first 16 word)))))
 
   mutual
     value_line : (x : Shown) → P (value vats x)
@@ -155,3 +157,8 @@ module _ (vats : List (List ℕ)) (P : List ℕ → Type 0) (L : Leaves vats P) 
   words_are (LeftWait v x m) h = (L.literal _ refl, (L.literal _ refl, (L.place v, (value_line x, (message_line m, tt)))))
   words_are (LeftLink v w note) h = (L.literal _ refl, (L.literal _ refl, (L.place v, (L.place w, note_are note h))))
   words_are End h = (L.literal _ refl, tt)
+  words_are (Raw (Inject k v w bytes)) h = (L.number k, (L.literal _ refl, (L.place v, (L.place w, (L.bytes bytes, tt)))))
+  words_are (Raw (InjectCut k v w)) h = (L.number k, (L.literal _ refl, (L.place v, (L.place w, (L.literal _ refl, tt)))))
+  words_are (Raw (Malformed k v w place)) h = (L.number k, (L.literal _ refl, (L.place v, (L.place w, (L.literal _ refl, (L.number place, tt))))))
+  words_are (Raw (Bytes k v w bytes)) h = (L.number k, (L.literal _ refl, (L.place v, (L.place w, (L.literal _ refl, (L.bytes bytes, tt))))))
+  words_are (Raw (LeftBytes v w bytes)) h = (L.literal _ refl, (L.literal _ refl, (L.place v, (L.place w, (L.literal _ refl, (L.bytes bytes, tt))))))

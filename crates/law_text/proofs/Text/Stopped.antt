@@ -4,7 +4,8 @@ use Rattle.std.specs.Prelude.{decimal, codes, bytes_eq, filter, flat_map}
 use Rattle.std.proofs.lemmas.List.{append-nil}
 use Rattle.def_machine.specs.State.{Stop, Fuel, Deep, Repeated, Astray}
 use Rattle.def_event.specs.declared.event.Event.{Event}
-use Rattle.def_event.specs.declared.event.Event.TheVariants.{Open}
+use Rattle.def_event.specs.declared.event.Event.TheVariants.{Open, Raw}
+use Rattle.def_event.specs.declared.raw.RawLine.TheVariants.{Inject, InjectCut, Malformed, Bytes, LeftBytes}
 use Rattle.def_event.specs.Lines.{spaced, words, render, is_no_frame}
 use Rattle.def_run.specs.World.{Run, Goes, Stopped}
 use Rattle.def_run.specs.Text.{vat_names, stop_line, stop_text, text, wire_text}
@@ -74,6 +75,11 @@ stop_kind other k = refl
 
 kinds_go : (e : Event) → bytes_eq (kind e) (codes "stop") ≡ false
 kinds_go (Open v) = refl
+kinds_go (Raw (Inject k v w bytes)) = refl
+kinds_go (Raw (InjectCut k v w)) = refl
+kinds_go (Raw (Malformed k v w place)) = refl
+kinds_go (Raw (Bytes k v w bytes)) = refl
+kinds_go (Raw (LeftBytes v w bytes)) = refl
 kinds_go other = refl
 
 -- ---- lines of events, and the last

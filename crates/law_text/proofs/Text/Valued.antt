@@ -8,10 +8,10 @@ use Rattle.std.proofs.lemmas.Bool.Decides.{nat_tests}
 use Rattle.std.proofs.lemmas.Fmt.{decimal_injective, decimal_is_IsNumeral_wide}
 use Rattle.std.specs.Str.Parse.{digits_value}
 use Rattle.ev_base.specs.declared.names.Name.{Name}
-use Rattle.ev_base.specs.declared.names.Name.TheVariants.{Object, Own, Answer, Gift, Root}
+use Rattle.ev_base.specs.declared.names.Name.TheVariants.{Object, Own, Answer, Gift, Root, Claimed}
 use Rattle.def_text.specs.Quoting.{shortened}
 use Rattle.def_event.specs.declared.shown.Shown.{Shown, Null, Bool, Int, Char, Text, Broken, Prim, List as ListOf, Slot, Name as Named, Members', Row_of-Shown, end_of-Shown, more_of-Shown}
-use Rattle.def_event.specs.Lines.{primitive_name, vat, numbered, message, value, member_values, spaced}
+use Rattle.def_event.specs.Lines.{hex, low_first, primitive_name, vat, numbered, message, value, member_values, spaced}
 use Rattle.law_text.specs.Text.Names.{unmarked, AreNames}
 use Rattle.law_text.specs.Text.Feeds.{AllOf}
 use Rattle.law_text.specs.Text.Words.{IsOrdinary, ordinary}
@@ -131,6 +131,7 @@ name_mark (Own v n) = 126
 name_mark (Answer h m) = 63
 name_mark (Gift h i) = 94
 name_mark (Root v) = 64
+name_mark (Claimed h p word) = 94
 
 marks_name : (a : Name) → unmarked (name_mark a) ≡ false
 marks_name (Object v n) = refl
@@ -165,6 +166,7 @@ module _ (vats : List (List ℕ)) (good : AreVats vats) where
   front (Named (Own v n)) = vat vats v
   front (Named (Answer h m)) = vat vats h
   front (Named (Gift h i)) = vat vats h
+  front (Named (Claimed h p word)) = vat vats h
   front _ = []
 
   abbrev mark : Shown → ℕ
@@ -194,6 +196,7 @@ module _ (vats : List (List ℕ)) (good : AreVats vats) where
   parts (Named (Answer h m)) = (message vats m ++ 10 ∷ [], append_assoc (vat vats h) (63 ∷ message vats m) (10 ∷ []))
   parts (Named (Gift h i)) = (decimal i ++ 10 ∷ [], append_assoc (vat vats h) (94 ∷ decimal i) (10 ∷ []))
   parts (Named (Root v)) = (vat vats v ++ 10 ∷ [], refl)
+  parts (Named (Claimed h p word)) = ((vat vats p ++ 58 ∷ hex (low_first 16 word)) ++ 10 ∷ [], append_assoc (vat vats h) (94 ∷ (vat vats p ++ 58 ∷ hex (low_first 16 word))) (10 ∷ []))
   parts (Members' shape row) = (_, refl)
   parts other = ([], refl)
 
@@ -206,6 +209,7 @@ module _ (vats : List (List ℕ)) (good : AreVats vats) where
   fronts (Named (Own v n)) = good.spelled v
   fronts (Named (Answer h m)) = good.spelled h
   fronts (Named (Gift h i)) = good.spelled h
+  fronts (Named (Claimed h p word)) = good.spelled h
   fronts other = refl
 
   marks : (x : Shown) → names_vat (mark x) ≡ false
@@ -247,6 +251,7 @@ module _ (vats : List (List ℕ)) (good : AreVats vats) where
   value_full (Named (Own v n)) e = behind_mark 126 (vat vats v) (decimal n) e
   value_full (Named (Answer h m)) e = behind_mark 63 (vat vats h) (message vats m) e
   value_full (Named (Gift h i)) e = behind_mark 94 (vat vats h) (decimal i) e
+  value_full (Named (Claimed h p word)) e = behind_mark 94 (vat vats h) (vat vats p ++ 58 ∷ hex (low_first 16 word)) e
   value_full other e = cc
 
   row_full : {n : _} (row : Row_of-Shown n) → AllOf IsFull (member_values vats row)

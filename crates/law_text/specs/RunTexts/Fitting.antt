@@ -1,5 +1,5 @@
 -- What a vat has in whose lines nothing is out of bounds: vats are among so many, numbers below a limit, texts in UTF-8, integers of 128 bits, primitives that there are, names of objects are identifiers or `_`, and lists pass by their members and not too high.
-use Rattle.law_kernel_form.specs.Trees.{IsInt}
+use Rattle.def_kernel.specs.Trees.{IsInt}
 pub use Rattle.law_machine.specs.Costs.Sizes.{spread}
 unfoldable pub use Rattle.law_machine.specs.Costs.Sizes.{made as size}
 use Rattle.std.specs.Prelude.{◌≡◌, ℕ, zero, suc, ◌<◌, ◌==◌, nat_lt, Bool, true, ◌&&◌, ◌||◌, List, Option, Some, None, length, codes, ◌^◌, ◌≤◌}

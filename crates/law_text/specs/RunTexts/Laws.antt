@@ -9,7 +9,7 @@ use Rattle.def_machine.specs.State.{Vat}
 use Rattle.def_event.specs.Lines.{is_no_frame}
 use Rattle.def_run.specs.World.{Script, Program, Entry, Turn, Carry, CutLink, NoticeLink, Run, run}
 use Rattle.def_run.specs.Text.{vat_names, stop_text, text, wire_text}
-use Rattle.law_kernel_form.specs.Trees.{IsTree}
+use Rattle.def_kernel.specs.Trees.{IsTree}
 pub use Rattle.law_machine.specs.Costs.Laws.{comes_to as world_of}
 use Rattle.law_text.specs.Text.Feeds.{AllOf}
 use Rattle.law_text.specs.Text.Values.{AreVats}

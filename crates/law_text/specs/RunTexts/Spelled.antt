@@ -1,6 +1,6 @@
 -- Trees of which texts, verbs and names are such that a line can tell them.
 use Rattle.law_text.specs.RunTexts.Fitting.{IsObjectName, TextFits}
-use Rattle.law_kernel_form.specs.Trees.{IsInt}
+use Rattle.def_kernel.specs.Trees.{IsInt}
 use Rattle.std.specs.Prelude.{List}
 use Rattle.std.specs.Char.{IsScalar}
 use Rattle.def_kernel.specs.declared.node.Literal.{Literal}

@@ -2,7 +2,8 @@
 use Rattle.std.specs.Prelude.{◌≡◌, ℕ, Bool, false, ◌==◌, ◌&&◌, nat_le, if◌then◌else◌, List, [], ◌∷◌, ◌++◌, codes, bytes_eq, map}
 use Rattle.std.specs.List.{list_all}
 use Rattle.def_event.specs.declared.event.Event.{Event}
-use Rattle.def_event.specs.declared.event.Event.TheVariants.{Open, Turn, Idle, Carry, Cut, Notice, Frame, Take, Call, Back, Thrown, Gone, Got, Slot as SlotMade, Read, Wrote, List as ListMade, Arrived, Ejector, Audition, Promise, Made, Send, SendOnly, When, Done, Threw, Settle, Wait, View, LostCut, LostBroken, LeftQueue, LeftHeld, LeftWait, LeftLink, End}
+use Rattle.def_event.specs.declared.event.Event.TheVariants.{Open, Turn, Idle, Carry, Cut, Notice, Frame, Take, Call, Back, Thrown, Gone, Got, Slot as SlotMade, Read, Wrote, List as ListMade, Arrived, Ejector, Audition, Promise, Made, Send, SendOnly, When, Done, Threw, Settle, Wait, View, LostCut, LostBroken, LeftQueue, LeftHeld, LeftWait, LeftLink, End, Raw}
+use Rattle.def_event.specs.declared.raw.RawLine.TheVariants.{Inject, InjectCut, Malformed, Bytes, LeftBytes}
 use Rattle.def_event.specs.Lines.{words, render}
 use Rattle.law_text.specs.Text.Feeds.{AllOf}
 use Rattle.law_text.specs.Text.Words.{IsOrdinary, WordsFit}
@@ -46,6 +47,11 @@ kind (LeftHeld v p m) = codes "left held"
 kind (LeftWait v x m) = codes "left wait"
 kind (LeftLink v w note) = codes "left link"
 kind End = codes "end"
+kind (Raw (Inject k v w bytes)) = codes "#inject"
+kind (Raw (InjectCut k v w)) = codes "#inject"
+kind (Raw (Malformed k v w place)) = codes "#carry"
+kind (Raw (Bytes k v w bytes)) = codes "#carry"
+kind (Raw (LeftBytes v w bytes)) = codes "left link"
 
 abbrev pub first_of : List (List ℕ) → List ℕ
 first_of [] = []

@@ -7,7 +7,8 @@ use Rattle.def_event.specs.declared.shown.Shown.{Shown}
 use Rattle.def_event.specs.declared.note.ShownNote.{ShownNote}
 use Rattle.def_event.specs.declared.note.ShownNote.TheVariants.{Deliver, DeliverOnly, Settled, Elsewhere, Open as Opens, Ask, Shorten}
 use Rattle.def_event.specs.declared.event.Event.{Event}
-use Rattle.def_event.specs.declared.event.Event.TheVariants.{Open, Turn, Idle, Carry, Cut, Notice, Frame, Take, Call, Back, Thrown, Gone, Got, Slot as SlotMade, Read, Wrote, List as ListMade, Arrived, Ejector, Audition, Promise, Made, Send, SendOnly, When, Done, Threw, Settle, Wait, View, LostCut, LostBroken, LeftQueue, LeftHeld, LeftWait, LeftLink, End}
+use Rattle.def_event.specs.declared.event.Event.TheVariants.{Open, Turn, Idle, Carry, Cut, Notice, Frame, Take, Call, Back, Thrown, Gone, Got, Slot as SlotMade, Read, Wrote, List as ListMade, Arrived, Ejector, Audition, Promise, Made, Send, SendOnly, When, Done, Threw, Settle, Wait, View, LostCut, LostBroken, LeftQueue, LeftHeld, LeftWait, LeftLink, End, Raw}
+use Rattle.def_event.specs.declared.raw.RawLine.TheVariants.{Inject, InjectCut, Malformed, Bytes as RawBytes, LeftBytes}
 use Rattle.def_event.specs.Lines.{is_no_frame, render, render_run}
 use Rattle.law_text.specs.Text.Feeds.{AllOf}
 use Rattle.law_text.specs.Text.Words.{WordsFit}
@@ -96,6 +97,11 @@ told (LeftHeld v p m) = tells (Word (codes "left") ∷ Word (codes "held") ∷ V
 told (LeftWait v x m) = tells (Word (codes "left") ∷ Word (codes "wait") ∷ Vat v ∷ Value x ∷ Message m ∷ [])
 told (LeftLink v w note) = note_tells (Word (codes "left") ∷ Word (codes "link") ∷ Vat v ∷ Vat w ∷ []) note
 told End = tells (Word (codes "end") ∷ [])
+told (Raw (Inject k v w bytes)) = tells (Entry k ∷ Word (codes "inject") ∷ Vat v ∷ Vat w ∷ Bytes bytes ∷ [])
+told (Raw (InjectCut k v w)) = tells (Entry k ∷ Word (codes "inject") ∷ Vat v ∷ Vat w ∷ Word (codes "cut") ∷ [])
+told (Raw (Malformed k v w place)) = tells (Entry k ∷ Word (codes "carry") ∷ Vat v ∷ Vat w ∷ Word (codes "malformed") ∷ Entry place ∷ [])
+told (Raw (RawBytes k v w bytes)) = tells (Entry k ∷ Word (codes "carry") ∷ Vat v ∷ Vat w ∷ Word (codes "bytes") ∷ Bytes bytes ∷ [])
+told (Raw (LeftBytes v w bytes)) = tells (Word (codes "left") ∷ Word (codes "link") ∷ Vat v ∷ Vat w ∷ Word (codes "bytes") ∷ Bytes bytes ∷ [])
 
 -- Nothing of an event is left out: two that tell the same are one.
 abbrev pub EventsAreTold : Type 0

@@ -6,7 +6,8 @@ use Rattle.def_event.specs.declared.note.ShownNote.{ShownNote}
 use Rattle.def_event.specs.declared.note.ShownNote.TheVariants.{Deliver, DeliverOnly}
 use Rattle.def_event.specs.Uses.{Thing, AName, AList, name_of, names_of, things_of, lists_of, parts}
 use Rattle.def_event.specs.declared.event.Event.{Event}
-use Rattle.def_event.specs.declared.event.Event.TheVariants.{Carry, Frame, Take, Call, List as ListMade, Arrived, Made as ObjectMade, Send, SendOnly, LeftLink}
+use Rattle.def_event.specs.declared.event.Event.TheVariants.{Carry, Frame, Take, Call, List as ListMade, Arrived, Made as ObjectMade, Send, SendOnly, LeftLink, Raw}
+use Rattle.def_event.specs.declared.raw.RawLine.TheVariants.{Inject, InjectCut, Malformed, Bytes, LeftBytes}
 use Rattle.def_event.specs.Lines.{is_no_frame}
 use Rattle.def_event.specs.Order.{IsOrdered}
 use Rattle.law_trace.specs.Trace.Seen.{seen}
@@ -52,6 +53,11 @@ event_stays (ObjectMade o) =
     ∙ ap (λ (xs : List Shown). ObjectMade (record { activation = o.activation; object = o.object; name = o.name; caps = o.caps; stamps = xs })) (map-id o.stamps)
 event_stays (Send m) = ap (λ (xs : List Shown). Send (record { activation = m.activation; message = m.message; target = m.target; verb = m.verb; args = xs; answer = m.answer })) (map-id m.args)
 event_stays (SendOnly m) = ap (λ (xs : List Shown). SendOnly (record { activation = m.activation; message = m.message; target = m.target; verb = m.verb; args = xs })) (map-id m.args)
+event_stays (Raw (Inject k v w bytes)) = refl
+event_stays (Raw (InjectCut k v w)) = refl
+event_stays (Raw (Malformed k v w place)) = refl
+event_stays (Raw (Bytes k v w bytes)) = refl
+event_stays (Raw (LeftBytes v w bytes)) = refl
 event_stays other = refl
 
 events_stay : (es : List Event) → map (event itself) es ≡ es

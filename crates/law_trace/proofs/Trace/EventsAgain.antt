@@ -12,9 +12,11 @@ use Rattle.def_event.specs.declared.event.Called.{Called}
 use Rattle.def_event.specs.declared.event.Sent.{Sent}
 use Rattle.def_event.specs.declared.event.Reacting.{Reacting}
 use Rattle.def_event.specs.declared.event.MadeObject.{MadeObject}
-use Rattle.def_event.specs.declared.event.Event.TheVariants.{Open, Turn, Idle, Carry, Cut, Notice, Frame, Take, Call, Back, Thrown, Gone, Got, Slot as SlotMade, Read, Wrote, List as ListMade, Arrived, Ejector, Audition, Promise, Made, Send, SendOnly, When, Done, Threw, Settle, Wait, View, LostCut, LostBroken, LeftQueue, LeftHeld, LeftWait, LeftLink, End}
+use Rattle.def_event.specs.declared.event.Event.TheVariants.{Open, Turn, Idle, Carry, Cut, Notice, Frame, Take, Call, Back, Thrown, Gone, Got, Slot as SlotMade, Read, Wrote, List as ListMade, Arrived, Ejector, Audition, Promise, Made, Send, SendOnly, When, Done, Threw, Settle, Wait, View, LostCut, LostBroken, LeftQueue, LeftHeld, LeftWait, LeftLink, End, Raw}
 use Rattle.def_event.specs.declared.note.ShownNote.{ShownNote}
-use Rattle.def_event.specs.Lines.{begun_words, note_words, part}
+use Rattle.def_event.specs.declared.raw.RawLine.{RawLine}
+use Rattle.def_event.specs.declared.raw.RawLine.TheVariants.{Inject, InjectCut, Malformed, Bytes, LeftBytes}
+use Rattle.def_event.specs.Lines.{begun_words, hex, note_words, part, raw_words}
 use Rattle.def_event.specs.Lines as lines
 use Rattle.ev_script.specs.Script.{rule, ◌>>=◌}
 use Rattle.ev_script.specs.Vats.{place_of}
@@ -24,13 +26,14 @@ use Rattle.ev_trace_words.specs.Parts.{activation, message, name, numbered}
 use Rattle.ev_trace_words.specs.Texts.{object_name, verb}
 use Rattle.ev_trace_words.specs.Values.{value, values}
 use Rattle.ev_trace_words.proofs.Printed.{message_again, name_again, numbered_again, place_again}
-use Rattle.ev_trace_lines.specs.Events.{Words, three_words, two_words, begun, act_on_value, addressed, answered, any_note, arrow_name, asked, asked_with, before_word, behind_word, called, captures, event_of, left_held, left_queue, left_wait, list_and_members, lost, made, made_with, name_and_value, on_link, one_vat, part_behind, reacting, sent, slotted, two_names, two_values, two_vats, valued}
+use Rattle.ev_trace_lines.specs.Events.{Words, three_words, two_words, begun, act_on_value, addressed, answered, arrow_name, asked, asked_with, before_word, behind_word, bytes_of, called, captures, carried, carried_of, event_of, left_held, left_link, left_on, left_queue, left_wait, list_and_members, lost, made, made_with, name_and_value, one_vat, part_behind, reacting, sent, slotted, two_names, two_values, two_vats, valued}
 use Rattle.law_trace.specs.Trace.Seen.{seen, seen_note, seen_value, seen_values}
-use Rattle.law_trace.specs.Trace.Readable.{AreValues, Below, IsMessage, IsName, IsNote, IsRead, IsThing, IsValue, MayBegin}
+use Rattle.law_trace.specs.Trace.Readable.{AreValues, Below, IsMessage, IsName, IsNote, IsRawRead, IsRead, IsThing, IsValue, MayBegin}
 use Rattle.law_trace.specs.Trace.Events.{EventsAreReadAgain}
 use Rattle.law_trace.proofs.Trace.LinesAgain.{IsNoValue, IsOther, act_line, activation_again, all_again, before_at, before_none, behind_at, behind_none, entry_line, goes, no_arrow, no_as, no_stamps, object_again, other_by, verb_again}
 use Rattle.law_trace.proofs.Trace.AnyValue.{fits, value_again}
-use Rattle.law_trace.proofs.Trace.NotesAgain.{any_note_again, two_names_by}
+use Rattle.law_trace.proofs.Trace.NotesAgain.{carried_again, in_words, kind_of, left_again, rest_of, two_names_by}
+use Rattle.law_trace.proofs.Trace.BytesAgain.{bytes_again}
 
 module _ (names : List (List ℕ)) where
   -- ---- by what the words of a line are read as
@@ -94,9 +97,17 @@ module _ (names : List (List ℕ)) where
   on_slot : (a : ℕ) (word l w : List ℕ) (slot : ℕ × ℕ) (x : Shown) → numbered names 38 l ≡ Some slot → value names w ≡ Ok x → act_on_value names a word (l ∷ w ∷ []) ≡ rule 42 (slotted a word slot x)
   on_slot a word l w slot x e f = rw e (rw f refl)
 
-  on_link_by : (left : Bool) (x y : List ℕ) (rest : Words) (v w : ℕ) (note : ShownNote) → place_of names x ≡ Some v → place_of names y ≡ Some w → any_note names left rest ≡ Ok note
-      → on_link names left (x ∷ y ∷ rest) ≡ Ok (v, w, note)
-  on_link_by left x y rest v w note e f g = rw e (rw f (rw g refl))
+  carried_by : (k : ℕ) (x y kind : List ℕ) (rest : Words) (v w : ℕ) → place_of names x ≡ Some v → place_of names y ≡ Some w → carried names k (x ∷ y ∷ kind ∷ rest) ≡ carried_of names k v w kind rest
+  carried_by k x y kind rest v w e f = rw e (rw f refl)
+
+  left_link_by : (x y kind : List ℕ) (rest : Words) (v w : ℕ) → place_of names x ≡ Some v → place_of names y ≡ Some w → left_link names (x ∷ y ∷ kind ∷ rest) ≡ left_on names v w kind rest
+  left_link_by x y kind rest v w e f = rw e (rw f refl)
+
+  carried_bytes_by : (k v w : ℕ) (word bytes : List ℕ) → bytes_of word ≡ Ok bytes → carried_of names k v w (codes "bytes") (word ∷ []) ≡ Ok (Raw (Bytes k v w bytes))
+  carried_bytes_by k v w word bytes e = rw e refl
+
+  left_bytes_by : (v w : ℕ) (word bytes : List ℕ) → bytes_of word ≡ Ok bytes → left_on names v w (codes "bytes") (word ∷ []) ≡ Ok (Raw (LeftBytes v w bytes))
+  left_bytes_by v w word bytes e = rw e refl
 
   lost_cut_by : (w : List ℕ) (m : Msg) → message names w ≡ Some m → lost names (w ∷ codes "cut" ∷ []) ≡ Ok (LostCut m)
   unfolding two_words
@@ -201,11 +212,17 @@ module _ (names : List (List ℕ)) (are : AreNames names) where
   named_value_goes p x f h k =
       goes (name_and_value names (lines.name names p ∷ lines.value names x ∷ [])) (p, seen_value x) f (name_and_value_by names (lines.name names p) (lines.value names x) p (seen_value x) (name_back p h) (value_back x k))
 
-  link_goes : (left : Bool) (v w : ℕ) (note : ShownNote) (f : ℕ × ℕ × ShownNote → Result Event ℕ) → v < length names → w < length names → IsNote (Below names) note
-      → (on_link names left (lines.vat names v ∷ lines.vat names w ∷ note_words names note) >>= f) ≡ f (v, w, seen_note note)
-  link_goes left v w note f h k l =
-      goes (on_link names left (lines.vat names v ∷ lines.vat names w ∷ note_words names note)) (v, w, seen_note note) f
-      (on_link_by names left (lines.vat names v) (lines.vat names w) (note_words names note) v w (seen_note note) (vat_back v h) (vat_back w k) (any_note_again names are left note l))
+  carry_line : (k v w : ℕ) (note : ShownNote) → v < length names → w < length names → IsNote (Below names) note
+      → carried names k (lines.vat names v ∷ lines.vat names w ∷ note_words names note) ≡ Ok (Carry k v w (seen_note note))
+  carry_line k v w note h i l =
+      ap (λ ws. carried names k (lines.vat names v ∷ lines.vat names w ∷ ws)) (in_words names are note)
+      ∙ carried_by names k (lines.vat names v) (lines.vat names w) (kind_of names are note) (rest_of names are note) v w (vat_back v h) (vat_back w i) ∙ carried_again names are k v w note l
+
+  left_line : (v w : ℕ) (note : ShownNote) → v < length names → w < length names → IsNote (Below names) note
+      → left_link names (lines.vat names v ∷ lines.vat names w ∷ note_words names note) ≡ Ok (LeftLink v w (seen_note note))
+  left_line v w note h i l =
+      ap (λ ws. left_link names (lines.vat names v ∷ lines.vat names w ∷ ws)) (in_words names are note)
+      ∙ left_link_by names (lines.vat names v) (lines.vat names w) (kind_of names are note) (rest_of names are note) v w (vat_back v h) (vat_back w i) ∙ left_again names are v w note l
 
   list_goes : (l : ℕ × ℕ) (xs : List Shown) (f : (ℕ × ℕ) × List Shown → Result Event ℕ) → IsThing (Below names) l.0 l.1 → AreValues (Below names) xs
       → (list_and_members names (lines.numbered names l.0 37 l.1 ∷ lines.values names xs) >>= f) ≡ f (l, seen_values xs)
@@ -254,11 +271,21 @@ module _ (names : List (List ℕ)) (are : AreNames names) where
       made_by names o.activation (lines.value names o.object) o.name rest (seen_value o.object) o.name _ (value_back o.object h.1) (object_again o.name h.2)
       (made_with_by names o.activation (seen_value o.object) o.name rest (seen_values o.caps) (seen_values o.stamps) (ap (captures names) (caps_before o.caps o.stamps h.3) ∙ caps_back o.caps h.3) (stamps_behind o.caps o.stamps h.3 h.4))
 
+  raw_again : (line : RawLine) → IsRawRead (Below names) line → event_of names (raw_words names line) ≡ Ok (Raw line)
+  raw_again (Inject k v w bytes) h = absurd h
+  raw_again (InjectCut k v w) h = absurd h
+  raw_again (Malformed k v w place) h = absurd h
+  raw_again (Bytes k v w bytes) h =
+      entry_line names k (codes "carry" ∷ lines.vat names v ∷ lines.vat names w ∷ codes "bytes" ∷ hex bytes ∷ []) h.0
+      ∙ carried_by names k (lines.vat names v) (lines.vat names w) (codes "bytes") (hex bytes ∷ []) v w (vat_back v h.1) (vat_back w h.2) ∙ carried_bytes_by names k v w (hex bytes) bytes (bytes_again bytes h.3)
+  raw_again (LeftBytes v w bytes) h =
+      left_link_by names (lines.vat names v) (lines.vat names w) (codes "bytes") (hex bytes ∷ []) v w (vat_back v h.0) (vat_back w h.1) ∙ left_bytes_by names v w (hex bytes) bytes (bytes_again bytes h.2)
+
   pub event_again : (e : Event) → IsRead (Below names) e → event_of names (lines.words names e) ≡ Ok (seen e)
   event_again (Open v) h = vat_goes v (λ u. Ok (Open u)) h
   event_again (Turn k v) h = entry_line names k (codes "turn" ∷ lines.vat names v ∷ []) h.0 ∙ vat_goes v (λ u. Ok (Turn k u)) h.1
   event_again (Idle k) h = entry_line names k (codes "idle" ∷ []) h
-  event_again (Carry k v w note) h = entry_line names k (codes "carry" ∷ lines.vat names v ∷ lines.vat names w ∷ note_words names note) h.0 ∙ link_goes false v w note (λ n. Ok (Carry k n.0 n.1 n.2)) h.1 h.2 h.3
+  event_again (Carry k v w note) h = entry_line names k (codes "carry" ∷ lines.vat names v ∷ lines.vat names w ∷ note_words names note) h.0 ∙ carry_line k v w note h.1 h.2 h.3
   event_again (Cut k v w) h = entry_line names k (codes "cut" ∷ lines.vat names v ∷ lines.vat names w ∷ []) h.0 ∙ vats_go v w (λ p. Ok (Cut k p.0 p.1)) h.1 h.2
   event_again (Notice k v w) h = entry_line names k (codes "notice" ∷ lines.vat names v ∷ lines.vat names w ∷ []) h.0 ∙ vats_go v w (λ p. Ok (Notice k p.0 p.1)) h.1 h.2
   event_again (Frame bytes) h = absurd h
@@ -291,8 +318,9 @@ module _ (names : List (List ℕ)) (are : AreNames names) where
   event_again (LeftQueue v m) h = left_queue_by names (lines.vat names v) (lines.message names m) v m (vat_back v h.0) (message_back m h.1)
   event_again (LeftHeld v p m) h = left_held_by names (lines.vat names v) (lines.name names p) (lines.message names m) v p m (vat_back v h.0) (name_back p h.1) (message_back m h.2)
   event_again (LeftWait v x m) h = left_wait_by names (lines.vat names v) (lines.value names x) (lines.message names m) v (seen_value x) m (vat_back v h.0) (value_back x h.1) (message_back m h.2)
-  event_again (LeftLink v w note) h = link_goes true v w note (λ n. Ok (LeftLink n.0 n.1 n.2)) h.0 h.1 h.2
+  event_again (LeftLink v w note) h = left_line v w note h.0 h.1 h.2
   event_again End h = refl
+  event_again (Raw line) h = raw_again line h
 
 pub events_again : EventsAreReadAgain
 events_again names e are h = event_again names are e h

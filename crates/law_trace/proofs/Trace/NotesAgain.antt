@@ -1,6 +1,6 @@
 -- Notes are read again.
-use Rattle.std.proofs.Common.{◌≡◌, ℕ, Bool, true, false, cond, List, [], ◌∷◌, Some, refl, ◌∙◌, ap}
-use Rattle.std.specs.Prelude.{Result, Ok}
+use Rattle.std.proofs.Common.{◌≡◌, ℕ, true, false, List, [], ◌∷◌, Some, refl, ◌∙◌, ap}
+use Rattle.std.specs.Prelude.{Result, Ok, codes}
 use Rattle.ev_base.specs.declared.names.Msg.{Msg}
 use Rattle.ev_base.specs.declared.names.Name.{Name}
 use Rattle.def_text.specs.Keywords.{printed_verb}
@@ -16,7 +16,9 @@ use Rattle.ev_trace_words.specs.Parts.{message, name}
 use Rattle.ev_trace_words.specs.Texts.{verb}
 use Rattle.ev_trace_words.specs.Values.{note_value, note_values}
 use Rattle.ev_trace_words.proofs.Printed.{message_again, name_again, place_again}
-use Rattle.ev_trace_lines.specs.Events.{Words, any_note, delivering, delivery, delivery_with, is_strange, name_and_vat, note, settled_note, strange_note, two_names, two_words}
+use Rattle.def_event.specs.declared.event.Event.TheVariants.{Carry, LeftLink}
+use Rattle.ev_script.specs.Script.{◌>>=◌}
+use Rattle.ev_trace_lines.specs.Events.{Words, carried_of, delivering, delivery, delivery_with, left_on, name_and_vat, note_of, settled_note, two_names, two_words}
 use Rattle.law_trace.specs.Trace.Seen.{seen_note, seen_value, seen_values}
 use Rattle.law_trace.specs.Trace.Readable.{Below, IsMessage, IsName, IsNote, IsPassed}
 use Rattle.law_trace.proofs.Trace.PassedAgain.{passed_again}
@@ -58,7 +60,30 @@ module _ (names : List (List ℕ)) (are : AreNames names) where
       → delivery names (lines.message names m ∷ lines.name names t ∷ printed_verb q ∷ lines.values names xs) ≡ Ok (record { message = m; target = t; verb = q; args = seen_values xs })
   delivery_back m t q xs h k l = delivery_by names (lines.message names m) (lines.name names t) (printed_verb q) (lines.values names xs) m t q (seen_values xs) (message_again names m are h.0 h.1) (name_back t k) (verb_again q) (args_back xs l)
 
-  note_again : (n : ShownNote) → IsNote (Below names) n → note names (note_words names n) ≡ Ok (seen_note n)
+  -- the first word of a note, and the others
+  abbrev pub kind_of : ShownNote → List ℕ
+  kind_of (Deliver m t q xs) = codes "deliver"
+  kind_of (DeliverOnly m t q xs) = codes "deliveronly"
+  kind_of (Settled n x) = codes "settled"
+  kind_of (Elsewhere n v) = codes "elsewhere"
+  kind_of (Opens p q) = codes "open"
+  kind_of (Ask n v) = codes "ask"
+  kind_of (Shorten p q) = codes "shorten"
+
+  abbrev pub rest_of : ShownNote → Words
+  rest_of (Deliver m t q xs) = lines.message names m ∷ lines.name names t ∷ printed_verb q ∷ lines.values names xs
+  rest_of (DeliverOnly m t q xs) = lines.message names m ∷ lines.name names t ∷ printed_verb q ∷ lines.values names xs
+  rest_of (Settled n x) = lines.name names n ∷ lines.value names x ∷ []
+  rest_of (Elsewhere n v) = lines.name names n ∷ lines.vat names v ∷ []
+  rest_of (Opens p q) = lines.name names p ∷ lines.name names q ∷ []
+  rest_of (Ask n v) = lines.name names n ∷ lines.vat names v ∷ []
+  rest_of (Shorten p q) = lines.name names p ∷ lines.name names q ∷ []
+
+  pub in_words : (n : ShownNote) → note_words names n ≡ kind_of n ∷ rest_of n
+  in_words (Deliver m t q xs) = refl
+  in_words other = refl
+
+  note_again : (n : ShownNote) → IsNote (Below names) n → note_of names (kind_of n) (rest_of n) ≡ Ok (seen_note n)
   note_again (Deliver m t q xs) h = delivers names (lines.message names m ∷ lines.name names t ∷ printed_verb q ∷ lines.values names xs) m t q (seen_values xs) (delivery_back m t q xs h.0 h.1 h.3)
   note_again (DeliverOnly m t q xs) h = delivers_only names (lines.message names m ∷ lines.name names t ∷ printed_verb q ∷ lines.values names xs) m t q (seen_values xs) (delivery_back m t q xs h.0 h.1 h.3)
   note_again (Settled n x) h = settled_by names (lines.name names n) (lines.value names x) n (seen_value x) (name_back n h.0) (passed_again names are 100 x h.1)
@@ -67,12 +92,17 @@ module _ (names : List (List ℕ)) (are : AreNames names) where
   note_again (Ask n v) h = goes _ _ (λ (p : Name × ℕ). Ok (Ask p.0 p.1)) (name_and_vat_by names (lines.name names n) (lines.vat names v) n v (name_back n h.0) (place_again names v are.apart h.1))
   note_again (Shorten p q) h = goes _ _ (λ (n : Name × Name). Ok (Shorten n.0 n.1)) (two_names_by names (lines.name names p) (lines.name names q) p q (name_back p h.0) (name_back q h.1))
 
-  -- no vat makes a note of bytes by hand
-  not_strange : (left : Bool) (n : ShownNote) → is_strange left (note_words names n) ≡ false
-  not_strange true (Deliver m t q xs) = refl
-  not_strange true other = refl
-  not_strange false (Deliver m t q xs) = refl
-  not_strange false other = refl
+  -- a note is no bytes of a frame
+  as_carried : (k v w : ℕ) (n : ShownNote) → carried_of names k v w (kind_of n) (rest_of n) ≡ (note_of names (kind_of n) (rest_of n) >>= (λ m. Ok (Carry k v w m)))
+  as_carried k v w (Deliver m t q xs) = refl
+  as_carried k v w other = refl
 
-  pub any_note_again : (left : Bool) (n : ShownNote) → IsNote (Below names) n → any_note names left (note_words names n) ≡ Ok (seen_note n)
-  any_note_again left n h = ap (λ b. cond {A = Result ShownNote ℕ} b (strange_note (note_words names n)) (note names (note_words names n))) (not_strange left n) ∙ note_again n h
+  as_left : (v w : ℕ) (n : ShownNote) → left_on names v w (kind_of n) (rest_of n) ≡ (note_of names (kind_of n) (rest_of n) >>= (λ m. Ok (LeftLink v w m)))
+  as_left v w (Deliver m t q xs) = refl
+  as_left v w other = refl
+
+  pub carried_again : (k v w : ℕ) (n : ShownNote) → IsNote (Below names) n → carried_of names k v w (kind_of n) (rest_of n) ≡ Ok (Carry k v w (seen_note n))
+  carried_again k v w n h = as_carried k v w n ∙ ap (λ (r : Result ShownNote ℕ). r >>= (λ m. Ok (Carry k v w m))) (note_again n h)
+
+  pub left_again : (v w : ℕ) (n : ShownNote) → IsNote (Below names) n → left_on names v w (kind_of n) (rest_of n) ≡ Ok (LeftLink v w (seen_note n))
+  left_again v w n h = as_left v w n ∙ ap (λ (r : Result ShownNote ℕ). r >>= (λ m. Ok (LeftLink v w m))) (note_again n h)

@@ -59,11 +59,16 @@ module _ (names : List (List ℕ)) (lawful : list_all is_vat_name names ≡ true
   no_answer None s = rw s refl
   no_answer (Some p) s = rw s (rw (place_by 63 p.0 p.1 (place_of names p.0) refl (split_is 63 word p s) refl) refl)
 
-  name_by : parts.numbered names 46 word ≡ None → parts.numbered names 126 word ≡ None → parts.numbered names 94 word ≡ None → parts.answer names word ≡ None → parts.root names word ≡ None → parts.name names word ≡ None
-  name_by a b c d e = rw a (rw b (rw c (rw d (rw e refl))))
+  no_claim : (o : Option (List ℕ × List ℕ)) → split_at 94 word ≡ o → parts.claimed names word ≡ None
+  no_claim None s = rw s refl
+  no_claim (Some p) s = rw s (rw (place_by 94 p.0 p.1 (place_of names p.0) refl (split_is 94 word p s) refl) refl)
+
+  name_by : parts.numbered names 46 word ≡ None → parts.numbered names 126 word ≡ None → parts.numbered names 94 word ≡ None → parts.answer names word ≡ None → parts.root names word ≡ None → parts.claimed names word ≡ None
+      → parts.name names word ≡ None
+  name_by a b c d e f = rw a (rw b (rw c (rw d (rw e (rw f refl)))))
 
   no_name : parts.name names word ≡ None
-  no_name = name_by (no_number 46 (split_at 46 word) refl refl) (no_number 126 (split_at 126 word) refl refl) (no_number 94 (split_at 94 word) refl refl) (no_answer (split_at 63 word) refl) (no_root names word refl)
+  no_name = name_by (no_number 46 (split_at 46 word) refl refl) (no_number 126 (split_at 126 word) refl refl) (no_number 94 (split_at 94 word) refl refl) (no_answer (split_at 63 word) refl) (no_root names word refl) (no_claim (split_at 94 word) refl)
 
   plain_by : constant word ≡ None → primitive word ≡ None → parts.name names word ≡ None → parts.plain names word ≡ None
   plain_by c p n = rw c (rw p (rw n refl))

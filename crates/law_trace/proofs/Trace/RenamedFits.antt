@@ -2,7 +2,7 @@
 use Rattle.std.proofs.Common.{ℕ, zero, suc, List, [], ◌∷◌}
 use Rattle.ev_base.specs.declared.names.Msg.{Msg}
 use Rattle.ev_base.specs.declared.names.Name.{Name}
-use Rattle.ev_base.specs.declared.names.Name.TheVariants.{Object, Own, Answer, Gift, Root}
+use Rattle.ev_base.specs.declared.names.Name.TheVariants.{Object, Own, Answer, Gift, Root, Claimed}
 use Rattle.def_event.specs.declared.shown.Shown.{Shown, List as ListOf, Slot, Name as Named, Members', Row_of-Shown, end_of-Shown, more_of-Shown}
 use Rattle.def_event.specs.declared.shown.Shown.TheViews.{roll-Shown}
 use Rattle.def_event.specs.declared.shown.Shown.TheBlock.{hidden-the_row-Shown-0}
@@ -10,11 +10,13 @@ use denote.Hole.Carrier.{roll, hidden}
 use Rattle.def_event.specs.declared.note.ShownNote.{ShownNote}
 use Rattle.def_event.specs.declared.note.ShownNote.TheVariants.{Deliver, DeliverOnly, Settled, Elsewhere, Open as Opens, Ask, Shorten}
 use Rattle.def_event.specs.declared.event.Event.{Event}
-use Rattle.def_event.specs.declared.event.Event.TheVariants.{Open, Turn, Carry, Cut, Notice, Frame, Take, Call, Back, Thrown, Got, Slot as SlotMade, Read, Wrote, List as ListMade, Arrived, Ejector, Audition, Promise, Made, Send, SendOnly, When, Done, Threw, Settle, Wait, View, LostCut, LostBroken, LeftQueue, LeftHeld, LeftWait, LeftLink}
+use Rattle.def_event.specs.declared.event.Event.TheVariants.{Open, Turn, Carry, Cut, Notice, Frame, Take, Call, Back, Thrown, Got, Slot as SlotMade, Read, Wrote, List as ListMade, Arrived, Ejector, Audition, Promise, Made, Send, SendOnly, When, Done, Threw, Settle, Wait, View, LostCut, LostBroken, LeftQueue, LeftHeld, LeftWait, LeftLink, Raw}
+use Rattle.def_event.specs.declared.raw.RawLine.{RawLine}
+use Rattle.def_event.specs.declared.raw.RawLine.TheVariants.{Inject, InjectCut, Malformed, Bytes, LeftBytes}
 use Rattle.def_event.specs.Lines.{members}
 use Rattle.law_text.specs.Text.Feeds.{AllOf}
-use Rattle.law_trace.specs.Trace.Readable.{AreMembers, AreValues, IsMessage, IsName, IsNote, IsPassed, IsRead, IsThing, IsValue}
-use Rattle.law_trace.specs.Trace.Renamed.{event_to, members_to, message_to, name_to, note_to, value_to, values_to}
+use Rattle.law_trace.specs.Trace.Readable.{AreMembers, AreValues, IsMessage, IsName, IsNote, IsPassed, IsRawRead, IsRead, IsThing, IsValue}
+use Rattle.law_trace.specs.Trace.Renamed.{event_to, members_to, message_to, name_to, note_to, raw_to, value_to, values_to}
 
 are_members : (Q : ℕ → Type 0) (height : ℕ) (xs : List Shown) → AllOf (IsPassed Q height) xs → IsPassed Q (suc height) (members xs)
 unfolding roll-Shown roll hidden-the_row-Shown-0 hidden
@@ -34,6 +36,7 @@ module _ (P Q : ℕ → Type 0) (to : ℕ → ℕ) (each : (v : ℕ) → P v →
   name_fits (Answer host m) h = (each host h.0, message_fits m h.1)
   name_fits (Gift host i) h = thing_fits host i h
   name_fits (Root v) h = each v h
+  name_fits (Claimed host p word) h = (each host h.0, each p h.1, h.2)
 
   value_fits : (x : Shown) → IsValue P x → IsValue Q (value_to to x)
   value_fits (ListOf v n) h = thing_fits v n h
@@ -82,6 +85,13 @@ module _ (P Q : ℕ → Type 0) (to : ℕ → ℕ) (each : (v : ℕ) → P v →
   note_fits (Ask n v) h = (name_fits n h.0, each v h.1)
   note_fits (Shorten p q) h = (name_fits p h.0, name_fits q h.1)
 
+  raw_fits : (line : RawLine) → IsRawRead P line → IsRawRead Q (raw_to to line)
+  raw_fits (Inject k v w bytes) h = absurd h
+  raw_fits (InjectCut k v w) h = absurd h
+  raw_fits (Malformed k v w place) h = absurd h
+  raw_fits (Bytes k v w bytes) h = (h.0, each v h.1, each w h.2, h.3)
+  raw_fits (LeftBytes v w bytes) h = (each v h.0, each w h.1, h.2)
+
   pub event_fits : (e : Event) → IsRead P e → IsRead Q (event_to to e)
   event_fits (Open v) h = each v h
   event_fits (Turn k v) h = (h.0, each v h.1)
@@ -117,4 +127,5 @@ module _ (P Q : ℕ → Type 0) (to : ℕ → ℕ) (each : (v : ℕ) → P v →
   event_fits (LeftHeld v p m) h = (each v h.0, name_fits p h.1, message_fits m h.2)
   event_fits (LeftWait v x m) h = (each v h.0, value_fits x h.1, message_fits m h.2)
   event_fits (LeftLink v w note) h = (each v h.0, each w h.1, note_fits note h.2)
+  event_fits (Raw line) h = raw_fits line h
   event_fits other h = h

@@ -3,7 +3,7 @@ use Rattle.std.proofs.Common.{◌≡◌, ◌++◌, ℕ, zero, suc, true, List, [
 use Rattle.std.specs.Prelude.{codes, decimal}
 use Rattle.ev_base.specs.declared.names.Msg.{Msg}
 use Rattle.ev_base.specs.declared.names.Name.{Name}
-use Rattle.ev_base.specs.declared.names.Name.TheVariants.{Object, Own, Answer, Gift, Root}
+use Rattle.ev_base.specs.declared.names.Name.TheVariants.{Object, Own, Answer, Gift, Root, Claimed}
 use Rattle.def_event.specs.declared.shown.Shown.{Shown, Bool, List as ListOf, Slot, Name as Named, Members', Row_of-Shown, end_of-Shown, more_of-Shown}
 use Rattle.def_event.specs.declared.shown.Shown.TheViews.{roll-Shown}
 use Rattle.def_event.specs.declared.shown.Shown.TheBlock.{hidden-the_row-Shown-0}
@@ -11,12 +11,14 @@ use denote.Hole.Carrier.{roll, hidden}
 use Rattle.def_event.specs.declared.note.ShownNote.{ShownNote}
 use Rattle.def_event.specs.declared.note.ShownNote.TheVariants.{Deliver, DeliverOnly, Settled, Elsewhere, Open as Opens, Ask, Shorten}
 use Rattle.def_event.specs.declared.event.Event.{Event}
-use Rattle.def_event.specs.declared.event.Event.TheVariants.{Open, Turn, Carry, Cut, Notice, Frame, Take, Call, Back, Thrown, Got, Slot as SlotMade, Read, Wrote, List as ListMade, Arrived, Ejector, Audition, Promise, Made, Send, SendOnly, When, Done, Threw, Settle, Wait, View, LostCut, LostBroken, LeftQueue, LeftHeld, LeftWait, LeftLink}
-use Rattle.def_event.specs.Lines.{member_values, members, note_words, part, spaced, vat, words}
+use Rattle.def_event.specs.declared.event.Event.TheVariants.{Open, Turn, Carry, Cut, Notice, Frame, Take, Call, Back, Thrown, Got, Slot as SlotMade, Read, Wrote, List as ListMade, Arrived, Ejector, Audition, Promise, Made, Send, SendOnly, When, Done, Threw, Settle, Wait, View, LostCut, LostBroken, LeftQueue, LeftHeld, LeftWait, LeftLink, Raw}
+use Rattle.def_event.specs.declared.raw.RawLine.{RawLine}
+use Rattle.def_event.specs.declared.raw.RawLine.TheVariants.{Inject, InjectCut, Malformed, Bytes, LeftBytes}
+use Rattle.def_event.specs.Lines.{hex, low_first, member_values, members, note_words, part, raw_words, spaced, vat, words}
 use Rattle.def_event.specs.Lines as lines
 use Rattle.law_text.specs.Text.Feeds.{AllOf}
-use Rattle.law_trace.specs.Trace.Readable.{AreMembers, AreValues, IsMessage, IsName, IsNote, IsPassed, IsRead, IsThing, IsValue}
-use Rattle.law_trace.specs.Trace.Renamed.{event_to, members_to, message_to, name_to, note_to, value_to, values_to}
+use Rattle.law_trace.specs.Trace.Readable.{AreMembers, AreValues, IsMessage, IsName, IsNote, IsPassed, IsRawRead, IsRead, IsThing, IsValue}
+use Rattle.law_trace.specs.Trace.Renamed.{event_to, members_to, message_to, name_to, note_to, raw_to, value_to, values_to}
 use Rattle.law_trace.specs.Trace.Renumbered.{WordsAreSameByOtherNumbers}
 
 -- ---- a list by its members
@@ -56,6 +58,7 @@ module _ (names found : List (List ℕ)) (to : ℕ → ℕ) (P : ℕ → Type 0)
   name_same (Answer host m) h = ap (λ w. w ++ 63 ∷ lines.message found (message_to to m)) (same host h.0) ∙ ap (λ w. vat names host ++ 63 ∷ w) (message_same m h.1)
   name_same (Gift host i) h = thing_same host 94 i h
   name_same (Root v) h = ap (λ w. 64 ∷ w) (same v h)
+  name_same (Claimed host p word) h = ap (λ w. w ++ 94 ∷ (vat found (to p) ++ 58 ∷ hex (low_first 16 word))) (same host h.0) ∙ ap (λ w. vat names host ++ 94 ∷ (w ++ 58 ∷ hex (low_first 16 word))) (same p h.1)
 
   value_same : (x : Shown) → IsValue P x → lines.value found (value_to to x) ≡ lines.value names x
   value_same (ListOf v n) h = thing_same v 37 n h
@@ -115,6 +118,13 @@ module _ (names found : List (List ℕ)) (to : ℕ → ℕ) (P : ℕ → Type 0)
   two_names : (a : List ℕ) (p q : Name) → IsName P p → IsName P q → a ∷ lines.name found (name_to to p) ∷ lines.name found (name_to to q) ∷ [] ≡ a ∷ lines.name names p ∷ lines.name names q ∷ []
   two_names a p q h k = both_same refl (both_same (name_same p h) (both_same (name_same q k) refl))
 
+  raw_same : (line : RawLine) → IsRawRead P line → raw_words found (raw_to to line) ≡ raw_words names line
+  raw_same (Inject k v w bytes) h = absurd h
+  raw_same (InjectCut k v w) h = absurd h
+  raw_same (Malformed k v w place) h = absurd h
+  raw_same (Bytes k v w bytes) h = both_same refl (both_same refl (both_same (same v h.1) (both_same (same w h.2) refl)))
+  raw_same (LeftBytes v w bytes) h = both_same refl (both_same refl (both_same (same v h.0) (both_same (same w h.1) refl)))
+
   pub event_same : (e : Event) → IsRead P e → words found (event_to to e) ≡ words names e
   event_same (Open v) h = both_same refl (both_same (same v h) refl)
   event_same (Turn k v) h = both_same refl (both_same refl (both_same (same v h.1) refl))
@@ -151,6 +161,7 @@ module _ (names found : List (List ℕ)) (to : ℕ → ℕ) (P : ℕ → Type 0)
   event_same (LeftHeld v p m) h = both_same refl (both_same refl (both_same (same v h.0) (both_same (name_same p h.1) (both_same (message_same m h.2) refl))))
   event_same (LeftWait v x m) h = both_same refl (both_same refl (both_same (same v h.0) (both_same (value_same x h.1) (both_same (message_same m h.2) refl))))
   event_same (LeftLink v w note) h = both_same refl (both_same refl (both_same (same v h.0) (both_same (same w h.1) (note_same note h.2))))
+  event_same (Raw line) h = raw_same line h
   event_same other h = refl
 
 pub words_same : WordsAreSameByOtherNumbers

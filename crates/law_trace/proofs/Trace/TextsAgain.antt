@@ -25,17 +25,21 @@ answer_by : (names : List (List ℕ)) (word : List ℕ) (o : Option (List ℕ ×
 answer_by names word None s e f = rw s refl
 answer_by names word (Some p) s e f = rw s (rw (no_vat names p.0 e (low_front word p.0 p.1 63 (split_is 63 word p s) f)) refl)
 
+claimed_by : (names : List (List ℕ)) (word : List ℕ) (o : Option (List ℕ × List ℕ)) → split_at 94 word ≡ o → list_all is_vat_name names ≡ true → begins_lower word ≡ false → parts.claimed names word ≡ None
+claimed_by names word None s e f = rw s refl
+claimed_by names word (Some p) s e f = rw s (rw (no_vat names p.0 e (low_front word p.0 p.1 94 (split_is 94 word p s) f)) refl)
+
 pub no_root : (names : List (List ℕ)) (word : List ℕ) → starts 64 word ≡ false → parts.root names word ≡ None
 no_root names word f = rw (no_front 64 word (behind_mark 64 word) refl f) refl
 
 name_by : (names : List (List ℕ)) (word : List ℕ) → parts.numbered names 46 word ≡ None → parts.numbered names 126 word ≡ None → parts.numbered names 94 word ≡ None → parts.answer names word ≡ None → parts.root names word ≡ None
-    → parts.name names word ≡ None
-name_by names word a b c d e = rw a (rw b (rw c (rw d (rw e refl))))
+    → parts.claimed names word ≡ None → parts.name names word ≡ None
+name_by names word a b c d e f = rw a (rw b (rw c (rw d (rw e (rw f refl)))))
 
 pub no_name : (names : List (List ℕ)) (word : List ℕ) → list_all is_vat_name names ≡ true → begins_lower word ≡ false → starts 64 word ≡ false → parts.name names word ≡ None
 no_name names word e f r =
     name_by names word (numbered_by names 46 word (split_at 46 word) refl e f) (numbered_by names 126 word (split_at 126 word) refl e f) (numbered_by names 94 word (split_at 94 word) refl e f)
-    (answer_by names word (split_at 63 word) refl e f) (no_root names word r)
+    (answer_by names word (split_at 63 word) refl e f) (no_root names word r) (claimed_by names word (split_at 94 word) refl e f)
 
 pub no_primitive : (word : List ℕ) → starts 60 word ≡ false → primitive word ≡ None
 no_primitive word f = rw (no_front 60 word (behind_mark 60 word) refl f) refl

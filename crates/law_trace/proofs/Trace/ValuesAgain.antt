@@ -10,11 +10,11 @@ use Rattle.std.proofs.lemmas.Option.{cond_some, option_and_then_some}
 use Rattle.std.proofs.lemmas.Slice.Eq.{bytes_eq-Decides}
 use Rattle.ev_base.specs.SafeScope.{safe_value}
 use Rattle.ev_base.specs.declared.names.Name.{Name}
-use Rattle.ev_base.specs.declared.names.Name.TheVariants.{Object, Own, Answer, Gift, Root}
+use Rattle.ev_base.specs.declared.names.Name.TheVariants.{Object, Own, Answer, Gift, Root, Claimed}
 use Rattle.ev_base.specs.declared.names.Msg.{Msg}
 use Rattle.def_text.specs.Keywords.{is_keyword}
 use Rattle.def_event.specs.declared.shown.Shown.{List as ListOf, Slot, Name as Named}
-use Rattle.def_event.specs.Lines.{vat}
+use Rattle.def_event.specs.Lines.{hex, low_first, vat}
 use Rattle.def_event.specs.Lines as lines
 use Rattle.ev_text.specs.Lines.{integer}
 use Rattle.ev_script.specs.Vats.{begins_lower, is_lower, is_lower_or_digit, is_vat_name}
@@ -23,7 +23,7 @@ use Rattle.ev_trace_words.specs.Parts as parts
 use Rattle.ev_trace_words.specs.Values.{value}
 use Rattle.ev_trace_words.specs.Laws.{AreNames, FitsName}
 use Rattle.law_trace.specs.Trace.Laws.{ThingsAreReadAgain}
-use Rattle.ev_trace_words.proofs.Printed.{IsOther, name_again, numbered_again, numbered_lacks, numbered_none, lacks, lacks_append, lower_lacks, vat_letters}
+use Rattle.ev_trace_words.proofs.Printed.{IsOther, key_letters, name_again, numbered_again, numbered_lacks, numbered_none, lacks, lacks_append, lower_lacks, vat_letters}
 use Rattle.ev_trace_words.proofs.Spelled.{split_is}
 
 pub both : (a b : Bool) → (a && b) ≡ true → (a ≡ true) × (b ≡ true)
@@ -59,6 +59,7 @@ begins_so names (Own v n) are fits = lower_name (vat names v) _ (vat_begins name
 begins_so names (Gift v n) are fits = lower_name (vat names v) _ (vat_begins names v are.lawful fits.0)
 begins_so names (Answer host m) are fits = lower_name (vat names host) _ (vat_begins names host are.lawful fits.0)
 begins_so names (Root v) are fits = refl
+begins_so names (Claimed host p word) are fits = lower_name (vat names host) _ (vat_begins names host are.lawful fits.0)
 
 -- ---- so it is no integer and no primitive
 
@@ -131,13 +132,23 @@ answer_lacks names host mark m are small o q s =
 root_lacks : (names : List (List ℕ)) (v mark : ℕ) → AreNames names → IsOther mark → not (eqb 64 mark) ≡ true → lacks mark (64 ∷ vat names v) ≡ true
 root_lacks names v mark are o d = and_true (not (eqb 64 mark)) (lacks mark (vat names v)) d (lower_lacks mark (vat names v) o.letter (vat_letters names v are.lawful))
 
+claimed_lacks : (names : List (List ℕ)) (host provider n mark : ℕ) → AreNames names → IsOther mark → not (eqb 94 mark) ≡ true → not (eqb 58 mark) ≡ true
+    → lacks mark (lines.name names (Claimed host provider n)) ≡ true
+claimed_lacks names host provider n mark are o c d =
+    let digits = hex (low_first 16 n) in
+    lacks_append mark (vat names host) (94 ∷ (vat names provider ++ 58 ∷ digits)) (lower_lacks mark (vat names host) o.letter (vat_letters names host are.lawful))
+    (and_true (not (eqb 94 mark)) (lacks mark (vat names provider ++ 58 ∷ digits)) c
+    (lacks_append mark (vat names provider) (58 ∷ digits) (lower_lacks mark (vat names provider) o.letter (vat_letters names provider are.lawful))
+    (and_true (not (eqb 58 mark)) (lacks mark digits) d (lower_lacks mark digits o.letter (key_letters n)))))
+
 name_lacks : (names : List (List ℕ)) (x : Name) (mark : ℕ) → AreNames names → FitsName (length names) x → IsOther mark
-    → not (eqb 46 mark) ≡ true → not (eqb 126 mark) ≡ true → not (eqb 94 mark) ≡ true → not (eqb 63 mark) ≡ true → not (eqb 47 mark) ≡ true → not (eqb 64 mark) ≡ true → lacks mark (lines.name names x) ≡ true
-name_lacks names (Object v n) mark are fits o a b c d e f = numbered_lacks names v 46 mark n are fits.1 o a
-name_lacks names (Own v n) mark are fits o a b c d e f = numbered_lacks names v 126 mark n are fits.1 o b
-name_lacks names (Gift v n) mark are fits o a b c d e f = numbered_lacks names v 94 mark n are fits.1 o c
-name_lacks names (Answer host m) mark are fits o a b c d e f = answer_lacks names host mark m are fits.2 o d e
-name_lacks names (Root v) mark are fits o a b c d e f = root_lacks names v mark are o f
+    → not (eqb 46 mark) ≡ true → not (eqb 126 mark) ≡ true → not (eqb 94 mark) ≡ true → not (eqb 63 mark) ≡ true → not (eqb 47 mark) ≡ true → not (eqb 64 mark) ≡ true → not (eqb 58 mark) ≡ true → lacks mark (lines.name names x) ≡ true
+name_lacks names (Object v n) mark are fits o a b c d e f g = numbered_lacks names v 46 mark n are fits.1 o a
+name_lacks names (Own v n) mark are fits o a b c d e f g = numbered_lacks names v 126 mark n are fits.1 o b
+name_lacks names (Gift v n) mark are fits o a b c d e f g = numbered_lacks names v 94 mark n are fits.1 o c
+name_lacks names (Answer host m) mark are fits o a b c d e f g = answer_lacks names host mark m are fits.2 o d e
+name_lacks names (Root v) mark are fits o a b c d e f g = root_lacks names v mark are o f
+name_lacks names (Claimed host p word) mark are fits o a b c d e f g = claimed_lacks names host p word mark are o c g
 
 named_by : (names : List (List ℕ)) (word : List ℕ) (x : Name) → parts.numbered names 37 word ≡ None → parts.numbered names 38 word ≡ None → constant word ≡ None → integer word ≡ None → primitive word ≡ None
     → parts.name names word ≡ Some x → value names word ≡ Ok (Named x)
@@ -149,7 +160,7 @@ named_again names x are fits =
     let word = lines.name names x in
     let n = name_again names x are fits in
     let b = begins_so names x are fits in
-    named_by names word x (numbered_none names 37 word (name_lacks names x 37 are fits percent refl refl refl refl refl refl)) (numbered_none names 38 word (name_lacks names x 38 are fits ampersand refl refl refl refl refl refl))
+    named_by names word x (numbered_none names 37 word (name_lacks names x 37 are fits percent refl refl refl refl refl refl refl)) (numbered_none names 38 word (name_lacks names x 38 are fits ampersand refl refl refl refl refl refl refl))
     (no_constant names word x n) (no_integer word b) (no_primitive word b) n
 
 list_by : (names : List (List ℕ)) (word : List ℕ) (x : ℕ × ℕ) → parts.numbered names 37 word ≡ Some x → value names word ≡ Ok (ListOf x.0 x.1)

@@ -6,14 +6,16 @@ use Rattle.std.specs.Str.{bytes_eq}
 use Rattle.std.proofs.lemmas.List.{append-nil}
 use Rattle.ev_base.specs.declared.names.Msg.{Msg}
 use Rattle.ev_base.specs.declared.names.Name.{Name}
-use Rattle.ev_base.specs.declared.names.Name.TheVariants.{Object, Own, Answer, Gift, Root}
+use Rattle.ev_base.specs.declared.names.Name.TheVariants.{Object, Own, Answer, Gift, Root, Claimed}
 use Rattle.def_text.specs.Keywords.{printed_verb}
 use Rattle.def_event.specs.declared.shown.Shown.{Shown, List as ListOf, Slot, Name as Named, Members', Row_of-Shown, end_of-Shown, more_of-Shown}
 use Rattle.def_event.specs.declared.note.ShownNote.{ShownNote}
 use Rattle.def_event.specs.declared.note.ShownNote.TheVariants.{Deliver, DeliverOnly, Settled, Elsewhere, Open as Opens, Ask, Shorten}
 use Rattle.def_event.specs.declared.event.Event.{Event}
-use Rattle.def_event.specs.declared.event.Event.TheVariants.{Open, Turn, Carry, Cut, Notice, Frame, Take, Call, Back, Thrown, Got, Slot as SlotMade, Read, Wrote, List as ListMade, Arrived, Ejector, Audition, Promise, Made, Send, SendOnly, When, Done, Threw, Settle, Wait, View, LostCut, LostBroken, LeftQueue, LeftHeld, LeftWait, LeftLink}
-use Rattle.def_event.specs.Lines.{begun_words, member_values, note_words, part, spaced, vat, words}
+use Rattle.def_event.specs.declared.event.Event.TheVariants.{Open, Turn, Carry, Cut, Notice, Frame, Take, Call, Back, Thrown, Got, Slot as SlotMade, Read, Wrote, List as ListMade, Arrived, Ejector, Audition, Promise, Made, Send, SendOnly, When, Done, Threw, Settle, Wait, View, LostCut, LostBroken, LeftQueue, LeftHeld, LeftWait, LeftLink, Raw}
+use Rattle.def_event.specs.declared.raw.RawLine.{RawLine}
+use Rattle.def_event.specs.declared.raw.RawLine.TheVariants.{Inject, InjectCut, Malformed, Bytes, LeftBytes}
+use Rattle.def_event.specs.Lines.{begun_words, hex, low_first, member_values, note_words, part, raw_words, spaced, vat, words}
 use Rattle.def_event.specs.Lines as lines
 use Rattle.ev_script.specs.Vats.{is_lower_or_digit}
 use Rattle.law_text.specs.Text.Feeds.{AllOf}
@@ -26,8 +28,8 @@ use Rattle.ev_trace_words.proofs.Printed.{count_again, vat_letters}
 use Rattle.ev_trace_lines.specs.Events.{Words}
 use Rattle.ev_trace.specs.Naming.{bare, entry_vats, is_mark, left_vats, line_vats, note_vats, pair_vats, scan, scanned}
 use Rattle.law_trace.specs.Trace.Found.{Stands, VatsAreFound}
-use Rattle.law_trace.specs.Trace.Readable.{AreMembers, AreValues, Below, IsMessage, IsName, IsNote, IsPassed, IsRead, IsThing, IsValue}
-use Rattle.law_trace.proofs.Trace.ScanLemmas.{Ends, bare_in, behind_in, in_left, in_right, later_in, mark_in, other_on, root_in}
+use Rattle.law_trace.specs.Trace.Readable.{AreMembers, AreValues, Below, IsMessage, IsName, IsNote, IsPassed, IsRawRead, IsRead, IsThing, IsValue}
+use Rattle.law_trace.proofs.Trace.ScanLemmas.{Ends, bare_in, behind_in, in_left, in_right, later_in, mark_in, other_on, provider_in, root_in}
 use Rattle.law_trace.proofs.Trace.IntegersAgain.{digits_alone, no_mark, not_word}
 use Rattle.law_trace.proofs.Trace.ValuesAgain.{starts}
 use Rattle.law_trace.proofs.Trace.WordsAgain.{ordinary_names}
@@ -39,7 +41,7 @@ module _ (names : List (List ℕ)) (are : AreNames names) (Q : ℕ → Type 0) w
 
   -- what is found in a word
   abbrev In : List ℕ → List (List ℕ)
-  In word = scan quote.Outside false [] word
+  In word = scan quote.Outside false false [] word
 
   first : (xs ys : List (List ℕ)) → Finds (xs ++ ys) → Finds xs
   first xs ys f v l i = f v l (in_left (vat names v) xs ys i)
@@ -57,6 +59,15 @@ module _ (names : List (List ℕ)) (are : AreNames names) (Q : ℕ → Type 0) w
   name_in (Object v n) tail e h f = thing v 46 n tail refl refl h f
   name_in (Own v n) tail e h f = thing v 126 n tail refl refl h f
   name_in (Gift host i) tail e h f = thing host 94 i tail refl refl h f
+  name_in (Claimed host p word) tail e h f =
+      let digits = hex (low_first 16 word) in
+      let one = append_assoc (vat names host) (94 ∷ (vat names p ++ 58 ∷ digits)) tail in
+      let two = ap (λ r. vat names host ++ 94 ∷ r) (append_assoc (vat names p) (58 ∷ digits) tail) in
+      let g : Finds (In (vat names host ++ 94 ∷ (vat names p ++ 58 ∷ (digits ++ tail)))) = λ v l i. f v l (subst (λ w. Stands (vat names v) (In w)) (sym (one ∙ two)) i) in (
+        g host h.0 (mark_in (vat names host) (vat names p ++ 58 ∷ (digits ++ tail)) 94 (vat_letters names host are.lawful) refl refl),
+        g p h.1 (provider_in (vat names p) (vat names host) (digits ++ tail) (vat_letters names host are.lawful) (vat_letters names p are.lawful)),
+        h.2,
+      )
   name_in (Root v) tail e h f = f v h (root_in (vat names v) tail (vat_letters names v are.lawful) e)
   name_in (Answer host m) tail e h f =
       let same = append_assoc (vat names host) (63 ∷ lines.message names m) tail in
@@ -148,7 +159,7 @@ module _ (names : List (List ℕ)) (are : AreNames names) (Q : ℕ → Type 0) w
 
   -- a vat that stands alone
   abbrev Alone : List ℕ → List (List ℕ)
-  Alone word = scan quote.Outside true [] word
+  Alone word = scan quote.Outside true false [] word
 
   vat_word : (v : ℕ) → v < length names → Finds (Alone (vat names v)) → Q v
   vat_word v h f = f v h (subst (λ w. Stands (vat names v) (Alone w)) (append-nil (vat names v)) (bare_in (vat names v) [] (vat_letters names v are.lawful) tt))
@@ -256,6 +267,16 @@ module _ (names : List (List ℕ)) (are : AreNames names) (Q : ℕ → Type 0) w
 
   -- ---- events
 
+  raw_in : (line : RawLine) → IsRawRead (Below names) line → Finds (line_vats (raw_words names line)) → IsRawRead Q line
+  raw_in (Inject k v w bytes) h f = absurd h
+  raw_in (InjectCut k v w) h f = absurd h
+  raw_in (Malformed k v w place) h f = absurd h
+  raw_in (Bytes k v w bytes) h f =
+      let note = codes "bytes" ∷ hex bytes ∷ [] in
+      let p = pair_in v w (note_vats note) h.1 h.2 (entry_in k (codes "carry") (vat names v ∷ vat names w ∷ note) h.0 f) in
+      (h.0, p.0, p.1, h.3)
+  raw_in (LeftBytes v w bytes) h f = let p = pair_in v w (note_vats (codes "bytes" ∷ hex bytes ∷ [])) h.0 h.1 f in (p.0, p.1, h.2)
+
   event_in : (e : Event) → IsRead (Below names) e → Finds (line_vats (words names e)) → IsRead Q e
   event_in (Open v) h f = vat_word v h (first (Alone (vat names v)) [] f)
   event_in (Turn k v) h f = (h.0, vat_word v h.1 (first (Alone (vat names v)) [] (entry_in k (codes "turn") (vat names v ∷ []) h.0 f)))
@@ -319,6 +340,7 @@ module _ (names : List (List ℕ)) (are : AreNames names) (Q : ℕ → Type 0) w
       let ws = lines.message names m ∷ [] in let g = rest_of (Alone (vat names v)) (scanned (lines.value names x ∷ ws)) f in
       (vat_word v h.0 (first (Alone (vat names v)) (scanned (lines.value names x ∷ ws)) f), value_word x h.1 (head (lines.value names x) ws g), message_word m h.2 (head (lines.message names m) [] (behind (lines.value names x) ws g)))
   event_in (LeftLink v w note) h f = let p = pair_in v w (note_vats (note_words names note)) h.0 h.1 f in (p.0, p.1, note_in note h.2 p.2)
+  event_in (Raw line) h f = raw_in line h f
   event_in other h f = h
 
 module _ (names : List (List ℕ)) (are : AreNames names) (Q : ℕ → Type 0) where

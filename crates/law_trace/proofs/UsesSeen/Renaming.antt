@@ -7,7 +7,9 @@ use Rattle.def_event.specs.declared.note.ShownNote.{ShownNote}
 use Rattle.def_event.specs.declared.note.ShownNote.TheVariants.{Deliver, DeliverOnly, Settled as SettledAs, Elsewhere, Open as Opens, Ask, Shorten}
 use Rattle.def_event.specs.declared.event.Event.{Event}
 use Rattle.def_event.specs.declared.event.Called.{Called}
-use Rattle.def_event.specs.declared.event.Event.TheVariants.{Open, Turn, Idle, Carry, Cut, Notice, Frame, Take, Call, Back, Thrown, Gone, Got, Slot as SlotMade, Read, Wrote, List as ListMade, Arrived, Ejector, Audition as AuditionMade, Promise, Made as ObjectMade, Send, SendOnly, When, Done, Threw, Settle, Wait, View, LostCut, LostBroken, LeftQueue, LeftHeld, LeftWait, LeftLink, End}
+use Rattle.def_event.specs.declared.event.Event.TheVariants.{Open, Turn, Idle, Carry, Cut, Notice, Frame, Take, Call, Back, Thrown, Gone, Got, Slot as SlotMade, Read, Wrote, List as ListMade, Arrived, Ejector, Audition as AuditionMade, Promise, Made as ObjectMade, Send, SendOnly, When, Done, Threw, Settle, Wait, View, LostCut, LostBroken, LeftQueue, LeftHeld, LeftWait, LeftLink, End, Raw}
+use Rattle.def_event.specs.declared.raw.RawLine.{RawLine}
+use Rattle.def_event.specs.declared.raw.RawLine.TheVariants.{Inject, InjectCut, Malformed, Bytes, LeftBytes}
 use Rattle.def_event.specs.Uses.{Thing, AName, AList, Activation, Fact, Begun, Opened, Given, Made, Captured, Audition, Anew, Way, Listed, Settled, Lead, Line, Given_for, Running, place_of, is_object, is_gift, is_root, name_of, names_of, things_of, lists_of, parts, same_message}
 
 -- Each vat, place of a line, name, message and value has another in its place.
@@ -38,6 +40,13 @@ module _ (r : Renaming) where
   note (Opens gift n) = Opens (r.name gift) (r.name n)
   note (Ask gift provider) = Ask (r.name gift) (r.vat provider)
   note (Shorten n gift) = Shorten (r.name n) (r.name gift)
+
+  abbrev pub raw : RawLine → RawLine
+  raw (Inject k v w bytes) = Inject k (r.vat v) (r.vat w) bytes
+  raw (InjectCut k v w) = InjectCut k (r.vat v) (r.vat w)
+  raw (Malformed k v w place) = Malformed k (r.vat v) (r.vat w) place
+  raw (Bytes k v w bytes) = Bytes k (r.vat v) (r.vat w) bytes
+  raw (LeftBytes v w bytes) = LeftBytes (r.vat v) (r.vat w) bytes
 
   abbrev pub event : Event → Event
   event (Open v) = Open (r.vat v)
@@ -77,6 +86,7 @@ module _ (r : Renaming) where
   event (LeftWait v x m) = LeftWait (r.vat v) (r.value x) (r.message m)
   event (LeftLink v w n) = LeftLink (r.vat v) (r.vat w) (note n)
   event End = End
+  event (Raw line) = Raw (raw line)
 
   -- ---- what lines say
 

@@ -2,12 +2,13 @@
 use Rattle.std.proofs.Common.{◌≡◌, ◌==◌, ◌&&◌, ◌∙◌, ℕ, zero, suc, Bool, List, [], ◌∷◌, map, option_map, refl, sym, ap, subst, arith, add-one}
 use Rattle.ev_base.specs.declared.names.Msg.{Msg}
 use Rattle.ev_base.specs.declared.names.Name.{Name}
-use Rattle.ev_base.specs.declared.names.Name.TheVariants.{Object, Own, Answer, Gift, Root}
+use Rattle.ev_base.specs.declared.names.Name.TheVariants.{Object, Own, Answer, Gift, Root, Claimed}
 use Rattle.def_event.specs.declared.shown.Shown.{Shown, Members', Row_of-Shown, end_of-Shown, more_of-Shown}
 use Rattle.def_event.specs.declared.note.ShownNote.{ShownNote}
 use Rattle.def_event.specs.declared.note.ShownNote.TheVariants.{Deliver}
 use Rattle.def_event.specs.declared.event.Event.{Event}
-use Rattle.def_event.specs.declared.event.Event.TheVariants.{Carry, LeftLink}
+use Rattle.def_event.specs.declared.event.Event.TheVariants.{Carry, LeftLink, Raw}
+use Rattle.def_event.specs.declared.raw.RawLine.TheVariants.{Inject, InjectCut, Malformed, Bytes, LeftBytes}
 use Rattle.def_event.specs.Uses.{AName, name_of, names_of, things_of, lists_of, parts, all_parts, member_parts, same_message, is_object, is_gift, is_root}
 use Rattle.law_trace.specs.Trace.Renamed.{event_to, members_to, message_to, name_to, note_to, value_to}
 use Rattle.law_trace.specs.UsesSeen.Alike.{UsesAreSame}
@@ -35,6 +36,11 @@ module _ (to : ℕ → ℕ) where
   event_numbered : (e : Event) → event by_number e ≡ event_to to e
   event_numbered (Carry k v w n) = ap (Carry k (to v) (to w)) (note_numbered n)
   event_numbered (LeftLink v w n) = ap (LeftLink (to v) (to w)) (note_numbered n)
+  event_numbered (Raw (Inject k v w bytes)) = refl
+  event_numbered (Raw (InjectCut k v w)) = refl
+  event_numbered (Raw (Malformed k v w place)) = refl
+  event_numbered (Raw (Bytes k v w bytes)) = refl
+  event_numbered (Raw (LeftBytes v w bytes)) = refl
   event_numbered e = refl
 
   pub events_numbered : (es : List Event) → map (event by_number) es ≡ map (event_to to) es
@@ -82,6 +88,7 @@ module _ (to : ℕ → ℕ) where
   gift_there : (n : Name) → is_gift (name_to to n) ≡ is_gift n
   unfolding is_gift
   gift_there (Gift v n) = refl
+  gift_there (Claimed v p word) = refl
   gift_there n = refl
 
   root_there : (n : Name) → is_root (AName (name_to to n)) ≡ is_root (AName n)
@@ -113,6 +120,11 @@ module _ (to : ℕ → ℕ) where
         ap (λ (u : ℕ). Answer u m) (apart v w h) ∙ ap (Answer w) (messages_apart m n k)
     names_apart (Gift v n) (Gift w m) e = let h : to v ≡ to w = cc in let k : n ≡ m = cc in numbers_apart Gift v w n m h k
     names_apart (Root v) (Root w) e = let h : to v ≡ to w = cc in ap Root (apart v w h)
+    names_apart (Claimed v p n) (Claimed w q m) e =
+        let h : to v ≡ to w = cc in
+        let i : to p ≡ to q = cc in
+        let k : n ≡ m = cc in
+        ap (λ (u : ℕ). Claimed u p n) (apart v w h) ∙ ap (λ (u : ℕ). Claimed w u n) (apart p q i) ∙ ap (Claimed w q) k
     names_apart n m e = absurd cc
 
     messages_there : (m n : Msg) → same_message (message_to to m) (message_to to n) ≡ same_message m n

@@ -5,7 +5,8 @@ use Rattle.def_event.specs.declared.shown.Shown.{Shown, Members', Row_of-Shown, 
 use Rattle.def_event.specs.declared.note.ShownNote.{ShownNote}
 use Rattle.def_event.specs.declared.note.ShownNote.TheVariants.{Deliver}
 use Rattle.def_event.specs.declared.event.Event.{Event}
-use Rattle.def_event.specs.declared.event.Event.TheVariants.{Carry, Frame, LeftLink}
+use Rattle.def_event.specs.declared.event.Event.TheVariants.{Carry, Frame, LeftLink, Raw}
+use Rattle.def_event.specs.declared.raw.RawLine.TheVariants.{Inject, InjectCut, Malformed, Bytes, LeftBytes}
 use Rattle.def_event.specs.Lines.{is_no_frame}
 use Rattle.def_event.specs.Uses.{Thing, AName, AList, name_of, names_of, things_of, lists_of, parts, all_parts, member_parts}
 use Rattle.law_trace.specs.Trace.Seen.{seen, seen_note, seen_value, seen_members}
@@ -30,6 +31,11 @@ note_seen n = refl
 event_seen : (e : Event) → event as_seen e ≡ seen e
 event_seen (Carry k v w n) = ap (Carry k v w) (note_seen n)
 event_seen (LeftLink v w n) = ap (LeftLink v w) (note_seen n)
+event_seen (Raw (Inject k v w bytes)) = refl
+event_seen (Raw (InjectCut k v w)) = refl
+event_seen (Raw (Malformed k v w place)) = refl
+event_seen (Raw (Bytes k v w bytes)) = refl
+event_seen (Raw (LeftBytes v w bytes)) = refl
 event_seen e = refl
 
 pub events_seen : (es : List Event) → map (event as_seen) es ≡ map seen es

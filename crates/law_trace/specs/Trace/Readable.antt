@@ -1,16 +1,18 @@
--- Events whose lines are read again: their numbers are of 64 bits, their integers of 128, and their texts UTF-8.
-use Rattle.std.specs.Prelude.{◌≡◌, ℕ, zero, suc, ◌<◌, ◌^◌, true, ◌||◌, List, length, codes, Option, Some, None}
+-- Events whose lines are read again: their numbers are of 64 bits, those of gifts that a hostile vat claimed and integers of 128, and their texts UTF-8.
+use Rattle.std.specs.Prelude.{◌≡◌, ℕ, zero, suc, ◌<◌, ◌≤◌, ◌^◌, true, ◌||◌, List, length, codes, Option, Some, None}
 use Rattle.std.specs.Char.{IsScalar}
 use Rattle.std.specs.Str.{IsUtf8, bytes_eq}
 use Rattle.def_text.specs.Keywords.{is_identifier}
 use Rattle.ev_base.specs.declared.names.Msg.{Msg}
 use Rattle.ev_base.specs.declared.names.Name.{Name}
-use Rattle.ev_base.specs.declared.names.Name.TheVariants.{Object, Own, Answer, Gift, Root}
+use Rattle.ev_base.specs.declared.names.Name.TheVariants.{Object, Own, Answer, Gift, Root, Claimed}
 use Rattle.def_event.specs.declared.shown.Shown.{Shown, Null, Bool, Int, Char, Text, Broken, Prim, List as ListOf, Slot, Name as Named, Members', Row_of-Shown, end_of-Shown, more_of-Shown}
 use Rattle.def_event.specs.declared.note.ShownNote.{ShownNote}
 use Rattle.def_event.specs.declared.note.ShownNote.TheVariants.{Deliver, DeliverOnly, Settled, Elsewhere, Open as Opens, Ask, Shorten}
 use Rattle.def_event.specs.declared.event.Event.{Event}
-use Rattle.def_event.specs.declared.event.Event.TheVariants.{Open, Turn, Idle, Carry, Cut, Notice, Frame, Take, Call, Back, Thrown, Gone, Got, Slot as SlotMade, Read, Wrote, List as ListMade, Arrived, Ejector, Audition, Promise, Made, Send, SendOnly, When, Done, Threw, Settle, Wait, View, LostCut, LostBroken, LeftQueue, LeftHeld, LeftWait, LeftLink, End}
+use Rattle.def_event.specs.declared.event.Event.TheVariants.{Open, Turn, Idle, Carry, Cut, Notice, Frame, Take, Call, Back, Thrown, Gone, Got, Slot as SlotMade, Read, Wrote, List as ListMade, Arrived, Ejector, Audition, Promise, Made, Send, SendOnly, When, Done, Threw, Settle, Wait, View, LostCut, LostBroken, LeftQueue, LeftHeld, LeftWait, LeftLink, End, Raw}
+use Rattle.def_event.specs.declared.raw.RawLine.{RawLine}
+use Rattle.def_event.specs.declared.raw.RawLine.TheVariants.{Inject, InjectCut, Malformed, Bytes, LeftBytes}
 use Rattle.law_text.specs.Text.Feeds.{AllOf}
 use Rattle.law_trace.specs.Trace.Laws.{IsPrimitive, IsWide}
 
@@ -20,6 +22,10 @@ IsText text = IsUtf8 text × (length text < 2 ^ 64)
 -- an identifier, or `_`
 abbrev pub IsObjectName : List ℕ → Type 0
 IsObjectName word = IsUtf8 word × ((is_identifier word || bytes_eq word (codes "_")) ≡ true)
+
+-- bytes, at least one
+abbrev pub AreBytes : List ℕ → Type 0
+AreBytes bytes = (0 < length bytes) × AllOf (λ b. b < 256) bytes
 
 -- the vat has a name
 abbrev pub Below : List (List ℕ) → ℕ → Type 0
@@ -45,6 +51,7 @@ module _ (IsVat : ℕ → Type 0) where
   IsName (Answer host m) = IsVat host × IsMessage m
   IsName (Gift host i) = IsThing host i
   IsName (Root v) = IsVat v
+  IsName (Claimed host provider word) = IsVat host × IsVat provider × (word < 2 ^ 128)
 
   -- a value that is no list and no var slot
   abbrev pub IsSimple : Shown → Type 0
@@ -92,7 +99,23 @@ module _ (IsVat : ℕ → Type 0) where
   IsNote (Ask gift provider) = IsName gift × IsVat provider
   IsNote (Shorten n gift) = IsName n × IsName gift
 
-  -- no frame
+  -- a line that says that a frame was put on a link by hand, or that one was malformed
+  abbrev pub IsByHand : RawLine → Type 0
+  IsByHand (Inject k v w bytes) = (k < 2 ^ 64) × IsVat v × IsVat w × AreBytes bytes × (length bytes ≤ 4096)
+  IsByHand (InjectCut k v w) = (k < 2 ^ 64) × IsVat v × IsVat w
+  IsByHand (Malformed k v w place) = (k < 2 ^ 64) × IsVat v × IsVat w × (place < 2 ^ 64)
+  IsByHand (Bytes k v w bytes) = ⊥
+  IsByHand (LeftBytes v w bytes) = ⊥
+
+  -- a line about a frame that no vat judged; one that says that a frame was put by hand, or was malformed, is refused
+  abbrev pub IsRawRead : RawLine → Type 0
+  IsRawRead (Inject k v w bytes) = ⊥
+  IsRawRead (InjectCut k v w) = ⊥
+  IsRawRead (Malformed k v w place) = ⊥
+  IsRawRead (Bytes k v w bytes) = (k < 2 ^ 64) × IsVat v × IsVat w × AreBytes bytes
+  IsRawRead (LeftBytes v w bytes) = IsVat v × IsVat w × AreBytes bytes
+
+  -- no frame of a note
   abbrev pub IsRead : Event → Type 0
   IsRead (Open v) = IsVat v
   IsRead (Turn k v) = (k < 2 ^ 64) × IsVat v
@@ -131,3 +154,4 @@ module _ (IsVat : ℕ → Type 0) where
   IsRead (LeftWait v x m) = IsVat v × IsValue x × IsMessage m
   IsRead (LeftLink v w note) = IsVat v × IsVat w × IsNote note
   IsRead End = Unit {0}
+  IsRead (Raw line) = IsRawRead line

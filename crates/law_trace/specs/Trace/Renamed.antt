@@ -2,12 +2,14 @@
 use Rattle.std.specs.Prelude.{ℕ, List, [], ◌∷◌, map}
 use Rattle.ev_base.specs.declared.names.Msg.{Msg}
 use Rattle.ev_base.specs.declared.names.Name.{Name}
-use Rattle.ev_base.specs.declared.names.Name.TheVariants.{Object, Own, Answer, Gift, Root}
+use Rattle.ev_base.specs.declared.names.Name.TheVariants.{Object, Own, Answer, Gift, Root, Claimed}
 use Rattle.def_event.specs.declared.shown.Shown.{Shown, Null, Bool, Int, Char, Text, Broken, Prim, List as ListOf, Slot, Name as Named, Members', Row_of-Shown, end_of-Shown, more_of-Shown}
 use Rattle.def_event.specs.declared.note.ShownNote.{ShownNote}
 use Rattle.def_event.specs.declared.note.ShownNote.TheVariants.{Deliver, DeliverOnly, Settled, Elsewhere, Open as Opens, Ask, Shorten}
 use Rattle.def_event.specs.declared.event.Event.{Event}
-use Rattle.def_event.specs.declared.event.Event.TheVariants.{Open, Turn, Idle, Carry, Cut, Notice, Frame, Take, Call, Back, Thrown, Gone, Got, Slot as SlotMade, Read, Wrote, List as ListMade, Arrived, Ejector, Audition, Promise, Made, Send, SendOnly, When, Done, Threw, Settle, Wait, View, LostCut, LostBroken, LeftQueue, LeftHeld, LeftWait, LeftLink, End}
+use Rattle.def_event.specs.declared.event.Event.TheVariants.{Open, Turn, Idle, Carry, Cut, Notice, Frame, Take, Call, Back, Thrown, Gone, Got, Slot as SlotMade, Read, Wrote, List as ListMade, Arrived, Ejector, Audition, Promise, Made, Send, SendOnly, When, Done, Threw, Settle, Wait, View, LostCut, LostBroken, LeftQueue, LeftHeld, LeftWait, LeftLink, End, Raw}
+use Rattle.def_event.specs.declared.raw.RawLine.{RawLine}
+use Rattle.def_event.specs.declared.raw.RawLine.TheVariants.{Inject, InjectCut, Malformed, Bytes, LeftBytes}
 use Rattle.def_event.specs.Lines.{members}
 
 -- the vat with this number has that one
@@ -24,6 +26,7 @@ module _ (to : ℕ → ℕ) where
   name_to (Answer host m) = Answer (to host) (message_to m)
   name_to (Gift host i) = Gift (to host) i
   name_to (Root v) = Root (to v)
+  name_to (Claimed host p word) = Claimed (to host) (to p) word
 
   abbrev mutual
     pub value_to : Shown → Shown
@@ -54,6 +57,13 @@ module _ (to : ℕ → ℕ) where
   note_to (Opens gift n) = Opens (name_to gift) (name_to n)
   note_to (Ask gift provider) = Ask (name_to gift) (to provider)
   note_to (Shorten n gift) = Shorten (name_to n) (name_to gift)
+
+  abbrev pub raw_to : RawLine → RawLine
+  raw_to (Inject k v w bytes) = Inject k (to v) (to w) bytes
+  raw_to (InjectCut k v w) = InjectCut k (to v) (to w)
+  raw_to (Malformed k v w place) = Malformed k (to v) (to w) place
+  raw_to (Bytes k v w bytes) = Bytes k (to v) (to w) bytes
+  raw_to (LeftBytes v w bytes) = LeftBytes (to v) (to w) bytes
 
   abbrev pub event_to : Event → Event
   event_to (Open v) = Open (to v)
@@ -93,3 +103,4 @@ module _ (to : ℕ → ℕ) where
   event_to (LeftWait v x m) = LeftWait (to v) (value_to x) (message_to m)
   event_to (LeftLink v w note) = LeftLink (to v) (to w) (note_to note)
   event_to End = End
+  event_to (Raw line) = Raw (raw_to line)

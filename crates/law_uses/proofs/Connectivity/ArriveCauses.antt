@@ -10,17 +10,17 @@ use Rattle.def_machine.specs.Arrive as arrive
 use Rattle.def_machine.specs.Arrive.{Incoming, Old, New, gift_at, opened_in}
 use Rattle.law_machine.specs.Machine.Steps.{Receives, Notices}
 use Rattle.law_uses.specs.Connectivity.Known.{IsAmong, AllOf, Start, itself}
-use Rattle.law_uses.specs.Connectivity.Settlings.{IsNew, IsNamed, IsMessage, IsValue, IsLearntAs, AreLearntAs, IsGiftOf, Says, HasAnswer, came, IsNoticed, IsOf, hosts, learns, provides, tells as told_at, said, SettlesWell, ViewsBy}
+use Rattle.law_uses.specs.Connectivity.Settlings.{InValue, InPassed, InPasseds, InNote, IsNew, IsNamed, IsMessage, IsValue, IsLearntAs, AreLearntAs, IsGiftOf, Says, HasAnswer, came, IsNoticed, IsOf, hosts, learns, provides, tells as told_at, said, SettlesWell, ViewsBy}
 use Rattle.law_uses.proofs.Connectivity.Causes.{Causes, Ends, Any, Further, up, no_further, ends_then, ends_more, GiftTold, learnt_more, steady_give, steady_out, steady_draw, steady_mail, steady_open, steady_to_tell, comes, waits, new_gift_well, marks, views_now, lists_come}
 use Rattle.law_uses.proofs.Connectivity.RefsCauses.{settles_well, resolves_well, sends_arrived, steady_inform}
 
 module _ {N W : Type 0} (K : Naming N W) (E : Start N W) where
   -- ---- learning
 
-  names : (x : Incoming N W) (s : Vat N) → Causes K E s → Ends K E s (λ n t. IsNamed K E x n) (arrive.learn_name K x s)
+  names : (x : Incoming N W) → InNote K E x E.step → (s : Vat N) → Causes K E s → Ends K E s (λ n t. IsNamed K E x n) (arrive.learn_name K x s)
   unfolding arrive.learn_name give
-  names (Old n) s c = (no_further K E s.happened, c, refl)
-  names (New x h) s c = comes K E (IsLearnt x) h s c
+  names (Old n) i s c = (no_further K E s.happened, c, refl)
+  names (New x h) i s c = comes K E (IsLearnt x) h i s c
 
   messages : (x : Incoming N W) (s : Vat N) → Causes K E s → Ends K E s (λ n t. IsMessage K E x n) (arrive.learn_message K x s)
   unfolding arrive.learn_message give mail
@@ -31,17 +31,17 @@ module _ {N W : Type 0} (K : Naming N W) (E : Start N W) where
   unfolding give
   gives_itself a Q s c q = (no_further K E s.happened, c, q)
 
-  values : (y : Value (Incoming N W)) (s : Vat N) → Causes K E s → Ends K E s (λ v t. IsValue K E y v) (arrive.learn_value K y s)
+  values : (y : Value (Incoming N W)) → ((x : Incoming N W) → InValue K E x y → InNote K E x E.step) → (s : Vat N) → Causes K E s → Ends K E s (λ v t. IsValue K E y v) (arrive.learn_value K y s)
   unfolding arrive.learn_value ◌>>=◌
-  values Null s c = gives_itself Null (λ v t. v ≡ Null) s c refl
-  values (Flag b) s c = gives_itself (Flag b) (λ v t. v ≡ Flag b) s c refl
-  values (Number z) s c = gives_itself (Number z) (λ v t. v ≡ Number z) s c refl
-  values (Letter l) s c = gives_itself (Letter l) (λ v t. v ≡ Letter l) s c refl
-  values (Text t) s c = gives_itself (Text t) (λ v u. v ≡ Text t) s c refl
-  values (Prim i) s c = gives_itself (Prim i) (λ v t. v ≡ Prim i) s c refl
-  values (Broken p) s c = gives_itself (Broken p) (λ v t. v ≡ Broken p) s c refl
-  values (Items k) s c = gives_itself (Items k) (λ v t. v ≡ Items k) s c refl
-  values (Ref x) s c = ends_then K E s (arrive.learn_name K x s) _ (λ n t. IsNamed K E x n) _ (names x s c) (λ n t f d i. gives_itself (Ref n) (λ v u. (m : N) × (v ≡ Ref m) × IsNamed K E x m) t d (n, refl, i))
+  values Null f s c = gives_itself Null (λ v t. v ≡ Null) s c refl
+  values (Flag b) f s c = gives_itself (Flag b) (λ v t. v ≡ Flag b) s c refl
+  values (Number z) f s c = gives_itself (Number z) (λ v t. v ≡ Number z) s c refl
+  values (Letter l) f s c = gives_itself (Letter l) (λ v t. v ≡ Letter l) s c refl
+  values (Text t) f s c = gives_itself (Text t) (λ v u. v ≡ Text t) s c refl
+  values (Prim i) f s c = gives_itself (Prim i) (λ v t. v ≡ Prim i) s c refl
+  values (Broken p) f s c = gives_itself (Broken p) (λ v t. v ≡ Broken p) s c refl
+  values (Items k) f s c = gives_itself (Items k) (λ v t. v ≡ Items k) s c refl
+  values (Ref x) f s c = ends_then K E s (arrive.learn_name K x s) _ (λ n t. IsNamed K E x n) _ (names x (f x refl) s c) (λ n t l d i. gives_itself (Ref n) (λ v u. (m : N) × (v ≡ Ref m) × IsNamed K E x m) t d (n, refl, i))
 
   asks_for : (p h i : ℕ) (n : N) → IsNew K E (IsGift h i) n → (s : Vat N) → Causes K E s → Ends K E s (Any K E) (arrive.ask_for K p h i n s)
   unfolding arrive.ask_for ◌>>=◌ look and_then
@@ -53,7 +53,7 @@ module _ {N W : Type 0} (K : Naming N W) (E : Start N W) where
 
   gifts : (p h i : ℕ) (s : Vat N) → Causes K E s → Ends K E s (λ v t. (n : N) × (v ≡ Ref n) × IsNew K E (IsGift h i) n) (arrive.learn_gift K p h i s)
   unfolding arrive.learn_gift ◌>>=◌ ◌>>◌
-  gifts p h i s c = ends_then K E s (come K (IsGift h i) h s) _ (λ n t. IsNew K E (IsGift h i) n) _ (comes K E (IsGift h i) h s c) (λ n t f d k.
+  gifts p h i s c = ends_then K E s (come K (IsGift h i) h s) _ (λ n t. IsNew K E (IsGift h i) n) _ (comes K E (IsGift h i) h refl s c) (λ n t f d k.
       ends_then K E t (arrive.ask_for K p h i n t) _ (Any K E) _ (asks_for p h i n k t d) (λ a u g e q.
       gives_itself (Ref n) (λ v w. (m : N) × (v ≡ Ref m) × IsNew K E (IsGift h i) m) u e (n, refl, k)))
 
@@ -63,16 +63,16 @@ module _ {N W : Type 0} (K : Naming N W) (E : Start N W) where
   mutual
     unfolding arrive.learn arrive.learn_all ◌>>=◌
 
-    learns_as : (p : ℕ) (y : Passed (Incoming N W)) (s : Vat N) → Causes K E s → Ends K E s (λ v t. IsLearntAs K E t.happened y v) (arrive.learn K p y s)
-    learns_as p (Plain y) s c = values y s c
-    learns_as p (AGift h i) s c = gifts p h i s c
-    learns_as p (Many ys) s c = ends_then K E s (arrive.learn_all K p ys s) _ (λ vs t. AreLearntAs K E t.happened ys vs) _ (learn_all_as p ys s c) (λ vs t f d h.
+    learns_as : (p : ℕ) (y : Passed (Incoming N W)) → ((x : Incoming N W) → InPassed K E x y → InNote K E x E.step) → (s : Vat N) → Causes K E s → Ends K E s (λ v t. IsLearntAs K E t.happened y v) (arrive.learn K p y s)
+    learns_as p (Plain y) q s c = values y q s c
+    learns_as p (AGift h i) q s c = gifts p h i s c
+    learns_as p (Many ys) q s c = ends_then K E s (arrive.learn_all K p ys s) _ (λ vs t. AreLearntAs K E t.happened ys vs) _ (learn_all_as p ys q s c) (λ vs t f d h.
         ends_more K E t (arrive.make_list K vs t) _ (λ v u. IsLearntAs K E u.happened (Many ys) v) (lists_come K E vs t d) (λ v u g k. (k.0, vs, k.1, k.2, all_last ys vs t u g h)))
 
-    learn_all_as : (p : ℕ) (ys : Passeds (Incoming N W)) (s : Vat N) → Causes K E s → Ends K E s (λ vs t. AreLearntAs K E t.happened ys vs) (arrive.learn_all K p ys s)
-    learn_all_as p NoMore s c = gives_itself [] (λ vs t. AreLearntAs K E t.happened NoMore vs) s c tt
-    learn_all_as p (More y ys) s c = ends_then K E s (arrive.learn K p y s) _ (λ v t. IsLearntAs K E t.happened y v) _ (learns_as p y s c) (λ v t f d h.
-        ends_then K E t (arrive.learn_all K p ys t) _ (λ vs u. AreLearntAs K E u.happened ys vs) _ (learn_all_as p ys t d) (λ vs u g e i.
+    learn_all_as : (p : ℕ) (ys : Passeds (Incoming N W)) → ((x : Incoming N W) → InPasseds K E x ys → InNote K E x E.step) → (s : Vat N) → Causes K E s → Ends K E s (λ vs t. AreLearntAs K E t.happened ys vs) (arrive.learn_all K p ys s)
+    learn_all_as p NoMore q s c = gives_itself [] (λ vs t. AreLearntAs K E t.happened NoMore vs) s c tt
+    learn_all_as p (More y ys) q s c = ends_then K E s (arrive.learn K p y s) _ (λ v t. IsLearntAs K E t.happened y v) _ (learns_as p y (λ x i. q x (inl i)) s c) (λ v t f d h.
+        ends_then K E t (arrive.learn_all K p ys t) _ (λ vs u. AreLearntAs K E u.happened ys vs) _ (learn_all_as p ys (λ x j. q x (inr j)) t d) (λ vs u g e i.
         gives_itself (v ∷ vs) (λ ws w. AreLearntAs K E w.happened (More y ys) ws) u e (learnt_lasts y v t u g h, i)))
 
     all_last : (ys : Passeds (Incoming N W)) (vs : List (Value N)) (s t : Vat N) → Further K E s t → AreLearntAs K E s.happened ys vs → AreLearntAs K E t.happened ys vs
@@ -102,7 +102,7 @@ module _ {N W : Type 0} (K : Naming N W) (E : Start N W) where
   gift_here : (v p i : ℕ) (o : Option (GiftEntry N)) (s : Vat N) → v ≡ E.vat.number → ((g : GiftEntry N) → o ≡ Some g → IsGiftOf K E p i g.name) → Causes K E s → Ends K E s (λ n t. IsGiftOf K E p i n) (arrive.gift_or_new K v p i o s)
   unfolding arrive.gift_or_new ◌>>=◌ ◌>>◌
   gift_here v p i (Some g) s e h c = gives_itself g.name (λ n t. IsGiftOf K E p i n) s c (h g refl)
-  gift_here v p i None s e h c = ends_then K E s (come K (IsGift v i) v s) _ (λ n t. IsNew K E (IsGift v i) n) _ (comes K E (IsGift v i) v s c) (λ n t f d k.
+  gift_here v p i None s e h c = ends_then K E s (come K (IsGift v i) v s) _ (λ n t. IsNew K E (IsGift v i) n) _ (comes K E (IsGift v i) v refl s c) (λ n t f d k.
       let is : IsGiftOf K E p i n = inr (subst (λ u. IsNew K E (IsGift u i) n) e k) in
       ends_then K E t (new_gift n p i t) _ (Any K E) _ (new_gift_well K E n p i t d is) (λ a u g j q. gives_itself n (λ m w. IsGiftOf K E p i m) u j is))
 
@@ -133,7 +133,7 @@ module _ {N W : Type 0} (K : Naming N W) (E : Start N W) where
   module _ (from : ℕ) (d : Delivery (Incoming N W)) (x : Incoming N W) (verb : Words) (ys : Passeds (Incoming N W)) (is : E.step ≡ Receives from (Deliver d x verb ys)) where
     sends_asked : (id n : N) (args : List (Value N)) (s : Vat N) → Causes K E s → IsMessage K E d.message id → IsNamed K E x n → Ends K E s (Any K E) (arrive.send_on_asked K from id n verb args s)
     unfolding arrive.send_on_asked ◌>>=◌ ◌>>◌ look and_then
-    sends_asked id n args s c i j = ends_then K E s (come K (IsAnswer s.number id) s.number s) _ (λ a t. IsNew K E (IsAnswer s.number id) a) _ (comes K E (IsAnswer s.number id) s.number s c) (λ a t f e k.
+    sends_asked id n args s c i j = ends_then K E s (come K (IsAnswer s.number id) s.number s) _ (λ a t. IsNew K E (IsAnswer s.number id) a) _ (comes K E (IsAnswer s.number id) s.number refl s c) (λ a t f e k.
         ends_then K E t (alter K (ToTell from) a t) _ (Any K E) _ ((steady_to_tell K E from a).after t e) (λ b u g h q.
         sends_arrived K E (record { id = id; target = Ref n; verb = verb; args = args; answer = Some a }) u h (λ p z. (Ref n, answered u.happened a k p z, inl itself))))
       where
@@ -143,8 +143,8 @@ module _ {N W : Type 0} (K : Naming N W) (E : Start N W) where
     delivers_well : (s : Vat N) → Causes K E s → Ends K E s (Any K E) (arrive.arrive_deliver K from d x verb ys s)
     unfolding arrive.arrive_deliver ◌>>=◌
     delivers_well s c = ends_then K E s (arrive.learn_message K d.message s) _ (λ id t. IsMessage K E d.message id) _ (messages d.message s c) (λ id t f e i.
-        ends_then K E t (arrive.learn_all K from ys t) _ (λ vs u. AreLearntAs K E u.happened ys vs) _ (learn_all_as from ys t e) (λ vs u g h q.
-        ends_then K E u (arrive.learn_name K x u) _ (λ n v. IsNamed K E x n) _ (names x u h) (λ n v l j o. either id n vs v j i o d.asks)))
+        ends_then K E t (arrive.learn_all K from ys t) _ (λ vs u. AreLearntAs K E u.happened ys vs) _ (learn_all_as from ys (λ z k. subst (λ w. InNote K E z w) (sym is) (inr k)) t e) (λ vs u g h q.
+        ends_then K E u (arrive.learn_name K x u) _ (λ n v. IsNamed K E x n) _ (names x (subst (λ w. InNote K E x w) (sym is) (inl refl)) u h) (λ n v l j o. either id n vs v j i o d.asks)))
       where
         no_answer : (p : N) → None ≡ Some p → ⊥
         no_answer p e = cc
@@ -156,7 +156,7 @@ module _ {N W : Type 0} (K : Naming N W) (E : Start N W) where
 
   opens_well : (from i : ℕ) (x : Incoming N W) → E.step ≡ Receives from (Open i x) → (s : Vat N) → Causes K E s → Ends K E s (Any K E) (arrive.arrive_open K from i x s)
   unfolding arrive.arrive_open ◌>>=◌ ◌>>◌
-  opens_well from i x is s c = ends_then K E s (arrive.learn_name K x s) _ (λ y t. IsNamed K E x y) _ (names x s c) (λ y t f d h.
+  opens_well from i x is s c = ends_then K E s (arrive.learn_name K x s) _ (λ y t. IsNamed K E x y) _ (names x (subst (λ w. InNote K E x w) (sym is) refl) s c) (λ y t f d h.
       ends_then K E t (arrive.have_gift K from i t) _ (λ n u. IsGiftOf K E from i n) _ (gift_had from i t d) (λ n u g e j.
       ends_then K E u (open_gift from i u) _ (Any K E) _ ((steady_open K E from i).after u e) (λ a v l k q.
       resolves_well K E n (Ref y) v k (said (subst (λ z. Says K E v.happened z n (Ref y)) (sym is) (y, j, refl, h))))))
@@ -176,8 +176,8 @@ module _ {N W : Type 0} (K : Naming N W) (E : Start N W) where
 
   settled_well : (from : ℕ) (x : Incoming N W) (y : Passed (Incoming N W)) → E.step ≡ Receives from (SettledTo x y) → (s : Vat N) → Causes K E s → Ends K E s (Any K E) (arrive.arrive_settled K from x y s)
   unfolding arrive.arrive_settled ◌>>=◌
-  settled_well from x y is s c = ends_then K E s (arrive.learn_name K x s) _ (λ n t. IsNamed K E x n) _ (names x s c) (λ n t f d h.
-      ends_then K E t (arrive.learn K from y t) _ (λ v u. IsLearntAs K E u.happened y v) _ (learns_as from y t d) (λ v u g e j.
+  settled_well from x y is s c = ends_then K E s (arrive.learn_name K x s) _ (λ n t. IsNamed K E x n) _ (names x (subst (λ w. InNote K E x w) (sym is) (inl refl)) s c) (λ n t f d h.
+      ends_then K E t (arrive.learn K from y t) _ (λ v u. IsLearntAs K E u.happened y v) _ (learns_as from y (λ z k. subst (λ w. InNote K E z w) (sym is) (inr k)) t d) (λ v u g e j.
       settles_well K E n v u e (inl (v, said (subst (λ z. Says K E u.happened z n v) (sym is) (h, j)), inl (inl itself)))))
 
   module _ (from : ℕ) (x : Incoming N W) (c : ℕ) (is : E.step ≡ Receives from (Elsewhere x c)) where
@@ -191,7 +191,7 @@ module _ {N W : Type 0} (K : Naming N W) (E : Start N W) where
       where
         either : (b : Bool) → (c == v) ≡ b → Ends K E s (λ g t. IsThere h i g) ((if b then arrive.have_gift K h i else (come K (IsGift c i) c >>= (λ g. send_out c (Ask h i g) >> give g))) s)
         either true f = ends_more K E s (arrive.have_gift K h i s) (λ g t. IsGiftOf K E h i g) (λ g t. IsThere h i g) (gift_had h i s d) (λ g t l j. inr (eqb-true c v f ∙ e, j))
-        either false f = ends_then K E s (come K (IsGift c i) c s) _ (λ g t. IsNew K E (IsGift c i) g) _ (comes K E (IsGift c i) c s d) (λ g t l a k.
+        either false f = ends_then K E s (come K (IsGift c i) c s) _ (λ g t. IsNew K E (IsGift c i) g) _ (comes K E (IsGift c i) c refl s d) (λ g t l a k.
             ends_then K E t (send_out c (Ask h i g) t) _ (Any K E) _ ((steady_out K E c (Ask h i g)).after t a) (λ b u j z q. gives_itself g (λ m w. IsThere h i m) u z (inl k)))
 
     viewed_by : (n g : N) (h i : ℕ) → IsNamed K E x n → IsThere h (under h i) g → ViewsBy K E E.step n g
@@ -210,7 +210,7 @@ module _ {N W : Type 0} (K : Naming N W) (E : Start N W) where
 
     elsewhere_well : (s : Vat N) → Causes K E s → Ends K E s (Any K E) (arrive.arrive_elsewhere K x c s)
     unfolding arrive.arrive_elsewhere ◌>>=◌ look and_then
-    elsewhere_well s d = ends_then K E s (arrive.learn_name K x s) _ (λ n t. IsNamed K E x n) _ (names x s d) (λ n t f e j. either n t e j (is_in c t.noticed) refl)
+    elsewhere_well s d = ends_then K E s (arrive.learn_name K x s) _ (λ n t. IsNamed K E x n) _ (names x (subst (λ w. InNote K E x w) (sym is) refl) s d) (λ n t f e j. either n t e j (is_in c t.noticed) refl)
       where
         either : (n : N) (t : Vat N) → Causes K E t → IsNamed K E x n → (b : Bool) → is_in c t.noticed ≡ b → Ends K E t (Any K E) ((if b then refs.settle K n (Broken (codes "partition")) else arrive.view_there K n c) t)
         either n t e j true i = settles_well K E n (Broken (codes "partition")) t e (inr (c, e.noticed c i, told_at from x is j, refl))
@@ -221,9 +221,9 @@ module _ {N W : Type 0} (K : Naming N W) (E : Start N W) where
   shortens_to i (Away h n true) s c = (steady_out K E h (Open i n)).after s c
   shortens_to i other s c = (steady_give K E tt).after s c
 
-  shortens_well : (x : Incoming N W) (i : ℕ) (s : Vat N) → Causes K E s → Ends K E s (Any K E) (arrive.arrive_shorten K x i s)
+  shortens_well : (x : Incoming N W) (i : ℕ) → InNote K E x E.step → (s : Vat N) → Causes K E s → Ends K E s (Any K E) (arrive.arrive_shorten K x i s)
   unfolding arrive.arrive_shorten ◌>>=◌ look and_then
-  shortens_well x i s c = ends_then K E s (arrive.learn_name K x s) _ (λ n t. IsNamed K E x n) _ (names x s c) (λ n t f d j. shortens_to i (refs.place K t (refs.follow K t (Ref n))) t d)
+  shortens_well x i q s c = ends_then K E s (arrive.learn_name K x s) _ (λ n t. IsNamed K E x n) _ (names x q s c) (λ n t f d j. shortens_to i (refs.place K t (refs.follow K t (Ref n))) t d)
 
   pub arrives_well : (from : ℕ) (n : Note (Incoming N W)) → E.step ≡ Receives from n → (s : Vat N) → Causes K E s → Ends K E s (Any K E) (arrive.arrive K from n s)
   unfolding arrive.arrive
@@ -232,7 +232,7 @@ module _ {N W : Type 0} (K : Naming N W) (E : Start N W) where
   arrives_well from (Ask p i x) is s c = asks_well from p i s c
   arrives_well from (SettledTo x y) is s c = settled_well from x y is s c
   arrives_well from (Elsewhere x w) is s c = elsewhere_well from x w is s c
-  arrives_well from (Shorten x w i) is s c = shortens_well x i s c
+  arrives_well from (Shorten x w i) is s c = shortens_well x i (subst (λ z. InNote K E x z) (sym is) refl) s c
 
   -- ---- notice
 

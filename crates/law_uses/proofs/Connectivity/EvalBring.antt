@@ -17,7 +17,7 @@ fine : (step : Step Name Name) (e : Happened Name) → IsOfTurn e → TookFine s
 fine step (Took a m) h = absurd h
 fine step _ h = tt
 
-module _ (word : ℕ → ℕ) (home : ℕ) (past : Past) (tree : List Node) where
+module _ (word : ℕ → ℕ) (past : Past) (tree : List Node) where
   closed : IsClosed (BringsBy past)
   closed = record { gives = brings_give past; stops = brings_stop past; looks = brings_look past; binds = brings_bind past }
 
@@ -39,14 +39,14 @@ module _ (word : ℕ → ℕ) (home : ℕ) (past : Past) (tree : List Node) wher
   in_eval : InEval (BringsBy past)
   in_eval = turn_eval (BringsBy past) closed ends singles
 
-  in_eval_under : InEvalUnder (BringsBy past) (naming word home) tree
-  in_eval_under = turn_eval_under (BringsBy past) closed ends singles (naming word home) tree
-      (record { promises = brings_promise word home past; breaks = λ p t. brings_settle word home past p (Broken t); sends = brings_send word home past; sends_only = brings_send_only word home past; reacts = brings_react word home past })
-      (λ p y. resolves_always (BringsBy past) closed ends (naming word home) tree p y (brings_resolve word home past p y))
+  in_eval_under : InEvalUnder (BringsBy past) (naming word past.home) tree
+  in_eval_under = turn_eval_under (BringsBy past) closed ends singles (naming word past.home) tree
+      (record { promises = brings_promise word past.home past; breaks = λ p t. brings_settle word past p (Broken t); sends = brings_send word past; sends_only = brings_send_only word past; reacts = brings_react word past })
+      (λ p y. resolves_always (BringsBy past) closed ends (naming word past.home) tree p y (brings_resolve word past p y))
 
-  pub brings_opening : (depth : ℕ) (p : Name) (given : List (Binding Name)) → Brings past (eval.opening (naming word home) tree depth p given)
-  brings_opening depth p given = walk_opening (BringsBy past) (naming word home) tree closed ends in_eval in_eval_under depth p given (brings_resolve word home past p)
+  pub brings_opening : (depth : ℕ) (p : Name) (given : List (Binding Name)) → Brings past (eval.opening (naming word past.home) tree depth p given)
+  brings_opening depth p given = walk_opening (BringsBy past) (naming word past.home) tree closed ends in_eval in_eval_under depth p given (brings_resolve word past p)
 
-  pub brings_taking : (depth : ℕ) (m : Message Name) → IsTaken past.step m → Brings past (eval.taking (naming word home) tree depth m)
-  brings_taking depth m f = walk_taking (BringsBy past) (naming word home) tree closed ends in_eval in_eval_under depth m
-      (λ k h. brings_bind past (brings_activation past) (λ a. brings_then past (brings_tell past (Took a m) f) (h a))) (where_some _ (brings_resolve word home past) m.answer)
+  pub brings_taking : (depth : ℕ) (m : Message Name) → IsTaken past.step m → Brings past (eval.taking (naming word past.home) tree depth m)
+  brings_taking depth m f = walk_taking (BringsBy past) (naming word past.home) tree closed ends in_eval in_eval_under depth m
+      (λ k h. brings_bind past (brings_activation past) (λ a. brings_then past (brings_tell past (Took a m) f) (h a))) (where_some _ (brings_resolve word past) m.answer)

@@ -532,7 +532,7 @@ module _ {N W : Type 0} (K : Naming N W) (E : Ground N W) (a : ℕ) where
 
   spend_ends : (s : Vat N) (n : ℕ) (b : Bool) → Good K E s → Ends nothing s (spent n b s)
   unfolding spent
-  spend_ends s n true h = ((grows_by K E s (record s { fuel = s.fuel - n }) refl (grows_same K E s).grown, refl), good_by K E s (record s { fuel = s.fuel - n }) refl (refl, refl, refl, refl, refl) (grows_same K E s).grown (makes_none K E s (record s { fuel = s.fuel - n }) refl refl) refl h, tt)
+  spend_ends s n true h = ((grows_by K E s (record s { fuel = s.fuel - n }) refl (grows_same K E s).grown, refl), good_by K E s (record s { fuel = s.fuel - n }) refl (refl, refl, refl, refl, refl, refl) (grows_same K E s).grown (makes_none K E s (record s { fuel = s.fuel - n }) refl refl) refl h, tt)
   spend_ends s n false h = h
 
   pub fine_spend : {C : Fact N} (n : ℕ) → Fine C (spend n) nothing
@@ -580,13 +580,13 @@ module _ {N W : Type 0} (K : Naming N W) (E : Ground N W) (a : ℕ) where
     after = λ s g c. let n = length s.things in let u : Vat N = record s { things = s.things ++ x ∷ [] } in let t : Vat N = with_line u (e n) in
         let r : Grows K E s t = grows_trans K E s u t (grows_thing s x) (grows_line K E u (e n)) in
         let p : Passes s t = (r, opens_last u (e n) ∙ o u n) in
-        let good : Good K E t = good_block K E s t (e n) refl (refl, refl, refl, refl, refl) (cz s.happened n) (grown_thing s x) (l u n) (rd s.happened n) (then_of K E s (e n) (mk n) (o s n) (l s n))
+        let good : Good K E t = good_block K E s t (e n) refl (refl, refl, refl, refl, refl, refl) (cz s.happened n) (grown_thing s x) (l u n) (rd s.happened n) (then_of K E s (e n) (mk n) (o s n) (l s n))
         (λ i view q. inl (old_thing s.things x (Audition true view) i (no_audition x view inert) (get_or_last s.things x (Audition true view) i q)))
         (λ i p q. new_resolver s x (e n) (rt s.happened n) i p (get_or_last s.things x (Resolver p) i q))
         (λ i node caught stamps q. inl (old_thing s.things x (Made node caught stamps) i (no_object x node caught stamps inert) (get_or_last s.things x (Made node caught stamps) i q)))
         (λ i y q. inl q)
         (λ q. subst (λ m. Rises (length E.things) (map (thing_made K) (s.happened ++ e n ∷ [])) m) (sym (length_end s.things x)) (rises_new (thing_made K) (length E.things) n s.happened (e n) (some n) q))
-        (rises_line slot_made (length E.slots) (length s.slots) s.happened (e n) (none n)) (adds_line list_made E.lists s.lists s.happened (e n) (new n)) g in
+        (rises_line slot_made (length E.slots) (length s.slots) s.happened (e n) (none n)) (adds_line list_made E.start.vat.lists s.lists s.happened (e n) (new n)) g in
         widen H s t (f n t) p ((h n).after t good (still_holds s t p C c, d u n));
   }
 
@@ -604,7 +604,7 @@ module _ {N W : Type 0} (K : Naming N W) (E : Ground N W) (a : ℕ) where
 
   pub fine_kill : {C : Fact N} (n : ℕ) → Fine C (kill n) nothing
   unfolding kill
-  fine_kill n = record { after = λ s h c. let t : Vat N = record s { things = change dead n s.things } in ((grows_by K E s t refl (grown_dead s n), refl), good_by K E s t refl (refl, refl, refl, refl, refl) (grown_dead s n) (record { auditions = λ i view e. dead_auditions s.things n i view e; resolvers = λ i p e. dead_resolvers s.things n i p e; objects = λ i node caught stamps e. were_objects s.things n i node caught stamps e; cells = λ k c e. e; things = dead_length s.things n; slots = refl }) refl h, tt) }
+  fine_kill n = record { after = λ s h c. let t : Vat N = record s { things = change dead n s.things } in ((grows_by K E s t refl (grown_dead s n), refl), good_by K E s t refl (refl, refl, refl, refl, refl, refl) (grown_dead s n) (record { auditions = λ i view e. dead_auditions s.things n i view e; resolvers = λ i p e. dead_resolvers s.things n i p e; objects = λ i node caught stamps e. were_objects s.things n i node caught stamps e; cells = λ k c e. e; things = dead_length s.things n; slots = refl }) refl h, tt) }
 
   grown_slot : (s : Vat N) (c : Cell N) → laws.Grown (held K E s) (held K E (record s { slots = s.slots ++ c ∷ [] }))
   grown_slot s x = record { objects = λ i node caught stamps e. e; lists = λ k vs e. e; guards = λ k c e. (c, get_append s.slots (x ∷ []) k c e, refl); before = refl; given = refl }
@@ -625,10 +625,10 @@ module _ {N W : Type 0} (K : Naming N W) (E : Ground N W) (a : ℕ) where
         let w : Grows K E s u = grows_by K E s u refl (grown_slot s x) in
         let r : Grows K E s t = grows_trans K E s u t w (grows_line K E u e) in
         let p : Passes s t = (r, opens_last u e) in
-        let good : Good K E t = good_block K E s t e refl (refl, refl, refl, refl, refl) tt (grown_slot s x) ((inl (has_up K E s u w a (AValue v) (j.at s c)), tt), (x, get_end s.slots x, has_up K E s u w a (AValue g) (i.at s c)))
+        let good : Good K E t = good_block K E s t e refl (refl, refl, refl, refl, refl, refl) tt (grown_slot s x) ((inl (has_up K E s u w a (AValue v) (j.at s c)), tt), (x, get_end s.slots x, has_up K E s u w a (AValue g) (i.at s c)))
         tt ((inl (j.at s c), tt), tt, tt, tt) (λ n view f. inl f) (λ n p f. inl f) (λ n node caught stamps f. inl f) (λ n y f. slot_told s v g n y (get_or_last s.slots x y n f))
         (rises_line (thing_made K) (length E.things) (length s.things) s.happened e refl)
-        (λ y. subst (λ m. Rises (length E.slots) (map slot_made (s.happened ++ e ∷ [])) m) (sym (length_end s.slots x)) (rises_new slot_made (length E.slots) k s.happened e refl y)) (adds_line list_made E.lists s.lists s.happened e refl) q in
+        (λ y. subst (λ m. Rises (length E.slots) (map slot_made (s.happened ++ e ∷ [])) m) (sym (length_end s.slots x)) (rises_new slot_made (length E.slots) k s.happened e refl y)) (adds_line list_made E.start.vat.lists s.lists s.happened e refl) q in
         widen H s t (m k t) p ((h k).after t good (still_holds s t p C c, is_told u e (ASlot k) (inl refl)));
   }
 
@@ -650,10 +650,10 @@ module _ {N W : Type 0} (K : Naming N W) (E : Ground N W) (a : ℕ) where
         let w : Grows K E s u = grows_by K E s u refl (grown_write s n v) in
         let r : Grows K E s t = grows_trans K E s u t w (grows_line K E u e) in
         let p : Passes s t = (r, opens_last u e) in
-        let good : Good K E t = good_block K E s t e refl (refl, refl, refl, refl, refl) tt (grown_write s n v) ((inl (has_up K E s u w a (ASlot n) (i.at s c)), (inl (has_up K E s u w a (AValue v) (j.at s c)), tt)), tt)
+        let good : Good K E t = good_block K E s t e refl (refl, refl, refl, refl, refl, refl) tt (grown_write s n v) ((inl (has_up K E s u w a (ASlot n) (i.at s c)), (inl (has_up K E s u w a (AValue v) (j.at s c)), tt)), tt)
         tt ((inl (i.at s c), (inl (j.at s c), tt)), tt, tt, tt) (λ l view f. inl f) (λ l p f. inl f) (λ l node caught stamps f. inl f) (λ l y f. write_told s n v l y (written_cells s.slots n l v y f))
         (rises_line (thing_made K) (length E.things) (length s.things) s.happened e refl)
-        (λ y. subst (λ m. Rises (length E.slots) (map slot_made (s.happened ++ e ∷ [])) m) (sym (written_length s.slots n v)) (rises_line slot_made (length E.slots) (length s.slots) s.happened e refl y)) (adds_line list_made E.lists s.lists s.happened e refl) q in
+        (λ y. subst (λ m. Rises (length E.slots) (map slot_made (s.happened ++ e ∷ [])) m) (sym (written_length s.slots n v)) (rises_line slot_made (length E.slots) (length s.slots) s.happened e refl y)) (adds_line list_made E.start.vat.lists s.lists s.happened e refl) q in
         widen H s t (m t) p (h.after t good (still_holds s t p C c));
   }
 
@@ -671,11 +671,11 @@ module _ {N W : Type 0} (K : Naming N W) (E : Ground N W) (a : ℕ) where
         let w : Grows K E s u = grows_by K E s u refl (grown_list s vs) in
         let r : Grows K E s t = grows_trans K E s u t w (grows_line K E u e) in
         let p : Passes s t = (r, opens_last u e) in
-        let good : Good K E t = good_block K E s t e refl (refl, refl, refl, refl, refl) tt (grown_list s vs) (uses_values u [] vs (holds_up s u w (AreValues vs) tt (i.at s c)), tt)
+        let good : Good K E t = good_block K E s t e refl (refl, refl, refl, refl, refl, refl) tt (grown_list s vs) (uses_values u [] vs (holds_up s u w (AreValues vs) tt (i.at s c)), tt)
         tt (uses_values s [] vs (i.at s c), tt, tt, tt) (λ n view f. inl f) (λ n p f. inl f) (λ n node caught stamps f. inl f) (λ n y f. inl f)
         (rises_line (thing_made K) (length E.things) (length s.things) s.happened e refl)
         (rises_line slot_made (length E.slots) (length s.slots) s.happened e refl)
-        (adds_new list_made E.lists s.lists vs s.happened e refl) q in
+        (adds_new list_made E.start.vat.lists s.lists vs s.happened e refl) q in
         widen H s t (m k t) p ((h k).after t good (still_holds s t p C c, is_told u e (AValue (Items k)) (inl refl)));
   }
 

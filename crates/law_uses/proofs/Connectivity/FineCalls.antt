@@ -223,13 +223,13 @@ module _ {N W : Type 0} (K : Naming N W) (E : Ground N W) (spots : (i : ℕ) →
     after = λ s g c. let n = length s.things in let e : Happened N = AuditionMade a (K.object n) in let u : Vat N = record s { things = s.things ++ Audition true view ∷ [] } in let t : Vat N = with_line u e in
         let r : Grows K E s t = grows_trans K E s u t (grows_thing K E a s (Audition true view)) (grows_line K E u e) in
         let p : Passes K E a s t = (r, opens_last u e) in
-        let good : Good K E t = good_block K E s t e refl (refl, refl, refl, refl, refl) tt r.grown (tt, tt) tt (tt, tt, tt, tt)
+        let good : Good K E t = good_block K E s t e refl (refl, refl, refl, refl, refl, refl) tt r.grown (tt, tt) tt (tt, tt, tt, tt)
         (λ k w q. inr (new_judged a s view g r (judges_new a s view (i.at s c) r) k w (get_or_last s.things (Audition true view) (Audition true w) k q)))
         (λ k p q. inl (old_thing K E a s.things (Audition true view) (Resolver p) k (no_resolver view p) (get_or_last s.things (Audition true view) (Resolver p) k q)))
         (λ k node caught stamps q. inl (old_object view s.things k node caught stamps (get_or_last s.things (Audition true view) (Made node caught stamps) k q)))
         (λ k x q. inl q)
         (λ q. subst (λ m. Rises (length E.things) (map (thing_made K) (s.happened ++ e ∷ [])) m) (sym (length_end s.things (Audition true view))) (rises_new (thing_made K) (length E.things) n s.happened e (ap own_number (spots n)) q))
-        (rises_line slot_made (length E.slots) (length s.slots) s.happened e refl) (adds_line list_made E.lists s.lists s.happened e refl) g in
+        (rises_line slot_made (length E.slots) (length s.slots) s.happened e refl) (adds_line list_made E.start.vat.lists s.lists s.happened e refl) g in
         widen K E a H s t (f n t) p ((h n).after t good (still_holds K E a s t p C c, is_told K E a u e (AValue (Ref (K.object n))) (inl refl)));
   }
 
@@ -431,7 +431,7 @@ module _ {N W : Type 0} (K : Naming N W) (E : Ground N W) (spots : (i : ℕ) →
         let w : Grows K E s t = grows_trans K E s r t z (grows_line K E r e) in
         let o : opens t ≡ record { caller = a; receiver = x; verb = verb; begun = Some b } ∷ opens s = opens_last r e in
         let here : Scope N = record { act = b; nouns = caught } in
-        let good_r : Good K E r = good_by K E s r refl (refl, refl, refl, refl, refl) (grows_same K E s).grown (makes_none K E s r refl refl) refl q in
+        let good_r : Good K E r = good_by K E s r refl (refl, refl, refl, refl, refl, refl) (grows_same K E s).grown (makes_none K E s r refl refl) refl q in
         let good_t : Good K E t = good_line K E r e refl refl refl tt good_r (called_well K E a r x verb args (Some b) (has_up K E s r z a (callee x verb args) (v.at s c)) (holds_up K E a s r z (AreValues args) tt (h.at s c))) tt tt (i, node, caught, stamps, p.at s c, g.at s c) in
         let runs : Runs K (held K E t) t.happened b i = called a x verb args (among_last r.happened e) (thing_up K E s t w x i (p.at s c)) in
         let nouns : AllOf (NounKnown K E b t) caught = nouns_from K E b t caught (λ k m. endowed i node caught stamps runs (g.at s c) m) in
@@ -461,7 +461,7 @@ module _ {N W : Type 0} (K : Naming N W) (E : Ground N W) (spots : (i : ℕ) →
     where
       at_spot : (s : Vat N) → Holds K E a s (Leads x (Ref n)) → Holds K E a s (IsAt x i)
       at_spot s (inl r) = (n, r, e)
-      at_spot s (inr p) = let e = p.2 in cc
+      at_spot s (inr p) = let e = p.1 in cc
   fine_call_spot {a = a} rec good again fair act k x n l (Foreign w) e verb args v h = fine_throw K E a _
   fine_call_spot {a = a} rec good again fair act k x n l NoObject e verb args v h = fine_throw K E a _
 

@@ -146,12 +146,12 @@ module _ {N W : Type 0} (K : Naming N W) (E : Ground N W) (spots : (i : ℕ) →
       Then K E s l → LineWell K (held K E u) u.happened l → Good K E (with_line u l)
   unfolding tell
   object_good a node x caught stamps s g tw w = let u : Vat N = record s { things = s.things ++ Made node caught stamps ∷ [] } in let l : Happened N = ObjectMade a (K.object (length s.things)) x (map (λ b. b.bound) caught) stamps in
-      good_block K E s (with_line u l) l refl (refl, refl, refl, refl, refl) tt (grows_thing K E a s (Made node caught stamps)).grown w tt tw
+      good_block K E s (with_line u l) l refl (refl, refl, refl, refl, refl, refl) tt (grows_thing K E a s (Made node caught stamps)).grown w tt tw
       (λ i view q. inl (old_audition s.things i node caught stamps view (get_or_last s.things (Made node caught stamps) (Audition true view) i q)))
       (λ i p q. inl (old_thing K E a s.things (Made node caught stamps) (Resolver p) i (no_resolver node caught stamps p) (get_or_last s.things (Made node caught stamps) (Resolver p) i q)))
       (λ i m cs ys q. object_told a node x caught stamps s i m cs ys (get_or_last s.things (Made node caught stamps) (Made m cs ys) i q)) (λ i c q. inl q)
       (λ q. subst (λ n. Rises (length E.things) (map (thing_made K) (s.happened ++ l ∷ [])) n) (sym (length_end s.things (Made node caught stamps))) (rises_new (thing_made K) (length E.things) (length s.things) s.happened l (ap own_number (spots (length s.things))) q))
-      (rises_line slot_made (length E.slots) (length s.slots) s.happened l refl) (adds_line list_made E.lists s.lists s.happened l refl) g
+      (rises_line slot_made (length E.slots) (length s.slots) s.happened l refl) (adds_line list_made E.start.vat.lists s.lists s.happened l refl) g
 
   object_ends : (a : ℕ) (node : ℕ) (p : Option Node) (xs : List Words) (stamps : List (Value N)) (here : Scope N) (s : Vat N) → Good K E s → here.act ≡ a → AllOf (NounKnown K E a s) here.nouns → served (opens s) ≡ None → AllOf (Knew K E s a) stamps
       → Ends K E a answer s (calls.object_as K tree node p xs stamps (K.object (length s.things)) here s)

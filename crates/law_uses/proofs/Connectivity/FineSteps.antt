@@ -3,7 +3,7 @@ use Rattle.std.proofs.Common.{◌≡◌, ◌≤◌, arith, length, ℕ, zero, su
 use Rattle.std.specs.Prelude.{slice_get}
 use Rattle.std.proofs.lemmas.Bool.{eq-eqb}
 use Rattle.def_machine.specs.Values.{Words, Value, Null, Flag, Number, Letter, Text, Prim, Broken, Items, Ref, Name, Naming, naming, numbering, spot_of, local_spot, Spot, Own, Foreign}
-use Rattle.def_machine.specs.State.{Binding, Scope, Thing, Made, Ejector, Audition, Resolver, Message, Standing, Viewed, Settled, Known, Happened, Took, Finished, Threw, Vat, Done, Gives, Throws, Ejects, Stops, Astray, Act, ◌>>=◌, ◌>>◌, and_then, end_by, ending, give, throw, stop, look, tell, new_activation, for_some}
+use Rattle.def_machine.specs.State.{Binding, Scope, Thing, Made, Ejector, Audition, Resolver, Message, Standing, WaitsOn, Viewed, Settled, Known, Happened, Took, Finished, Threw, Vat, Done, Gives, Throws, Ejects, Stops, Astray, Act, ◌>>=◌, ◌>>◌, and_then, end_by, ending, give, throw, stop, look, tell, new_activation, for_some}
 use Rattle.def_machine.specs.Refs.{standing_of, settle, resolve}
 use Rattle.def_machine.specs.Free.{same_words}
 use Rattle.def_machine.specs.Native.{asked, primitive}
@@ -18,7 +18,7 @@ use Rattle.law_uses.specs.Connectivity.Connected.{served, open_from, open_after,
 use Rattle.law_uses.specs.Connectivity.Liveness.{live_at, is_live}
 use Rattle.law_uses.specs.Connectivity.Settlings.{IsHanded, Owes, gave, threw as threw_by, held as held_before}
 use Rattle.law_uses.proofs.Connectivity.Traces.{IsTold, among_last}
-use Rattle.law_uses.proofs.Connectivity.Causes.{Causes, CausedAfter, EntryTold, WaitTold, MessageTold, GiftTold}
+use Rattle.law_uses.proofs.Connectivity.Causes.{Causes, CausedAfter, EntryTold, WaitTold, MessageTold, GiftTold, HostTold, OnwardTold}
 use Rattle.law_uses.proofs.Connectivity.ArriveCauses.{arrives_well, notices_well}
 use Rattle.law_uses.specs.Connectivity.Activations.{Rises}
 use Rattle.law_uses.specs.Connectivity.News.{thing_made, slot_made, list_made, Adds, MadeNew, StepsMakeNew}
@@ -141,7 +141,7 @@ module _ {N W : Type 0} (K : Naming N W) (E : Ground N W) (spots : (i : ℕ) →
   counted s = record s { activations = suc s.activations }
 
   good_counted : (s : Vat N) → Good K E s → Good K E (counted s)
-  good_counted s g = good_by K E s (counted s) refl (refl, refl, refl, refl, refl) (grows_same K E s).grown (makes_none K E s (counted s) refl refl) refl g
+  good_counted s g = good_by K E s (counted s) refl (refl, refl, refl, refl, refl, refl) (grows_same K E s).grown (makes_none K E s (counted s) refl refl) refl g
 
   no_calls : (s : Vat N) → s.happened ≡ [] → served (opens s) ≡ None
   unfolding served open_from
@@ -182,6 +182,10 @@ module _ {N W : Type 0} (K : Naming N W) where
   first_told ks so (Viewed q) n e = viewed e
   first_told ks so other n e = tt
 
+  first_onward : (step : Step N W) (s : Vat N) (so : List (Happened N)) (x : Standing N) (n : N) → standing_of K s.known n ≡ x → OnwardTold K (record { step = step; vat = s }) so n x
+  first_onward step s so (WaitsOn q) n e = inl e
+  first_onward step s so other n e = tt
+
   each_among : {A : Type 0} (P : A → Type 0) (xs : List A) → ((x : A) → IsAmong x xs → P x) → AllOf P xs
   each_among P [] f = tt
   each_among P (x ∷ xs) f = (f x (inl refl), each_among P xs (λ y m. f y (inr m)))
@@ -196,11 +200,15 @@ module _ {N W : Type 0} (K : Naming N W) where
     number = refl;
     names = no_less (length s.known);
     mails = no_less (length s.mails);
+    promises = no_less s.promises;
+    hosts = each_among (HostTold K E) s.known (λ k m. inl (k, m, refl, refl));
+    onward = λ n. first_onward step s s.happened (standing_of K s.known n) n refl;
+    lists = subst (λ es. Adds s.lists (map list_made es) s.lists) (sym e) refl;
   }
 
 module _ {N W : Type 0} (K : Naming N W) (spots : (i : ℕ) → K.spot (K.object i) ≡ Own i) where
   abbrev first_ground : List (ℕ × Item N) → Step N W → Vat N → Ground N W
-  first_ground given step s = record { things = s.things; slots = s.slots; lists = s.lists; given = given; start = record { step = step; vat = s } }
+  first_ground given step s = record { things = s.things; slots = s.slots; given = given; start = record { step = step; vat = s } }
 
   -- at the beginning of a step
   good_first : (given : List (ℕ × Item N)) (step : Step N W) (s : Vat N) → s.happened ≡ [] → ((i : ℕ) → live_at s.things i ≡ false) → Good K (first_ground given step s) s

@@ -1,8 +1,8 @@
 -- A connected history so far: what is known in it stays known, and how it grows by one line.
-use Rattle.std.proofs.Common.{◌≡◌, ℕ, suc, arith, true, List, [], ◌∷◌, ◌++◌, Option, Some, None, refl, sym, ap, ◌∙◌, subst, length, map, ◌⊎◌, inl, inr}
+use Rattle.std.proofs.Common.{◌≡◌, ◌≤◌, ℕ, suc, arith, true, List, [], ◌∷◌, ◌++◌, Option, Some, None, refl, sym, ap, ◌∙◌, subst, length, map, ◌⊎◌, inl, inr}
 use Rattle.std.specs.Prelude.{slice_get}
-use Rattle.def_machine.specs.Values.{Words, Value, Ref, Naming, Own}
-use Rattle.def_machine.specs.State.{Thing, Made, Resolver, Binding, Cell, Freedom, IsFinal, View, Audition, Happened, Called, Back, Got, SlotMade, SlotWrote, ListCame, AuditionMade, ObjectMade, Reacts, Settles, Waits, Views, Lost, Posted, Vat}
+use Rattle.def_machine.specs.Values.{Words, Value, Ref, Naming, Own, IsOwn}
+use Rattle.def_machine.specs.State.{Thing, Made, Resolver, Binding, Cell, Freedom, IsFinal, View, Audition, Happened, Called, Back, Got, SlotMade, SlotWrote, ListCame, AuditionMade, PromiseMade, ObjectMade, Reacts, Settles, Waits, Views, Lost, Posted, Vat}
 use Rattle.law_uses.specs.Connectivity.Known.{Item, AValue, AGuard, IsAmong, AllOf, Start, Holdings, Reaches, IsThing, Knows}
 use Rattle.law_uses.specs.Connectivity.Connected.{Open, open_after, open_from, Judges, evaluates, asks, AskedThen, GivenBack, BackWell, ComesWell, LineWell, ConnectedAfter, Connected, uses, itself}
 use Rattle.law_uses.specs.Connectivity.ConnectedLaws as laws
@@ -22,7 +22,6 @@ use Rattle.law_uses.proofs.Connectivity.Idle.{joined, no_more, IsIdle, Idles}
 pub record Ground (N W : Type 0) : Type 0 where
   pub things : List (Thing N)
   pub slots : List (Cell N)
-  pub lists : List (List (Value N))
   pub given : List (ℕ × Item N)
   -- the step, and the vat as it was
   pub start : Start N W
@@ -78,6 +77,7 @@ module _ {N W : Type 0} (K : Naming N W) (h later : Holdings N W) (grown : laws.
   comes_later same so (Got a v) k = (k.0, k.1, k.2, k.3, k.4, k.5, k.6, thing_later so k.2 k.1 k.7, k.8, k.9, k.10)
   comes_later same so (SlotMade a n v) k = let d = grown.guards n k.0 k.1 in (d.0, d.1, subst (λ g. Knows K later so a (AValue g)) d.2 (knows_later K h later grown so a (AValue k.0.guard) k.2))
   comes_later same so (Reacts a x o m) k = subst (λ z. Follows K z so o m.target) same k
+  comes_later same so (PromiseMade a p r) k = subst (λ (z : Start N W). (i n : ℕ) × (p ≡ K.made (IsOwn i) n) × (z.vat.promises ≤ i) × (length z.vat.known ≤ n)) same k
   comes_later same so (Settles p y) k = subst (λ x. IsCaused K x so (Settles p y)) same k
   comes_later same so (Waits p q) k = subst (λ x. IsCaused K x so (Waits p q)) same k
   comes_later same so (Views p q) k = subst (λ x. IsCaused K x so (Views p q)) same k
@@ -203,7 +203,7 @@ module _ {N W : Type 0} (K : Naming N W) (E : Ground N W) where
 
   -- what there was before the step
   abbrev pub first : Holdings N W
-  first = record { things = E.things; lists = E.lists; slots = E.slots; before = E.start.vat.known; given = E.given; start = E.start }
+  first = record { things = E.things; lists = E.start.vat.lists; slots = E.slots; before = E.start.vat.known; given = E.given; start = E.start }
 
   -- what holds so far
   pub record Good (s : Vat N) : Type 0 where
@@ -217,7 +217,7 @@ module _ {N W : Type 0} (K : Naming N W) (E : Ground N W) where
     pub reads : ReadsTold E.slots [] s.happened
     pub things_rise : Rises (length E.things) (map (thing_made K) s.happened) (length s.things)
     pub slots_rise : Rises (length E.slots) (map slot_made s.happened) (length s.slots)
-    pub lists_told : Adds E.lists (map list_made s.happened) s.lists
+    pub lists_told : Adds E.start.vat.lists (map list_made s.happened) s.lists
 
   -- what a line uses, gives back and calls, was there in this state
   abbrev pub Then : Vat N → Happened N → Type 0
@@ -388,9 +388,9 @@ module _ {N W : Type 0} (K : Naming N W) (E : Ground N W) where
       → ((k : ℕ) (c : Cell N) → slice_get t.slots k ≡ Some c → (slice_get s.slots k ≡ Some c) ⊎ CellTold t k c)
       → (Rises (length E.things) (map (thing_made K) s.happened) (length s.things) → Rises (length E.things) (map (thing_made K) (s.happened ++ e ∷ [])) (length t.things))
       → (Rises (length E.slots) (map slot_made s.happened) (length s.slots) → Rises (length E.slots) (map slot_made (s.happened ++ e ∷ [])) (length t.slots))
-      → (Adds E.lists (map list_made s.happened) s.lists → Adds E.lists (map list_made (s.happened ++ e ∷ [])) t.lists) → Good s → Good t
+      → (Adds E.start.vat.lists (map list_made s.happened) s.lists → Adds E.start.vat.lists (map list_made (s.happened ++ e ∷ [])) t.lists) → Good s → Good t
   good_block s t e f n r g l rd tw au re ob ce tr sr lr h = let grows : Grows s t = record { more = e ∷ []; lines = f; grown = g } in record {
-    causes = causes_block K E.start s t e f n r h.causes;
+    causes = causes_block K E.start s t e f n r (subst (λ es. Adds E.start.vat.lists (map list_made es) t.lists) (sym f) (lr h.lists_told)) h.causes;
     lines = subst (λ es. Connected K (held t) es) (sym f) (connected_end K (held t) [] s.happened e (connected_later K (held s) (held t) g refl [] s.happened h.lines) l);
     timely = subst (λ es. AllInTime K first [] es) (sym f) (timely_end [] s.happened e h.timely (in_time s e h tw));
     resolvers = λ i p k. by_resolver grows i p (re i p k);
@@ -400,7 +400,7 @@ module _ {N W : Type 0} (K : Naming N W) (E : Ground N W) where
     reads = subst (λ es. ReadsTold E.slots [] es) (sym f) (reads_end E.slots [] s.happened e h.reads rd);
     things_rise = subst (λ es. Rises (length E.things) (map (thing_made K) es) (length t.things)) (sym f) (tr h.things_rise);
     slots_rise = subst (λ es. Rises (length E.slots) (map slot_made es) (length t.slots)) (sym f) (sr h.slots_rise);
-    lists_told = subst (λ es. Adds E.lists (map list_made es) t.lists) (sym f) (lr h.lists_told);
+    lists_told = subst (λ es. Adds E.start.vat.lists (map list_made es) t.lists) (sym f) (lr h.lists_told);
   }
     where
       by_audition : Grows s t → (i : ℕ) (view : View N) → (slice_get s.things i ≡ Some (Audition true view)) ⊎ Judged t i view → Judged t i view
@@ -421,13 +421,13 @@ module _ {N W : Type 0} (K : Naming N W) (E : Ground N W) where
 
   -- a line that is connected
   pub good_line : (s : Vat N) (e : Happened N) → thing_made K e ≡ None → slot_made e ≡ None → list_made e ≡ None → IsCaused K E.start s.happened e → Good s → LineWell K (held s) s.happened e → ReadTold E.slots s.happened e → MakesOwn K first e → CallsThen K first s.happened s e → Good (with_line s e)
-  good_line s e nil none new r g l rd mk cw = good_block s (with_line s e) e refl (refl, refl, refl, refl, refl) r (same_grown (held s)) l rd (then_line s e mk cw l) (λ i view k. inl k) (λ i p k. inl k) (λ i node caught stamps k. inl k) (λ i c k. inl k)
-      (rises_line (thing_made K) (length E.things) (length s.things) s.happened e nil) (rises_line slot_made (length E.slots) (length s.slots) s.happened e none) (adds_line list_made E.lists s.lists s.happened e new) g
+  good_line s e nil none new r g l rd mk cw = good_block s (with_line s e) e refl (refl, refl, refl, refl, refl, refl) r (same_grown (held s)) l rd (then_line s e mk cw l) (λ i view k. inl k) (λ i p k. inl k) (λ i node caught stamps k. inl k) (λ i c k. inl k)
+      (rises_line (thing_made K) (length E.things) (length s.things) s.happened e nil) (rises_line slot_made (length E.slots) (length s.slots) s.happened e none) (adds_line list_made E.start.vat.lists s.lists s.happened e new) g
 
   -- a change that tells nothing, and makes none of these
   pub good_by : (s t : Vat N) → t.happened ≡ s.happened → SameNames K E.start s t → laws.Grown (held s) (held t) → MakesNone s t → t.lists ≡ s.lists → Good s → Good t
   good_by s t e f g m q k = let grows : Grows s t = grows_by s t e g in record {
-    causes = causes_same K E.start s t e f k.causes;
+    causes = causes_same K E.start s t e f (subst (λ es. Adds E.start.vat.lists (map list_made es) t.lists) (sym e) (subst (λ ls. Adds E.start.vat.lists (map list_made s.happened) ls) (sym q) k.lists_told)) k.causes;
     lines = subst (λ es. Connected K (held t) es) (sym e) (connected_later K (held s) (held t) g refl [] s.happened k.lines);
     timely = subst (λ es. AllInTime K first [] es) (sym e) k.timely;
     resolvers = λ i p j. resolver_up s t grows i p (k.resolvers i p (m.resolvers i p j));
@@ -437,7 +437,7 @@ module _ {N W : Type 0} (K : Naming N W) (E : Ground N W) where
     reads = subst (λ es. ReadsTold E.slots [] es) (sym e) k.reads;
     things_rise = subst (λ es. Rises (length E.things) (map (thing_made K) es) (length t.things)) (sym e) (subst (λ n. Rises (length E.things) (map (thing_made K) s.happened) n) (sym m.things) k.things_rise);
     slots_rise = subst (λ es. Rises (length E.slots) (map slot_made es) (length t.slots)) (sym e) (subst (λ n. Rises (length E.slots) (map slot_made s.happened) n) (sym m.slots) k.slots_rise);
-    lists_told = subst (λ es. Adds E.lists (map list_made es) t.lists) (sym e) (subst (λ ls. Adds E.lists (map list_made s.happened) ls) (sym q) k.lists_told);
+    lists_told = subst (λ es. Adds E.start.vat.lists (map list_made es) t.lists) (sym e) (subst (λ ls. Adds E.start.vat.lists (map list_made s.happened) ls) (sym q) k.lists_told);
   }
 
   idle_thing : (e : Happened N) → IsIdle e → thing_made K e ≡ None
@@ -483,5 +483,5 @@ module _ {N W : Type 0} (K : Naming N W) (E : Ground N W) where
     reads = subst (λ es. ReadsTold E.slots [] es) (sym i.lines) (reads_join E.slots [] s.happened i.more g.reads (idles_read E.slots s.happened i.more i.idle));
     things_rise = subst (λ es. Rises (length E.things) (map (thing_made K) es) (length t.things)) (sym i.lines) (rises_idle (thing_made K) idle_thing (length E.things) (length t.things) s.happened i.more i.idle (subst (λ n. Rises (length E.things) (map (thing_made K) s.happened) n) (sym (ap length i.things)) g.things_rise));
     slots_rise = subst (λ es. Rises (length E.slots) (map slot_made es) (length t.slots)) (sym i.lines) (rises_idle slot_made idle_slot (length E.slots) (length t.slots) s.happened i.more i.idle (subst (λ n. Rises (length E.slots) (map slot_made s.happened) n) (sym (ap length i.slots)) g.slots_rise));
-    lists_told = i.lists_told E.lists g.lists_told;
+    lists_told = i.lists_told E.start.vat.lists g.lists_told;
   }

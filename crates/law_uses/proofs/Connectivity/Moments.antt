@@ -1,13 +1,13 @@
 -- What a vat has to show of its messages in a step, and that it has it whatever it does.
-use Rattle.std.proofs.Common.{◌≡◌, ℕ, Bool, true, false, List, [], ◌∷◌, Option, Some, None, if◌then◌else◌, ◌⊎◌, inl, inr}
+use Rattle.std.proofs.Common.{◌≡◌, ℕ, Bool, true, false, List, [], ◌∷◌, Option, Some, None, if◌then◌else◌, refl, ◌∙◌, ◌⊎◌, inl, inr}
 use Rattle.std.specs.Prelude.{slice_get}
-use Rattle.def_machine.specs.Values.{Words, Value, Null, Flag, Number, Letter, Text, Prim, Broken, Items, Ref, Name, Object, Gift}
-use Rattle.def_machine.specs.State.{Message, Standing, Viewed, Settled, Known, Passed, Passeds, Plain, AGift, Many, NoMore, More, Note, Deliver, Open, SettledTo, Elsewhere, Put, Happened, Took, Sends, Reacts, Vat, Stop, Done, Gives, Throws, Ejects, Stops, Act, ◌>>=◌, ◌>>◌, and_then, for_some, end_by, ending, each, give, throw, stop, eject, look}
+use Rattle.def_machine.specs.Values.{Words, Value, Null, Flag, Number, Letter, Text, Prim, Broken, Items, Ref, Name, Object, Gift, Foreign, spot_of}
+use Rattle.def_machine.specs.State.{Message, Standing, Viewed, Settled, Known, Passed, Passeds, Plain, AGift, Many, NoMore, More, Note, Deliver, Open, SettledTo, Elsewhere, Put, Happened, Took, Sends, Reacts, Vat, Stop, Done, Gives, Throws, Ejects, Stops, Act, ◌>>=◌, ◌>>◌, and_then, for_some, end_by, ending, each, give, throw, stop, eject, look, is_in}
 use Rattle.def_machine.specs.Arrive.{Incoming, Old, New}
 use Rattle.law_machine.proofs.Machine.Walks.{Property, Holds}
 use Rattle.law_machine.specs.Machine.Steps.{Step, Takes, Receives}
 use Rattle.law_uses.specs.Connectivity.Known.{IsAmong, AllOf}
-use Rattle.law_uses.specs.Connectivity.Stems.{LeadsTo, PassesAs, PassAll}
+use Rattle.law_uses.specs.Connectivity.Stems.{LeadsTo, HostIn, IsOf, PassesAs, PassAll}
 use Rattle.law_uses.specs.Connectivity.MessageLaws.{IsToldStanding}
 use Rattle.law_uses.proofs.Connectivity.Passing.{Kept, kept_all, leads_map, all_map, pass_all_map, passes_map}
 
@@ -18,6 +18,9 @@ pub record Past : Type 1 where
   pub was : Message Name → Type 0
   pub reacted : Message Name → Type 0
   pub step : Step Name Name
+  -- whose cuts are noticed, and the vat itself
+  pub cut : ℕ → Type 0
+  pub home : ℕ
 
 -- ---- a note that is read
 
@@ -83,8 +86,9 @@ TookFine step other = Unit {0}
 abbrev pub Members : Vat Name → ℕ → List (Value Name) → Type 0
 Members s k vs = slice_get s.lists k ≡ Some vs
 
-abbrev pub Offers : Vat Name → ℕ → ℕ → Name → Type 0
-Offers s h i n = IsAmong (record { to = h; note = Open i n }) s.outbox
+-- a note puts the gift, to another vat than that one
+abbrev pub Offers : ℕ → Vat Name → ℕ → ℕ → Name → Type 0
+Offers v s h i n = IsAmong (record { to = h; note = Open i n }) s.outbox × ((spot_of v n ≡ Foreign h) ⊎ (h ≡ s.number → ⊥))
 
 -- a message that the note of this step brought
 abbrev pub CameBy : Vat Name → Note (Incoming Name Name) → Message Name → Type 0
@@ -108,12 +112,19 @@ abbrev pub Later : Vat Name → Vat Name → Type 0
 Later s t = ((e : Happened Name) → IsAmong e s.happened → IsAmong e t.happened)
     × ((k : ℕ) (vs : List (Value Name)) → slice_get s.lists k ≡ Some vs → slice_get t.lists k ≡ Some vs)
     × ((q : Put Name) → IsAmong q s.outbox → IsAmong q t.outbox)
+    × (t.number ≡ s.number)
+    × ((n : Name) (u : ℕ) → HostIn s.known n u → HostIn t.known n u)
 
 pub later_same : (s : Vat Name) → Later s s
-later_same s = (λ e h. h, λ k vs h. h, λ q h. h)
+later_same s = (λ e h. h, λ k vs h. h, λ q h. h, refl, λ n u h. h)
 
 pub later_on : (s t u : Vat Name) → Later s t → Later t u → Later s u
-later_on s t u h k = (λ e i. k.0 e (h.0 e i), λ n vs i. k.1 n vs (h.1 n vs i), λ q i. k.2 q (h.2 q i))
+later_on s t u h k = (λ e i. k.0 e (h.0 e i), λ n vs i. k.1 n vs (h.1 n vs i), λ q i. k.2 q (h.2 q i), k.3 ∙ h.3, λ n w i. k.4 n w (h.4 n w i))
+
+pub of_later : (s t : Vat Name) → Later s t → (u : ℕ) (n : Name) → IsOf s u n → IsOf t u n
+of_later s t l u n (inl h) = inl h
+of_later s t l u n (inr (inl h)) = inr (inl (l.4 n u h))
+of_later s t l u n (inr (inr h)) = inr (inr (l.3 ∙ h))
 
 came_later : (s t : Vat Name) → Later s t → (step : Step Name Name) (m : Message Name) → Came s step m → Came t step m
 came_later s t l (Receives from (Deliver x z verb ys)) m h = (h.0, h.1, h.2, learnt_all_map (Members s) (Members t) l.1 ys m.args h.3)
@@ -144,11 +155,15 @@ module _ (p : Past) where
   abbrev pub QueuedFine : Vat Name → Message Name → Type 0
   QueuedFine s m = Fine s m ⊎ ReactionFine s m
 
+  -- a name of a vat whose cut is noticed
+  abbrev pub IsGone : Vat Name → Name → Type 0
+  IsGone s n = (u : ℕ) × p.cut u × IsOf s u n
+
   abbrev pub Passing : Vat Name → Value Name → Passed Name → Type 0
-  Passing s x y = PassesAs (Line s) (Members s) (Offers s) x y
+  Passing s x y = PassesAs (Line s) (Members s) (Offers p.home s) (IsGone s) x y
 
   abbrev pub PassingAll : Vat Name → List (Value Name) → Passeds Name → Type 0
-  PassingAll s xs ys = PassAll (Line s) (Members s) (Offers s) xs ys
+  PassingAll s xs ys = PassAll (Line s) (Members s) (Offers p.home s) (IsGone s) xs ys
 
   abbrev pub NoteFine : Vat Name → Note Name → Type 0
   NoteFine s (Deliver i n verb ys) = (m : Message Name) × Fine s m × (m.id ≡ i.message) × (m.verb ≡ verb) × LeadsTo (Line s) m.target (Ref n) × PassingAll s m.args ys
@@ -161,7 +176,7 @@ module _ (p : Past) where
 
   -- what t has is fine by what s has to show
   abbrev pub FineIn : Vat Name → Vat Name → Type 0
-  FineIn s t = AllOf (QueuedFine s) t.queue × AllOf (KnownFine s) t.known × AllOf (λ (q : Put Name). NoteFine s q.note) t.outbox × AllOf (TookFine p.step) t.happened
+  FineIn s t = AllOf (QueuedFine s) t.queue × AllOf (KnownFine s) t.known × AllOf (λ (q : Put Name). NoteFine s q.note) t.outbox × AllOf (TookFine p.step) t.happened × ((u : ℕ) → is_in u t.noticed ≡ true → p.cut u)
 
   abbrev pub Good : Vat Name → Type 0
   Good s = FineIn s s
@@ -189,11 +204,21 @@ module _ (p : Past) where
   queued_later s t l m (inl h) = inl (fine_later s t l m h)
   queued_later s t l m (inr h) = inr (reaction_later s t l m h)
 
+  pub gone_later : (s t : Vat Name) → Later s t → (n : Name) → IsGone s n → IsGone t n
+  gone_later s t l n h = (h.0, h.1, of_later s t l h.0 n h.2)
+
+  offers_later : (s t : Vat Name) → Later s t → (w i : ℕ) (n : Name) → Offers p.home s w i n → Offers p.home t w i n
+  offers_later s t l w i n h = (l.2 _ h.0, either h.1)
+    where
+      either : (spot_of p.home n ≡ Foreign w) ⊎ (w ≡ s.number → ⊥) → (spot_of p.home n ≡ Foreign w) ⊎ (w ≡ t.number → ⊥)
+      either (inl e) = inl e
+      either (inr f) = inr (λ e. f (e ∙ l.3))
+
   pub passing_later : (s t : Vat Name) → Later s t → (x : Value Name) (y : Passed Name) → Passing s x y → Passing t x y
-  passing_later s t l x y h = passes_map (Line s) (Line t) (kept_all (Line s) (Line t) (line_later s t l)) (Members s) (Members t) l.1 (Offers s) (Offers t) (λ w i n k. l.2 _ k) x y h
+  passing_later s t l x y h = passes_map (Line s) (Line t) (kept_all (Line s) (Line t) (line_later s t l)) (Members s) (Members t) l.1 (Offers p.home s) (Offers p.home t) (offers_later s t l) (IsGone s) (IsGone t) (gone_later s t l) x y h
 
   pub passing_all_later : (s t : Vat Name) → Later s t → (xs : List (Value Name)) (ys : Passeds Name) → PassingAll s xs ys → PassingAll t xs ys
-  passing_all_later s t l xs ys h = pass_all_map (Line s) (Line t) (kept_all (Line s) (Line t) (line_later s t l)) (Members s) (Members t) l.1 (Offers s) (Offers t) (λ w i n k. l.2 _ k) xs ys h
+  passing_all_later s t l xs ys h = pass_all_map (Line s) (Line t) (kept_all (Line s) (Line t) (line_later s t l)) (Members s) (Members t) l.1 (Offers p.home s) (Offers p.home t) (offers_later s t l) (IsGone s) (IsGone t) (gone_later s t l) xs ys h
 
   note_later : (s t : Vat Name) → Later s t → (n : Note Name) → NoteFine s n → NoteFine t n
   note_later s t l (Deliver i n verb ys) h = (h.0, fine_later s t l h.0 h.1, h.2, h.3, lead_later s t l h.0.target (Ref n) h.4, passing_all_later s t l h.0.args ys h.5)
@@ -210,6 +235,7 @@ module _ (p : Past) where
     all_map (KnownFine s) (KnownFine t) (known_later s t l) u.known g.1,
     all_map (λ (q : Put Name). NoteFine s q.note) (λ (q : Put Name). NoteFine t q.note) (λ q h. note_later s t l q.note h) u.outbox g.2,
     g.3,
+    g.4,
   )
 
   -- however it ends, unless it stops; and that of what it gave

@@ -1,15 +1,17 @@
 -- The rows.
-use Rattle.std.proofs.Common.{◌≡◌, ℕ, zero, suc, List, [], ◌∷◌, Option, Some, None, refl, sym, subst, ◌∙◌, inl, inr, map, ap, ◌⊎◌}
+use Rattle.std.proofs.Common.{◌≡◌, ℕ, zero, suc, true, List, [], ◌∷◌, Option, Some, None, refl, sym, subst, ◌∙◌, inl, inr, map, ap, ◌⊎◌}
 use Rattle.std.specs.Prelude.{slice_get, codes, take, drop}
-use Rattle.def_machine.specs.Values.{Words, Value, Ref, Name, Root, Object, Answer, naming, Prim, Text, Null, Broken}
-use Rattle.def_machine.specs.State.{Binding, Cell, Known, Thing, Made, Happened, Took, Called, Finished, PromiseMade, Fixed, ObjectMade, AuditionMade, Back}
+use Rattle.def_machine.specs.Values.{Words, Value, Ref, Name, Root, Object, Answer, naming, Prim, Text, Null, Broken, Items}
+use Rattle.def_machine.specs.State.{Binding, Cell, Known, Thing, Made, Happened, Took, Called, Finished, PromiseMade, Resolver, Settled, Viewed, begun, opened_state, Fixed, ObjectMade, AuditionMade, Back}
 use Rattle.law_machine.specs.Natives.Natives.{IsPlain}
 use Rattle.law_uses.specs.Connectivity.Known.{Item, Start, Holdings, Reaches, onward, AValue, AGuard, ASlot, IsAmong, parts_of, parts_of_all, tells, Leads, settled, viewed, settles, views, called, itself, Knows, plain, endowed, told, serves, opened_known}
 use Rattle.def_machine.specs.Eval.{opened_eval}
-use Rattle.law_machine.specs.Machine.Steps.{Opens, Takes, does}
+use Rattle.def_machine.specs.Refs.{standing_of, opened_refs}
+use Rattle.def_machine.specs.Values.{opened_values}
+use Rattle.law_machine.specs.Machine.Steps.{Opens, Takes, Receives, Notices, does}
 use Rattle.law_uses.specs.Connectivity.Connected.{evaluates, asks, Connected, StepConnected, given_to, held_from, opened_connected}
-use Rattle.law_uses.specs.Connectivity.Rows.{one_object, secret, helper, sent, message, handed, guarded, coercing, answering, stray, program, escaping, auditing, fresh, opened_rows}
-use Rattle.law_uses.specs.Connectivity.Settlings.{IsResolver, IsGiven, gave, threw, resolved, smashed, waited, said, lost, SettlesWell}
+use Rattle.law_uses.specs.Connectivity.Rows.{one_object, secret, helper, sent, message, handed, guarded, coercing, answering, stray, ringless, parting, parted, program, escaping, auditing, fresh, opened_rows}
+use Rattle.law_uses.specs.Connectivity.Settlings.{IsResolver, IsOf, hosts, learns, provides, tells as tells_of, Says, IsNoticed, Follows, GoesOn, Chain, there, onward as goes_on, LeadsBack, IsGiven, gave, threw, resolved, smashed, waited, said, lost, SettlesWell}
 use Rattle.law_uses.specs.Connectivity.ConnectedLaws.{IsClosed}
 use Rattle.law_uses.proofs.Connectivity.Knowing.{least}
 
@@ -194,9 +196,149 @@ module _ (word : ℕ → ℕ) where
     where
       no : SettlesWell (naming word 0) took_it gone_by (Answer 0 (sent 0)) secret → ⊥
       no (inl (x, g, inl (inl r))) = not_null (null_reaches x secret (null_given (Answer 0 (sent 0)) x g) r)
-      no (inl (x, g, inl (inr (w, i, e)))) = not_broken (codes "partition") e
+      no (inl (x, g, inl (inr (w, e)))) = not_broken (codes "partition") e
       no (inl (x, g, inr (z, f, m, e))) = not_broken (codes "cycle") e
       no (inr (w, i, o, e)) = not_broken (codes "partition") e
+
+  -- ---- broken without a cause
+
+  abbrev gave_it : Value Name → List (Happened Name)
+  gave_it v = Took 0 (message 0 helper []) ∷ Finished 0 v ∷ []
+
+  module _ (r : Start Name Name) (v : Value Name) (owed : r.step ≡ Takes [] 0 (message 0 helper [])) (bare : r.vat.things ≡ []) where
+    unmade : (a : ℕ) (p r : Name) → IsAmong (PromiseMade a p r) (gave_it v) → ⊥
+    unmade a p r (inl e) = cc
+    unmade a p r (inr (inl e)) = cc
+    unmade a p r (inr (inr m)) = m
+
+    none_there : (i : ℕ) (p : Name) → slice_get r.vat.things i ≡ Some (Resolver p) → ⊥
+    none_there i p e = none i p (subst (λ ts. slice_get ts i ≡ Some (Resolver p)) bare e)
+      where
+        none : (i : ℕ) (p : Name) → slice_get [] i ≡ Some (Resolver p) → ⊥
+        none i p e = cc
+
+    none_resolves : (i : ℕ) (p : Name) → IsResolver (naming word 0) r (gave_it v) i p → ⊥
+    none_resolves i p (inl e) = none_there i p e
+    none_resolves i p (inr h) = unmade h.0 p h.1 h.2
+
+    no_receipt : (p : Name) (x : Value Name) (z : _) → z ≡ Takes [] 0 (message 0 helper []) → Says (naming word 0) r (gave_it v) z p x → ⊥
+    no_receipt p x (Takes tree depth m) e h = h
+    no_receipt p x (Opens tree depth root given) e h = h
+    no_receipt p x (Notices w) e h = h
+    no_receipt p x (Receives from n) e h = cc
+
+    -- all that is given is what the turn gave
+    all_given : (p : Name) (x : Value Name) → IsGiven (naming word 0) r (gave_it v) p x → x ≡ v
+    all_given p x (gave a (inl e) o) = cc
+    all_given p x (gave a (inr (inl e)) o) = cc
+    all_given p x (gave a (inr (inr m)) o) = absurd m
+    all_given p x (threw a (inl e) o) = cc
+    all_given p x (threw a (inr (inl e)) o) = cc
+    all_given p x (threw a (inr (inr m)) o) = absurd m
+    all_given p x (resolved i s h) = absurd (none_resolves i p s)
+    all_given p x (smashed i y s h f) = absurd (none_resolves i p s)
+    all_given p x (waited q (inl e) w) = cc
+    all_given p x (waited q (inr (inl e)) w) = cc
+    all_given p x (waited q (inr (inr m)) w) = absurd m
+    all_given p x (said s) = absurd (no_receipt p x r.step owed s)
+    all_given p x (lost i y h (inl e) f) = cc
+    all_given p x (lost i y h (inr (inl e)) f) = cc
+    all_given p x (lost i y h (inr (inr m)) f) = absurd m
+
+  -- the helper stands for itself, and waits on nothing
+  helper_leads : (x y : Value Name) → x ≡ helper → Leads (naming word 0) fresh.known (gave_it helper) x y → ⊥
+  unfolding opened_rows opened_state opened_refs
+  helper_leads x y e (settled {n = n} f) = let m : n ≡ Object 0 0 = cc in let g : standing_of (naming word 0) fresh.known (Object 0 0) ≡ Settled y = subst (λ z. standing_of (naming word 0) fresh.known z ≡ Settled y) m f in cc
+  helper_leads x y e (viewed {n = n} {q = q} f) = let m : n ≡ Object 0 0 = cc in let g : standing_of (naming word 0) fresh.known (Object 0 0) ≡ Viewed q = subst (λ z. standing_of (naming word 0) fresh.known z ≡ Viewed q) m f in cc
+  helper_leads x y e (settles p (inl i) o) = cc
+  helper_leads x y e (settles p (inr (inl i)) o) = cc
+  helper_leads x y e (settles p (inr (inr i)) o) = absurd i
+  helper_leads x y e (views p (inl i) o) = cc
+  helper_leads x y e (views p (inr (inl i)) o) = cc
+  helper_leads x y e (views p (inr (inr i)) o) = absurd i
+
+  helper_reaches : (x y : Value Name) → x ≡ helper → Reaches (naming word 0) fresh.known (gave_it helper) x y → y ≡ helper
+  helper_reaches x y e itself = e
+  helper_reaches x y e (onward z l r) = absurd (helper_leads x z e l)
+
+  not_noticed : (w : ℕ) → IsNoticed (naming word 0) took_it w → ⊥
+  unfolding fresh opened_state
+  not_noticed w (inl e) = cc
+  not_noticed w (inr e) = cc
+
+  helper_follows : (x y : Value Name) → x ≡ helper → Follows (naming word 0) took_it (gave_it helper) x y → y ≡ helper
+  helper_follows x y e (inl r) = helper_reaches x y e r
+  helper_follows x y e (inr (h, f)) = absurd (not_noticed h.0 h.3)
+
+  helper_goes : (q : Name) → GoesOn (naming word 0) took_it (gave_it helper) (Object 0 0) q → ⊥
+  unfolding opened_rows opened_state opened_refs
+  helper_goes q (inl f) = cc
+  helper_goes q (inr (inl (p, inl i, o))) = cc
+  helper_goes q (inr (inl (p, inr (inl i), o))) = cc
+  helper_goes q (inr (inl (p, inr (inr i), o))) = absurd i
+  helper_goes q (inr (inr l)) = helper_leads (Ref (Object 0 0)) (Ref q) refl l
+
+  helper_rings : (n p : Name) → n ≡ Object 0 0 → p ≡ Answer 0 (sent 0) → Chain (naming word 0) took_it (gave_it helper) n p → ⊥
+  unfolding opened_values
+  helper_rings n p e f (there s) = let g : (naming word 0).same (Object 0 0) (Answer 0 (sent 0)) ≡ true = subst (λ z. (naming word 0).same z (Answer 0 (sent 0)) ≡ true) e (subst (λ z. (naming word 0).same n z ≡ true) f s) in cc
+  helper_rings n p e f (goes_on q g c) = helper_goes q (subst (λ z. GoesOn (naming word 0) took_it (gave_it helper) z q) e g)
+
+  cycle_not : (t : Value Name) → t ≡ helper → t ≡ Broken (codes "cycle") → ⊥
+  unfolding helper
+  cycle_not t e f = cc
+
+  back_not : (z : Value Name) → z ≡ helper → LeadsBack (naming word 0) took_it (gave_it helper) (Answer 0 (sent 0)) z → ⊥
+  unfolding helper
+  back_not (Ref n) e h = let m : n ≡ Object 0 0 = cc in helper_rings n (Answer 0 (sent 0)) m refl h
+  back_not (Items k) e h = cc
+  back_not other e h = h
+
+  words_differ : codes "cycle" ≡ codes "partition" → ⊥
+  words_differ e = cc
+
+  broken_is : (t u : Words) → ◌≡◌ {A = Value Name} (Broken t) (Broken u) → t ≡ u
+  broken_is t u e = cc
+
+  fresh_bare : fresh.things ≡ []
+  unfolding fresh
+  fresh_bare = refl
+
+  pub ringless_is_not : Connected (naming word 0) answering ringless → ⊥
+  unfolding opened_connected answering ringless one_object
+  ringless_is_not c = no c.1.1.0.1
+    where
+      no : SettlesWell (naming word 0) took_it (gave_it helper) (Answer 0 (sent 0)) (Broken (codes "cycle")) → ⊥
+      no (inl (x, g, inl f)) = cycle_not (Broken (codes "cycle")) (helper_follows x (Broken (codes "cycle")) (all_given took_it helper refl fresh_bare (Answer 0 (sent 0)) x g) f) refl
+      no (inl (x, g, inr (z, f, b, e))) = back_not z (helper_follows x z (all_given took_it helper refl fresh_bare (Answer 0 (sent 0)) x g) f) b
+      no (inr (w, i, o, e)) = words_differ (broken_is (codes "cycle") (codes "partition") e)
+
+  abbrev parted_it : Start Name Name
+  parted_it = record { step = Takes [] 0 (message 0 helper []); vat = record fresh { noticed = 5 ∷ [] } }
+
+  not_hosted : (w : ℕ) (n : Name) → n ≡ Answer 0 (sent 0) → IsOf (naming word 0) parted_it w n → ⊥
+  unfolding fresh begun opened_values
+  not_hosted w n e (hosts k (inl q) h) = let f : k.name ≡ Root 0 = ap (λ (z : Known Name). z.name) q in cc
+  not_hosted w n e (hosts k (inr m) h) = m
+  not_hosted w n e (learns i (k, l, q)) = cc
+  not_hosted w n e (provides i (inl h)) = h.1
+  not_hosted w n e (provides i (inr (k, l, q))) = cc
+  not_hosted w n e (tells_of from x q i) = cc
+
+  pub parted_is_not : Connected (naming word 0) parting parted → ⊥
+  unfolding opened_connected parting parted one_object
+  parted_is_not c = no c.1.1.0.1
+    where
+      no_value : (x : Value Name) → x ≡ Null → (t : Words) → x ≡ Broken t → ⊥
+      no_value x e t f = cc
+
+      no_name : (n : Name) → ◌≡◌ {A = Value Name} (Ref n) Null → ⊥
+      no_name n e = cc
+
+      no : SettlesWell (naming word 0) parted_it gone_by (Answer 0 (sent 0)) (Broken (codes "partition")) → ⊥
+      no (inl (x, g, inl (inl r))) = no_value (Broken (codes "partition")) (null_reaches x (Broken (codes "partition")) (all_given parted_it Null refl fresh_bare (Answer 0 (sent 0)) x g) r) (codes "partition") refl
+      no (inl (x, g, inl (inr (h, e)))) = no_name h.1 (null_reaches x (Ref h.1) (all_given parted_it Null refl fresh_bare (Answer 0 (sent 0)) x g) h.2)
+      no (inl (x, g, inr (z, f, b, e))) = words_differ (sym (broken_is (codes "partition") (codes "cycle") e))
+      no (inr (w, i, o, e)) = not_hosted w (Answer 0 (sent 0)) refl o
 
   pub handed_is : Connected (naming word 0) one_object (handed (secret ∷ []))
   unfolding opened_connected opened_rows

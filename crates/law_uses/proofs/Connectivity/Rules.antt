@@ -1,5 +1,5 @@
 -- The rules by which evaluation is gone over.
-use Rattle.std.proofs.Common.{◌≡◌, ℕ, Bool, true, false, List, [], ◌∷◌, ◌++◌, Option, None, if◌then◌else◌, refl, ap, ◌∙◌, subst, map, inl, inr, suc, length, ◌==◌, Some}
+use Rattle.std.proofs.Common.{◌≡◌, ◌≤◌, ℕ, Bool, true, false, List, [], ◌∷◌, ◌++◌, Option, None, if◌then◌else◌, refl, ap, ◌∙◌, subst, map, inl, inr, suc, length, ◌==◌, Some}
 use Rattle.std.proofs.lemmas.Bool.{eqb-true}
 use Rattle.def_machine.specs.Values.{Words, Value, Ref, Naming, Own, Null, IsOwn}
 use Rattle.def_machine.specs.State.{Bound, Fixed, Slot, Binding, Scope, Thing, Ejector, Resolver, Message, Standing, Happened, Called, Back, Thrown, Left, Got, EjectorMade, PromiseMade, Sends, Reacts, Vat, Done, Gives, Throws, Ejects, Stops, Act, ◌>>=◌, ◌>>◌, and_then, end_by, ending, give, throw, eject, tell, new_thing, new_promise, begun}
@@ -94,12 +94,15 @@ module _ {N W : Type 0} (K : Naming N W) (E : Ground N W) (a : ℕ) where
   pub fine_promise : {C : Fact N} → Fine K E a C (new_promise K) nothing
   fine_promise = fine_steady K E a (idle_promise K) (steady_promise K E.start)
 
-  -- the promise that a vat makes is its own
-  pub own_promise : {B : Type 0} {C : Fact N} {f : N → Act N B} {H : B → Fact N} → ((p : N) → ((i k : ℕ) × (p ≡ K.made (IsOwn i) k)) → Fine K E a C (f p) H) → Fine K E a C (new_promise K >>= f) H
+  -- the promise that a vat makes is its own, of a new number
+  abbrev pub IsNewPromise : N → Type 0
+  IsNewPromise p = (i k : ℕ) × (p ≡ K.made (IsOwn i) k) × (E.start.vat.promises ≤ i) × (length E.start.vat.known ≤ k)
+
+  pub own_promise : {B : Type 0} {C : Fact N} {f : N → Act N B} {H : B → Fact N} → ((p : N) → IsNewPromise p → Fine K E a C (f p) H) → Fine K E a C (new_promise K >>= f) H
   unfolding new_promise ◌>>=◌ and_then
   own_promise {C = C} {f = f} {H = H} h = record {
     after = λ s g c. let p : N = K.made (IsOwn s.promises) (length s.known) in let t : Vat N = record s { promises = suc s.promises; known = s.known ++ begun p s.number ∷ [] } in let made = (fine_promise {C = C}).after s g c in
-        widen K E a H s t (f p t) made.0 ((h p (s.promises, length s.known, refl)).after t made.1 (still_holds K E a s t made.0 C c));
+        widen K E a H s t (f p t) made.0 ((h p (s.promises, length s.known, refl, g.causes.promises, g.causes.names)).after t made.1 (still_holds K E a s t made.0 C c));
   }
 
   sends_now : {B : Type 0} {C : Fact N} (m : Message N) (n : N) → m.answer ≡ Some n → {k : Act N B} {H : B → Fact N} → Gets K E a C (IsValue m.target) → Gets K E a C (AreValues m.args) → Fine K E a (Also C (Also (IsValue (Ref n)) (IsLine (Sends a m)))) k H → Fine K E a C (tell (Sends a m) >> k) H
@@ -181,12 +184,12 @@ module _ {N W : Type 0} (K : Naming N W) (E : Ground N W) (a : ℕ) where
     pub bind_ejector : {B : Type 0} (tree : List Node) {C : Fact N} (act : ℕ) {f : ℕ → Act N B} {H : B → Fact N} → Gets K E a C (IsAct act) → ((j : ℕ) → Fine K E a (Also C (Also (IsValue (Ref (K.object j))) (MadeEjector j))) (f j) H) → Fine K E a C (calls.new_ejector K tree act >>= f) H
     bind_ejector tree act i h = fine_bind K E a (λ j. Also (IsValue (Ref (K.object j))) (MadeEjector j)) (fine_ejector tree act i) h
 
-    resolver_now : {B : Type 0} {C : Fact N} (p : N) → ((i k : ℕ) × (p ≡ K.made (IsOwn i) k)) → {f : ℕ → Act N B} {H : B → Fact N} → ((r : ℕ) → Fine K E a (Also C (Also (IsValue (Ref p)) (IsValue (Ref (K.object r))))) (f r) H) → Fine K E a C (new_thing (Resolver p) >>= (λ r. tell (PromiseMade a p (K.object r)) >> f r)) H
+    resolver_now : {B : Type 0} {C : Fact N} (p : N) → IsNewPromise p → {f : ℕ → Act N B} {H : B → Fact N} → ((r : ℕ) → Fine K E a (Also C (Also (IsValue (Ref p)) (IsValue (Ref (K.object r))))) (f r) H) → Fine K E a C (new_thing (Resolver p) >>= (λ r. tell (PromiseMade a p (K.object r)) >> f r)) H
     unfolding uses by tells open_after
-    resolver_now p o h = thing_block K E a (Resolver p) tt (λ r. PromiseMade a p (K.object r)) (λ n. ap own_number (spots n)) (λ n. refl) (λ n. refl) (λ n. o) (λ so n. tt) (λ so n. tt) (λ so n q e. inr (a, K.object n, subst (λ z. IsAmong (PromiseMade a z (K.object n)) (so ++ PromiseMade a p (K.object n) ∷ [])) (same_promise p q e) (among_last so _), spots n)) (λ r. Also (IsValue (Ref p)) (IsValue (Ref (K.object r)))) (λ s n. refl) (λ s n. (tt, tt))
+    resolver_now p o h = thing_block K E a (Resolver p) tt (λ r. PromiseMade a p (K.object r)) (λ n. ap own_number (spots n)) (λ n. refl) (λ n. refl) (λ n. (o.0, o.1, o.2)) (λ so n. tt) (λ so n. tt) (λ so n q e. inr (a, K.object n, subst (λ z. IsAmong (PromiseMade a z (K.object n)) (so ++ PromiseMade a p (K.object n) ∷ [])) (same_promise p q e) (among_last so _), spots n)) (λ r. Also (IsValue (Ref p)) (IsValue (Ref (K.object r)))) (λ s n. refl) (λ s n. (tt, o))
         (λ s r. (is_told K E a s (PromiseMade a p (K.object r)) (AValue (Ref p)) (inl refl), is_told K E a s (PromiseMade a p (K.object r)) (AValue (Ref (K.object r))) (inr (inl refl)))) h
 
-    pub bind_resolver : {B : Type 0} {C : Fact N} (act : ℕ) (p : N) → ((i k : ℕ) × (p ≡ K.made (IsOwn i) k)) → {f : ℕ → Act N B} {H : B → Fact N} → Gets K E a C (IsAct act) → ((r : ℕ) → Fine K E a (Also C (Also (IsValue (Ref p)) (IsValue (Ref (K.object r))))) (f r) H) → Fine K E a C (new_thing (Resolver p) >>= (λ r. tell (PromiseMade act p (K.object r)) >> f r)) H
+    pub bind_resolver : {B : Type 0} {C : Fact N} (act : ℕ) (p : N) → IsNewPromise p → {f : ℕ → Act N B} {H : B → Fact N} → Gets K E a C (IsAct act) → ((r : ℕ) → Fine K E a (Also C (Also (IsValue (Ref p)) (IsValue (Ref (K.object r))))) (f r) H) → Fine K E a C (new_thing (Resolver p) >>= (λ r. tell (PromiseMade act p (K.object r)) >> f r)) H
     bind_resolver act p o {f = f} i h = act_is K E a act (λ b. new_thing (Resolver p) >>= (λ r. tell (PromiseMade b p (K.object r)) >> f r)) i (resolver_now p o h)
 
   -- ---- a call, with its lines

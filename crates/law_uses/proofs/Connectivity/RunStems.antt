@@ -1,8 +1,8 @@
 -- In every world of a run each message stems from what was sent.
-use Rattle.std.proofs.Common.{◌≡◌, ℕ, zero, suc, Bool, true, false, List, [], ◌∷◌, ◌++◌, Option, Some, None, refl, sym, ◌∙◌, subst, map, ◌⊎◌, inl, inr, ◌==◌}
+use Rattle.std.proofs.Common.{◌≡◌, ℕ, zero, suc, Bool, true, false, List, [], ◌∷◌, ◌++◌, Option, Some, None, refl, sym, ap, ◌∙◌, subst, map, ◌⊎◌, inl, inr, ◌==◌}
 use Rattle.std.specs.Prelude.{slice_get}
-use Rattle.def_machine.specs.Values.{Value, Ref, Name, Root, Object, host_of}
-use Rattle.def_machine.specs.State.{Message, Known, Passed, Passeds, Plain, AGift, Many, NoMore, More, Note, Deliver, SettledTo, Elsewhere, Shorten, Put, Happened, Took, Settles, Views, Vat, Done, Gives, begun}
+use Rattle.def_machine.specs.Values.{Value, Ref, Name, Root, Object, Foreign, host_of, spot_of}
+use Rattle.def_machine.specs.State.{Message, Known, Passed, Passeds, Plain, AGift, Many, NoMore, More, Note, Deliver, SettledTo, Elsewhere, Shorten, Put, Happened, Took, Settles, Views, Vat, Done, Gives, begun, is_in}
 use Rattle.def_machine.specs.Arrive.{Old, New, notice}
 use Rattle.def_machine.specs.Eval.{opening}
 use Rattle.law_machine.specs.Machine.Steps.{Step, Opens as Starts, Takes, Receives, Notices, does}
@@ -12,10 +12,10 @@ use Rattle.law_uses.specs.Connectivity.Known.{IsAmong, AllOf}
 use Rattle.law_uses.proofs.Connectivity.FineSteps.{among_left, among_right}
 use Rattle.law_fate.specs.Fates.FateRuns.{Reached}
 use Rattle.law_fate.proofs.Fates.RunCounts.{pick}
-use Rattle.law_uses.specs.Connectivity.Stems.{LeadsTo, itself, HasLine, HasList, HasOpened, ArgsPass, ComesAs, ComeAll, Stems, sent, carried, IsReaction, StemsOrReacts}
+use Rattle.law_uses.specs.Connectivity.Stems.{LeadsTo, itself, HasLine, HasList, HasOpened, HasGone, HasNoticed, HostIn, IsOf, IsApart, ArgsPass, ComesAs, ComeAll, Stems, sent, carried, IsReaction, StemsOrReacts}
 use Rattle.law_uses.specs.Connectivity.MessageLaws.{NoteStems, AllStem, MessagesStemFromSends}
 use Rattle.law_uses.proofs.Connectivity.Passing.{Kept, kept_all, leads_map, leads_on, all_map, all_end, passes_map, pass_all_map, come_all_map}
-use Rattle.law_uses.proofs.Connectivity.Moments.{Past, Line, Members, Offers, Later, StandTold, stand_map, IsTaken, TookFine, Came, Source, Fine, ReactionFine, QueuedFine, NoteFine, KnownFine, PassingAll, Good, Ends, Brings, LearntAs, LearntAll, name_in, value_in}
+use Rattle.law_uses.proofs.Connectivity.Moments.{Past, Line, Members, Offers, Later, StandTold, stand_map, IsTaken, TookFine, Came, Source, Fine, ReactionFine, QueuedFine, NoteFine, KnownFine, IsGone, PassingAll, Good, Ends, Brings, LearntAs, LearntAll, name_in, value_in}
 use Rattle.law_uses.proofs.Connectivity.ArriveBring.{brings_arrive, brings_notice}
 use Rattle.law_uses.proofs.Connectivity.EvalBring.{brings_opening, brings_taking}
 use Rattle.law_uses.proofs.Connectivity.Links.{OpenedIn, opened_with, push_opened, push_puts, with_link_all, found_link, link_from}
@@ -28,13 +28,14 @@ abbrev pub Grows : World → World → Type 0
 Grows w x = ((e : Event) → IsAmong e w.history → IsAmong e x.history)
     × ((v k : ℕ) (vs : List (Value Name)) → HasList w v k vs → HasList x v k vs)
     × ((v h i : ℕ) (n : Name) → HasOpened w v h i n → HasOpened x v h i n)
+    × ((v : ℕ) (n : Name) → HasGone w v n → HasGone x v n)
 
 module _ (w x : World) (g : Grows w x) where
   pub leads_grow : (u : ℕ) (y z : Value Name) → LeadsTo (HasLine w u) y z → LeadsTo (HasLine x u) y z
   leads_grow u y z h = leads_map (HasLine w u) (HasLine x u) (kept_all (HasLine w u) (HasLine x u) (λ e h. g.0 (Here u e) h)) y z h
 
   pub args_grow : (u : ℕ) (xs : List (Value Name)) (ys : Passeds Name) → ArgsPass w u xs ys → ArgsPass x u xs ys
-  args_grow u xs ys h = pass_all_map (HasLine w u) (HasLine x u) (kept_all (HasLine w u) (HasLine x u) (λ e h. g.0 (Here u e) h)) (HasList w u) (HasList x u) (g.1 u) (HasOpened w u) (HasOpened x u) (g.2 u) xs ys h
+  args_grow u xs ys h = pass_all_map (HasLine w u) (HasLine x u) (kept_all (HasLine w u) (HasLine x u) (λ e h. g.0 (Here u e) h)) (HasList w u) (HasList x u) (g.1 u) (HasOpened w u) (HasOpened x u) (g.2 u) (HasGone w u) (HasGone x u) (g.3 u) xs ys h
 
   pub stems_grow : (v : ℕ) (m : Message Name) → Stems w v m → Stems x v m
   stems_grow v m (sent a y h l) = sent a y (g.0 (Here v _) h) (leads_grow v y m.target l)
@@ -49,7 +50,7 @@ module _ (w x : World) (g : Grows w x) where
 
   note_grow : (u : ℕ) (n : Note Name) → NoteStems w u n → NoteStems x u n
   note_grow u (Deliver i n verb ys) h = (h.0, stems_grow u h.0 h.1, h.2, h.3, leads_grow u h.0.target (Ref n) h.4, args_grow u h.0.args ys h.5)
-  note_grow u (SettledTo n y) h = passes_map (HasLine w u) (HasLine x u) (kept_all (HasLine w u) (HasLine x u) (λ e i. g.0 (Here u e) i)) (HasList w u) (HasList x u) (g.1 u) (HasOpened w u) (HasOpened x u) (g.2 u) (Ref n) y h
+  note_grow u (SettledTo n y) h = passes_map (HasLine w u) (HasLine x u) (kept_all (HasLine w u) (HasLine x u) (λ e i. g.0 (Here u e) i)) (HasList w u) (HasList x u) (g.1 u) (HasOpened w u) (HasOpened x u) (g.2 u) (HasGone w u) (HasGone x u) (g.3 u) (Ref n) y h
   note_grow u (Elsewhere n c) h = (h.0, leads_grow u (Ref n) (Ref (Object c h.0)) h.1)
   note_grow u other h = tt
 
@@ -71,6 +72,7 @@ pub record WorldStems (w : World) : Type 0 where
   pub names : (v : ℕ) (s : Vat Name) → slice_get w.vats v ≡ Some s → AllOf (KnownStems w v) s.known
   pub links : AllOf (LinkStems w) w.links
   pub taken : (v a : ℕ) (m : Message Name) → IsAmong (Here v (Took a m)) w.history → StemsOrReacts w v m
+  pub noticed : (v : ℕ) (s : Vat Name) → slice_get w.vats v ≡ Some s → (u : ℕ) → is_in u s.noticed ≡ true → HasNoticed w v u
 
 module _ (w x : World) (g : Grows w x) where
   all_grow : (v : ℕ) (ms : List (Message Name)) → AllOf (Stems w v) ms → AllOf (Stems x v) ms
@@ -92,7 +94,7 @@ module _ (w : World) (ls : List Link) (es : List Event) where
   Moved = record w { links = ls; history = w.history ++ es }
 
   pub moved_grows : ((v h i : ℕ) (n : Name) → OpenedIn w.links v h i n → OpenedIn ls v h i n) → Grows w Moved
-  moved_grows o = (λ e h. among_left e w.history es h, λ v k vs h. h, o)
+  moved_grows o = (λ e h. among_left e w.history es h, λ v k vs h. h, λ v h i n k. (o v h i n k.0, k.1), λ v n h. (h.0, (h.1.0, among_left _ w.history es h.1.1), h.2, h.3, h.4))
 
   moved_stems : ((v h i : ℕ) (n : Name) → OpenedIn w.links v h i n → OpenedIn ls v h i n) → (((l : Link) → LinkStems w l → LinkStems Moved l) → AllOf (LinkStems w) w.links → AllOf (LinkStems Moved) ls) → IsNobodys es → WorldStems w → WorldStems Moved
   moved_stems o f none h = let g = moved_grows o in record {
@@ -100,6 +102,7 @@ module _ (w : World) (ls : List Link) (es : List Event) where
     names = λ v s e. all_map (KnownStems w v) (KnownStems Moved v) (known_grow w Moved g v) s.known (h.names v s e);
     links = f (link_grow w Moved g) h.links;
     taken = λ v a m i. queued_grow w Moved g v m (h.taken v a m (old v a m (among_either (Here v (Took a m)) w.history es i)));
+    noticed = λ v s e u i. let n = h.noticed v s e u i in (n.0, among_left _ w.history es n.1);
   }
     where
       old : (v a : ℕ) (m : Message Name) → IsAmong (Here v (Took a m)) w.history ⊎ IsAmong (Here v (Took a m)) es → IsAmong (Here v (Took a m)) w.history
@@ -146,6 +149,19 @@ put_lists zero (y ∷ xs) s t e f (suc u) k vs h = h
 put_lists (suc v) (y ∷ xs) s t e f zero k vs h = h
 put_lists (suc v) (y ∷ xs) s t e f (suc u) k vs h = put_lists v xs s t e f u k vs h
 
+-- what stands there is what was put back, or stands as before
+put_found : (v : ℕ) (t : Vat Name) (xs : List (Vat Name)) (s : Vat Name) → slice_get xs v ≡ Some s → (u : ℕ) (q : Vat Name) → slice_get xs u ≡ Some q → ((u ≡ v) × (q ≡ s)) ⊎ (slice_get (world.put_at v t xs) u ≡ Some q)
+unfolding world.put_at
+put_found v t [] s e u q f = cc
+put_found zero t (x ∷ xs) s e zero q f = inl (refl, some_vat q s (sym f ∙ e))
+put_found zero t (x ∷ xs) s e (suc u) q f = inr f
+put_found (suc v) t (x ∷ xs) s e zero q f = inr f
+put_found (suc v) t (x ∷ xs) s e (suc u) q f = up (put_found v t xs s e u q f)
+  where
+    up : ((u ≡ v) × (q ≡ s)) ⊎ (slice_get (world.put_at v t xs) u ≡ Some q) → ((suc u ≡ suc v) × (q ≡ s)) ⊎ (slice_get (world.put_at v t xs) u ≡ Some q)
+    up (inl i) = inl (ap suc i.0, i.1)
+    up (inr i) = inr i
+
 put_same : (v : ℕ) (xs : List (Vat Name)) (s t : Vat Name) → slice_get xs v ≡ Some s → slice_get (world.put_at v t xs) v ≡ Some t
 unfolding world.put_at
 put_same v [] s t e = cc
@@ -174,12 +190,16 @@ pushed_stems x v l n e h i = either l.cut
     either true = i
     either false = all_end (NoteStems x l.from) l.notes n i (subst (λ u. NoteStems x u n) (sym e) h)
 
+-- a cut that was noticed, or is in this step
+abbrev pub cut_by : World → ℕ → Step Name Name → ℕ → Type 0
+cut_by w v step u = HasNoticed w v u ⊎ (step ≡ Notices u)
+
 -- a step of vat v of a world
 abbrev pub past_of : World → ℕ → Step Name Name → Past
-past_of w v step = record { line = HasLine w v; was = Stems w v; reacted = IsReaction w v; step = step }
+past_of w v step = record { line = HasLine w v; was = Stems w v; reacted = IsReaction w v; step = step; cut = cut_by w v step; home = v }
 
 -- Vat v of world w, as s, takes a step after which it is t, behind these lines.
-module _ (v : ℕ) (w : World) (head : List Event) (s r t : Vat Name) (step : Step Name Name) (at : slice_get w.vats v ≡ Some s) (same : r.lists ≡ s.lists) (late : Later r t) where
+module _ (v : ℕ) (w : World) (head : List Event) (s r t : Vat Name) (step : Step Name Name) (at : slice_get w.vats v ≡ Some s) (same : (r.lists ≡ s.lists) × (r.known ≡ s.known) × (r.number ≡ s.number)) (late : Later r t) where
   abbrev pub Next : World
   Next = record { fuel = t.fuel; drawn = t.drawn; vats = world.put_at v t w.vats; links = world.push_all v t.outbox w.links; connections = world.connections_after v t head w.connections; history = w.history ++ head ++ world.events_of w.links v t.happened }
 
@@ -189,9 +209,30 @@ module _ (v : ℕ) (w : World) (head : List Event) (s r t : Vat Name) (step : St
   pub next_grows : Grows w Next
   next_grows = (
     λ e h. among_left e (w.history ++ head) (world.events_of w.links v t.happened) (among_left e w.history head h),
-    λ u k vs h. put_lists v w.vats s t at (λ n us e. late.1 n us (subst (λ ls. slice_get ls n ≡ Some us) (sym same) e)) u k vs h,
-    λ u h i n o. push_opened v t.outbox w.links u h i n o,
+    λ u k vs h. put_lists v w.vats s t at (λ n us e. late.1 n us (subst (λ ls. slice_get ls n ≡ Some us) (sym same.0) e)) u k vs h,
+    λ u h i n o. (push_opened v t.outbox w.links u h i n o.0, apart_next u h n o.1),
+    λ u n h. let q = either u h.2 n h.0 h.3 h.4 (found u h.2 h.3) in (h.0, (h.1.0, among_left _ (w.history ++ head) (world.events_of w.links v t.happened) (among_left _ w.history head h.1.1)), q.0, q.1, q.2),
   )
+    where
+      of_next : (u : ℕ) (n : Name) → IsOf s u n → IsOf t u n
+      of_next u n (inl h) = inl h
+      of_next u n (inr (inl h)) = inr (inl (late.4 n u (subst (λ ks. HostIn ks n u) (sym same.1) h)))
+      of_next u n (inr (inr h)) = inr (inr (late.3 ∙ same.2 ∙ h))
+
+      found : (u : ℕ) (q : Vat Name) → slice_get w.vats u ≡ Some q → ((u ≡ v) × (q ≡ s)) ⊎ (slice_get Next.vats u ≡ Some q)
+      found u q e = put_found v t w.vats s at u q e
+
+      either : (u : ℕ) (q : Vat Name) (n : Name) (g : ℕ) → slice_get w.vats u ≡ Some q → IsOf q g n → ((u ≡ v) × (q ≡ s)) ⊎ (slice_get Next.vats u ≡ Some q) → (x : Vat Name) × (slice_get Next.vats u ≡ Some x) × IsOf x g n
+      either u q n g e o (inl i) = (t, subst (λ k. slice_get Next.vats k ≡ Some t) (sym i.0) (put_same v w.vats s t at), of_next g n (subst (λ (z : Vat Name). IsOf z g n) i.1 o))
+      either u q n g e o (inr i) = (q, i, o)
+
+      apart_next : (u h : ℕ) (n : Name) → IsApart w u h n → IsApart Next u h n
+      apart_next u h n (inl e) = inl e
+      apart_next u h n (inr (q, e, f)) = now (found u q e)
+        where
+          now : ((u ≡ v) × (q ≡ s)) ⊎ (slice_get Next.vats u ≡ Some q) → IsApart Next u h n
+          now (inl i) = inr (t, subst (λ k. slice_get Next.vats k ≡ Some t) (sym i.0) (put_same v w.vats s t at), λ j. f (j ∙ late.3 ∙ same.2 ∙ ap (λ (z : Vat Name). z.number) (sym i.1)))
+          now (inr i) = inr (q, i, f)
 
   pub new_line : (e : Happened Name) → world.event_of w.links v e ≡ Here v e ∷ [] → IsAmong e t.happened → HasLine Next v e
   new_line e f m = among_right (Here v e) (w.history ++ head) (world.events_of w.links v t.happened) (here_event w.links v t.happened e f m)
@@ -207,14 +248,27 @@ module _ (v : ℕ) (w : World) (head : List Event) (s r t : Vat Name) (step : St
   pub next_list : (k : ℕ) (vs : List (Value Name)) → Members t k vs → HasList Next v k vs
   next_list k vs e = (t, put_same v w.vats s t at, e)
 
-  pub next_opened : (h i : ℕ) (n : Name) → Offers t h i n → HasOpened Next v h i n
-  next_opened h i n m = push_puts v t.outbox w.links h i n m
+  pub next_opened : (h i : ℕ) (n : Name) → Offers v t h i n → HasOpened Next v h i n
+  next_opened h i n m = (push_puts v t.outbox w.links h i n m.0, either m.1)
+    where
+      either : (spot_of v n ≡ Foreign h) ⊎ (h ≡ t.number → ⊥) → IsApart Next v h n
+      either (inl e) = inl e
+      either (inr f) = inr (t, put_same v w.vats s t at, f)
 
-  pub next_pass : (xs : List (Value Name)) (ys : Passeds Name) → PassingAll Before t xs ys → ArgsPass Next v xs ys
-  next_pass xs ys h = pass_all_map (Line Before t) (HasLine Next v) kept_lines (Members t) (HasList Next v) next_list (Offers t) (HasOpened Next v) next_opened xs ys h
+  -- where a notice tells of the cut
+  module _ (heard : (u : ℕ) → step ≡ Notices u → HasNoticed Next v u) where
+    next_cut : (u : ℕ) → cut_by w v step u → HasNoticed Next v u
+    next_cut u (inl h) = (h.0, next_grows.0 _ h.1)
+    next_cut u (inr e) = heard u e
+
+    pub next_gone : (n : Name) → IsGone Before t n → HasGone Next v n
+    next_gone n h = (h.0, next_cut h.0 h.1, t, put_same v w.vats s t at, h.2)
+
+  pub next_pass : ((u : ℕ) → step ≡ Notices u → HasNoticed Next v u) → (xs : List (Value Name)) (ys : Passeds Name) → PassingAll Before t xs ys → ArgsPass Next v xs ys
+  next_pass heard xs ys h = pass_all_map (Line Before t) (HasLine Next v) kept_lines (Members t) (HasList Next v) next_list (Offers v t) (HasOpened Next v) next_opened (IsGone Before t) (HasGone Next v) (next_gone heard) xs ys h
 
   -- where what the note brings stems from what was sent, and what is taken does
-  module _ (brought : (m : Message Name) → Came t step m → Stems Next v m) (takes : (m : Message Name) → IsTaken step m → StemsOrReacts w v m) where
+  module _ (brought : (m : Message Name) → Came t step m → Stems Next v m) (takes : (m : Message Name) → IsTaken step m → StemsOrReacts w v m) (heard : (u : ℕ) → step ≡ Notices u → HasNoticed Next v u) where
     source_stems : (m : Message Name) → Source Before t m → Stems Next v m
     unfolding world.event_of
     source_stems m (inl h) = sent h.0 m.target (new_line _ refl h.1) itself
@@ -234,8 +288,8 @@ module _ (v : ℕ) (w : World) (head : List Event) (s r t : Vat Name) (step : St
     next_queued m (inr h) = inr (next_reaction m h)
 
     next_note : (n : Note Name) → NoteFine Before t n → NoteStems Next v n
-    next_note (Deliver i n verb ys) h = (h.0, next_stems h.0 h.1, h.2, h.3, leads_map (Line Before t) (HasLine Next v) kept_lines h.0.target (Ref n) h.4, next_pass h.0.args ys h.5)
-    next_note (SettledTo n y) h = passes_map (Line Before t) (HasLine Next v) kept_lines (Members t) (HasList Next v) next_list (Offers t) (HasOpened Next v) next_opened (Ref n) y h
+    next_note (Deliver i n verb ys) h = (h.0, next_stems h.0 h.1, h.2, h.3, leads_map (Line Before t) (HasLine Next v) kept_lines h.0.target (Ref n) h.4, next_pass heard h.0.args ys h.5)
+    next_note (SettledTo n y) h = passes_map (Line Before t) (HasLine Next v) kept_lines (Members t) (HasList Next v) next_list (Offers v t) (HasOpened Next v) next_opened (IsGone Before t) (HasGone Next v) (next_gone heard) (Ref n) y h
     next_note (Elsewhere n c) h = (h.0, leads_map (Line Before t) (HasLine Next v) kept_lines (Ref n) (Ref (Object c h.0)) h.1)
     next_note other h = tt
 
@@ -258,6 +312,7 @@ module _ (v : ℕ) (w : World) (head : List Event) (s r t : Vat Name) (step : St
       links = push_stems (LinkStems Next) (NoteStems Next v) v t.outbox w.links (pushed_stems Next v) (all_map (λ (q : Put Name). NoteFine Before t q.note) (λ (q : Put Name). NoteStems Next v q.note) (λ q f. next_note q.note f) t.outbox g.2)
           (all_map (LinkStems w) (LinkStems Next) (link_grow w Next next_grows) w.links h.links);
       taken = λ u a m i. queued_grow w Next next_grows u m (was_taken none g h u a m (among_either (Here u (Took a m)) (w.history ++ head) (world.events_of w.links v t.happened) i));
+      noticed = λ u q e. put_each (λ n z. (x : ℕ) → is_in x z.noticed ≡ true → HasNoticed Next n x) v t w.vats (λ x i. next_cut heard x (g.4 x i)) (λ n z f x i. let o = h.noticed n z f x i in (o.0, next_grows.0 _ o.1)) u q e;
     }
 
 -- ---- the steps of a run
@@ -266,11 +321,11 @@ module _ (v : ℕ) (w : World) (head : List Event) (s r t : Vat Name) (step : St
 abbrev pub BringsWell : ℕ → World → List Event → Step Name Name → Type 0
 BringsWell v w head step = (x : World) (t : Vat Name) → Grows w x → ((e : Event) → IsAmong e head → IsAmong e x.history) → ((k : ℕ) (vs : List (Value Name)) → Members t k vs → HasList x v k vs) → (m : Message Name) → Came t step m → Stems x v m
 
-put_back_stems : (v : ℕ) (w : World) (head : List Event) (n : ℕ) (s r : Vat Name) (step : Step Name Name) (d : Done Name (Unit {0})) → slice_get w.vats v ≡ Some s → r.lists ≡ s.lists → IsNobodys head
-    → BringsWell v w head step → ((m : Message Name) → IsTaken step m → StemsOrReacts w v m) → Ends (past_of w v step) r (λ a t. Unit {0}) d → WorldStems w → Reached WorldStems (world.put_back v w head n d)
+put_back_stems : (v : ℕ) (w : World) (head : List Event) (n : ℕ) (s r : Vat Name) (step : Step Name Name) (d : Done Name (Unit {0})) → slice_get w.vats v ≡ Some s → (r.lists ≡ s.lists) × (r.known ≡ s.known) × (r.number ≡ s.number) → IsNobodys head
+    → BringsWell v w head step → ((m : Message Name) → IsTaken step m → StemsOrReacts w v m) → ((u : ℕ) → step ≡ Notices u → (k : ℕ) × IsAmong (NoticedAt k v u) head) → Ends (past_of w v step) r (λ a t. Unit {0}) d → WorldStems w → Reached WorldStems (world.put_back v w head n d)
 unfolding world.put_back
-put_back_stems v w head n s r step (Gives u t) at same none brought takes e h = next_world v w head s r t step at same e.0 (λ m c. brought (Next v w head s r t step at same e.0) t (next_grows v w head s r t step at same e.0) (λ f i. among_left f (w.history ++ head) (world.events_of w.links v t.happened) (among_right f w.history head i)) (next_list v w head s r t step at same e.0) m c) takes none e.1 h
-put_back_stems v w head n s r step other at same none brought takes e h = h
+put_back_stems v w head n s r step (Gives u t) at same none brought takes heard e h = next_world v w head s r t step at same e.0 (λ m c. brought (Next v w head s r t step at same e.0) t (next_grows v w head s r t step at same e.0) (λ f i. among_left f (w.history ++ head) (world.events_of w.links v t.happened) (among_right f w.history head i)) (next_list v w head s r t step at same e.0) m c) takes (λ x i. let k = heard x i in (k.0, among_left _ (w.history ++ head) (world.events_of w.links v t.happened) (among_right _ w.history head k.1))) none e.1 h
+put_back_stems v w head n s r step other at same none brought takes heard e h = h
 
 -- a note from vat u that stems there
 arrives_well : (v u k : ℕ) (w : World) (bytes : List ℕ) (ks : List Name) (n : Note Name) → NoteStems w u n → BringsWell v w (Carried k u v n bytes ∷ []) (Receives u (read_note ks n))
@@ -290,19 +345,22 @@ pub one_line : (e : Event) → ((u : ℕ) (f : Happened Name) → Here u f ≡ e
 one_line e g u f (inl i) = g u f i
 one_line e g u f (inr i) = i
 
-module _ (script : Script) where
-  pub step_brings : (v : ℕ) (line : Happened Name → Type 0) (was reacted : Message Name → Type 0) (step : Step Name Name) → Brings (record { line = line; was = was; reacted = reacted; step = step }) (does (names script v) step)
-  unfolding does names
-  step_brings v line was reacted (Starts tree depth root given) = brings_opening _ v (record { line = line; was = was; reacted = reacted; step = Starts tree depth root given }) tree depth root given
-  step_brings v line was reacted (Takes tree depth m) = brings_taking _ v (record { line = line; was = was; reacted = reacted; step = Takes tree depth m }) tree depth m refl
-  step_brings v line was reacted (Receives from n) = brings_arrive _ v (record { line = line; was = was; reacted = reacted; step = Receives from n }) from n refl
-  step_brings v line was reacted (Notices u) = brings_notice _ v (record { line = line; was = was; reacted = reacted; step = Notices u }) u
+notice_is : (u w : ℕ) → ◌≡◌ {A = Step Name Name} (Notices w) (Notices u) → w ≡ u
+notice_is u w e = cc
 
-  within_stems : (v : ℕ) (w : World) (head : List Event) (n : ℕ) (step : Step Name Name) (s q : Vat Name) → slice_get w.vats v ≡ Some s → q.lists ≡ s.lists → IsNobodys head → AllOf (StemsOrReacts w v) q.queue → AllOf (KnownStems w v) q.known
-      → BringsWell v w head step → ((m : Message Name) → IsTaken step m → StemsOrReacts w v m) → WorldStems w → Reached WorldStems (world.within v w head n (does (names script v) step) (Some q))
+module _ (script : Script) where
+  pub step_brings : (v : ℕ) (line : Happened Name → Type 0) (was reacted : Message Name → Type 0) (cut : ℕ → Type 0) (step : Step Name Name) → ((u : ℕ) → step ≡ Notices u → cut u) → Brings (record { line = line; was = was; reacted = reacted; step = step; cut = cut; home = v }) (does (names script v) step)
+  unfolding does names
+  step_brings v line was reacted cut (Starts tree depth root given) f = brings_opening _ (record { line = line; was = was; reacted = reacted; step = Starts tree depth root given; cut = cut; home = v }) tree depth root given
+  step_brings v line was reacted cut (Takes tree depth m) f = brings_taking _ (record { line = line; was = was; reacted = reacted; step = Takes tree depth m; cut = cut; home = v }) tree depth m refl
+  step_brings v line was reacted cut (Receives from n) f = brings_arrive _ (record { line = line; was = was; reacted = reacted; step = Receives from n; cut = cut; home = v }) from n refl
+  step_brings v line was reacted cut (Notices u) f = brings_notice _ (record { line = line; was = was; reacted = reacted; step = Notices u; cut = cut; home = v }) u (f u refl)
+
+  within_stems : (v : ℕ) (w : World) (head : List Event) (n : ℕ) (step : Step Name Name) (s q : Vat Name) → slice_get w.vats v ≡ Some s → (q.lists ≡ s.lists) × (q.known ≡ s.known) × (q.number ≡ s.number) × (q.noticed ≡ s.noticed) → IsNobodys head → AllOf (StemsOrReacts w v) q.queue → AllOf (KnownStems w v) q.known
+      → BringsWell v w head step → ((m : Message Name) → IsTaken step m → StemsOrReacts w v m) → ((u : ℕ) → step ≡ Notices u → (k : ℕ) × IsAmong (NoticedAt k v u) head) → WorldStems w → Reached WorldStems (world.within v w head n (does (names script v) step) (Some q))
   unfolding world.within world.readied
-  within_stems v w head n step s q at same none ms ks brought takes h = let p : Past = past_of w v step in
-      put_back_stems v w head n s (world.readied w q) step _ at same none brought takes ((step_brings v (HasLine w v) (Stems w v) (IsReaction w v) step).after (world.readied w q) (
+  within_stems v w head n step s q at same none ms ks brought takes heard h = let p : Past = past_of w v step in
+      put_back_stems v w head n s (world.readied w q) step _ at (same.0, same.1, same.2) none brought takes heard ((step_brings v (HasLine w v) (Stems w v) (IsReaction w v) (cut_by w v step) step (λ u e. inr e)).after (world.readied w q) (
         all_map (StemsOrReacts w v) (QueuedFine p (world.readied w q)) (was_queued p (world.readied w q)) q.queue ms,
         all_map (KnownStems w v) (KnownFine p (world.readied w q)) (λ k i. (
           all_map (Stems w v) (Fine p (world.readied w q)) (λ m j. (m.target, itself, inr (inr j))) k.held i.0,
@@ -311,6 +369,7 @@ module _ (script : Script) where
         )) q.known ks,
         tt,
         tt,
+        λ u i. inl (h.noticed v s at u (subst (λ ws. is_in u ws ≡ true) same.3 i)),
       )) h
 
   idle_stems : (k : ℕ) (w : World) → WorldStems w → Reached WorldStems (world.idle script k w)
@@ -320,8 +379,8 @@ module _ (script : Script) where
   turn_queue_stems : (k v : ℕ) (w : World) (s : Vat Name) (ms : List (Message Name)) → slice_get w.vats v ≡ Some s → AllOf (StemsOrReacts w v) ms → WorldStems w → Reached WorldStems (world.turn_queue script k v w s ms)
   unfolding world.turn_queue does
   turn_queue_stems k v w s [] at e h = idle_stems k w h
-  turn_queue_stems k v w s (m ∷ ms) at e h = within_stems v w (Turned k v ∷ []) (world.step_number script k) (Takes (world.tree_at script.vats v) script.depth m) s (record s { queue = ms }) at refl (one_line (Turned k v) (λ u f i. cc)) e.1 (h.names v s at)
-      (λ x t g b f n c. absurd c) (λ n i. subst (λ z. StemsOrReacts w v z) (sym i) e.0) h
+  turn_queue_stems k v w s (m ∷ ms) at e h = within_stems v w (Turned k v ∷ []) (world.step_number script k) (Takes (world.tree_at script.vats v) script.depth m) s (record s { queue = ms }) at (refl, refl, refl, refl) (one_line (Turned k v) (λ u f i. cc)) e.1 (h.names v s at)
+      (λ x t g b f n c. absurd c) (λ n i. subst (λ z. StemsOrReacts w v z) (sym i) e.0) (λ u i. cc) h
 
   turn_stems : (k v : ℕ) (w : World) (o : Option (Vat Name)) → slice_get w.vats v ≡ o → WorldStems w → Reached WorldStems (world.turn script k v w o)
   unfolding world.turn
@@ -331,13 +390,13 @@ module _ (script : Script) where
   arrives_stems : (k v to : ℕ) (w : World) (n : Note Name) (o : Option (Vat Name)) → slice_get w.vats to ≡ o → NoteStems w v n → WorldStems w → Reached WorldStems (world.arrives script k v to w n o)
   unfolding world.arrives does
   arrives_stems k v to w n None e g h = idle_stems k w h
-  arrives_stems k v to w n (Some s) e g h = within_stems to w (Carried k v to n (world.next_frame v to w.connections) ∷ []) (world.step_number script k) (Receives v (read_note (names_of s) n)) s s e refl (one_line (Carried k v to n (world.next_frame v to w.connections)) (λ u f i. cc)) (h.queues to s e) (h.names to s e)
-      (arrives_well to v k w (world.next_frame v to w.connections) (names_of s) n g) (λ m i. absurd i) h
+  arrives_stems k v to w n (Some s) e g h = within_stems to w (Carried k v to n (world.next_frame v to w.connections) ∷ []) (world.step_number script k) (Receives v (read_note (names_of s) n)) s s e (refl, refl, refl, refl) (one_line (Carried k v to n (world.next_frame v to w.connections)) (λ u f i. cc)) (h.queues to s e) (h.names to s e)
+      (arrives_well to v k w (world.next_frame v to w.connections) (names_of s) n g) (λ m i. absurd i) (λ u i. cc) h
 
   -- the notes of a link go on without the first
   pub less_grows : (v to : ℕ) (w : World) (ns : List (Note Name)) → Grows w (record w { links = world.with_link (world.with_notes ns) v to w.links })
   unfolding world.with_notes
-  less_grows v to w ns = (λ e h. h, λ u k vs h. h, λ u a i n o. opened_with (world.with_notes ns) (λ l. (refl, refl, λ m j. j)) v to w.links u a i n o)
+  less_grows v to w ns = (λ e h. h, λ u k vs h. h, λ u a i n o. (opened_with (world.with_notes ns) (λ l. (refl, refl, λ m j. j)) v to w.links u a i n o.0, o.1), λ u n h. h)
 
   less : (v to : ℕ) (w : World) (ns : List (Note Name)) → AllOf (NoteStems w v) ns → WorldStems w → WorldStems (record w { links = world.with_link (world.with_notes ns) v to w.links })
   unfolding world.with_notes
@@ -348,6 +407,7 @@ module _ (script : Script) where
         (λ l e j. subst (λ u. AllOf (NoteStems x u) ns) (sym (link_from v to l e)) (all_map (NoteStems w v) (NoteStems x v) (note_grow w x grows v) ns g))
         (all_map (LinkStems w) (LinkStems x) (link_grow w x grows) w.links h.links);
     taken = λ u a m i. queued_grow w x grows u m (h.taken u a m i);
+    noticed = h.noticed;
   }
 
   carry_notes_stems : (k v to : ℕ) (w : World) (ns : List (Note Name)) → AllOf (NoteStems w v) ns → WorldStems w → Reached WorldStems (world.carry_notes script k v to w ns)
@@ -377,12 +437,12 @@ module _ (script : Script) where
   notice_stems : (k v to : ℕ) (w : World) (o : Option (Vat Name)) → slice_get w.vats v ≡ o → WorldStems w → Reached WorldStems (world.within v w (NoticedAt k v to ∷ []) (world.step_number script k) (notice (names script v) to) o)
   unfolding does world.within
   notice_stems k v to w None e h = h
-  notice_stems k v to w (Some s) e h = within_stems v w (NoticedAt k v to ∷ []) (world.step_number script k) (Notices to) s s e refl (one_line (NoticedAt k v to) (λ u f i. cc)) (h.queues v s e) (h.names v s e) (λ x t g b f n c. absurd c) (λ m i. absurd i) h
+  notice_stems k v to w (Some s) e h = within_stems v w (NoticedAt k v to ∷ []) (world.step_number script k) (Notices to) s s e (refl, refl, refl, refl) (one_line (NoticedAt k v to) (λ u f i. cc)) (h.queues v s e) (h.names v s e) (λ x t g b f n c. absurd c) (λ m i. absurd i) (λ u i. (k, inl (ap (NoticedAt k v) (sym (notice_is u to i))))) h
 
   open_stems : (v : ℕ) (p : Program) (w : World) (o : Option (Vat Name)) → slice_get w.vats v ≡ o → WorldStems w → Reached WorldStems (world.within v w (Opens v ∷ []) v (opening (names script v) p.tree script.depth (Root v) (world.given script.vats p.knows)) o)
   unfolding does world.within
   open_stems v p w None e h = h
-  open_stems v p w (Some s) e h = within_stems v w (Opens v ∷ []) v (Starts p.tree script.depth (Root v) (world.given script.vats p.knows)) s s e refl (one_line (Opens v) (λ u f i. cc)) (h.queues v s e) (h.names v s e) (λ x t g b f n c. absurd c) (λ m i. absurd i) h
+  open_stems v p w (Some s) e h = within_stems v w (Opens v ∷ []) v (Starts p.tree script.depth (Root v) (world.given script.vats p.knows)) s s e (refl, refl, refl, refl) (one_line (Opens v) (λ u f i. cc)) (h.queues v s e) (h.names v s e) (λ x t g b f n c. absurd c) (λ m i. absurd i) (λ u i. cc) h
 
   step_stems : (entry : Entry) (k : ℕ) (w : World) → WorldStems w → Reached WorldStems (world.step script entry k w)
   unfolding world.step
@@ -437,6 +497,17 @@ unfolding world.links_from
 links_from_stem x all v [] = tt
 links_from_stem x all v (p ∷ ps) = all_join (LinkStems x) (world.links_to v zero all) (world.links_from all (suc v) ps) (links_to_stem x v zero all) (links_from_stem x all (suc v) ps)
 
+never : (u : ℕ) (ws : List ℕ) → ws ≡ [] → is_in u ws ≡ true → ⊥
+unfolding is_in
+never u [] e i = cc
+never u (w ∷ ws) e i = cc
+
+fresh_notices : (script : Script) (v : ℕ) (ps : List Program) (i : ℕ) (s : Vat Name) → slice_get (world.fresh_from script v ps) i ≡ Some s → s.noticed ≡ []
+unfolding world.fresh_from world.fresh
+fresh_notices script v [] i s e = cc
+fresh_notices script v (p ∷ ps) zero s e = ap (λ (z : Vat Name). z.noticed) (some_vat s (world.fresh script v p) (sym e))
+fresh_notices script v (p ∷ ps) (suc i) s e = fresh_notices script (suc v) ps i s e
+
 begins_stems : (script : Script) → WorldStems (begins script)
 unfolding begins
 begins_stems script = record {
@@ -444,6 +515,7 @@ begins_stems script = record {
   names = λ v s e. (fresh_stems script (begins script) v zero script.vats v s e).1;
   links = links_from_stem (begins script) script.vats zero script.vats;
   taken = λ v a m i. absurd i;
+  noticed = λ v s e u i. absurd (never u s.noticed (fresh_notices script zero script.vats v s e) i);
 }
 
 goes_stems : (r : Run) (w : World) → r ≡ Goes w → Reached WorldStems r → WorldStems w

@@ -52,7 +52,7 @@ module _ {N W : Type 0} (K : Naming N W) where
   learnt : (from c i : ℕ) (x : Incoming N W) (s : Vat N) → s.happened ≡ [] → s.outbox ≡ [] → After (λ r t. Well from c i x s t) s (arrive.arrive_shorten K x i s)
   unfolding arrive.arrive_shorten arrive.learn_name ◌>>=◌ look and_then give come
   learnt from c i (Old p) s e o = shortened from c i (Old p) s p refl s (first_causes K (Receives from (Shorten (Old p) c i)) s e) o _ refl
-  learnt from c i (New y h) s e o = let g = comes K (Began from c i (New y h) s) (IsLearnt y) h s (first_causes K (Receives from (Shorten (New y h) c i)) s e) in
+  learnt from c i (New y h) s e o = let g = comes K (Began from c i (New y h) s) (IsLearnt y) h refl s (first_causes K (Receives from (Shorten (New y h) c i)) s e) in
       shortened from c i (New y h) s _ g.2 _ g.1 o _ refl
 
   pub steps_shorten : StepsShorten K

@@ -1,13 +1,14 @@
 -- What each single change brings.
-use Rattle.std.proofs.Common.{◌≡◌, ℕ, zero, suc, Bool, true, false, List, [], ◌∷◌, ◌++◌, Option, Some, None, length, refl, sym, subst, inl, inr}
+use Rattle.std.proofs.Common.{◌≡◌, ℕ, zero, suc, Bool, true, false, List, [], ◌∷◌, ◌++◌, Option, Some, None, length, refl, sym, ap, ◌∙◌, subst, inl, inr, ◌==◌, eqb-true}
 use Rattle.std.specs.Prelude.{slice_get, nat_le}
-use Rattle.def_machine.specs.Values.{Words, Value, Name, Coming, Mailing, naming, same_reference}
-use Rattle.def_machine.specs.State.{Thing, Bound, Message, Standing, Settled, Known, Note, Open, Ask, Shorten, Put, Happened, Called, Back, Thrown, Left, Got, SlotMade, SlotRead, SlotWrote, ListMade, ListCame, EjectorMade, AuditionMade, PromiseMade, ObjectMade, Sends, Reacts, Finished, Threw, Settles, Waits, Views, Lost, Posted, Vat, tell, spend, spent, new_activation, new_thing, kill, new_slot, write_slot, new_list, enqueue, Change, Hold, Wait, WaitOn, See, React, ToTell, Settle, send_out, new_gift, open_gift, mark, draws, unless_settled, changed_to, changed, with_change, begun, alter, come, mail, new_promise, new_message, draw, new_lone_message}
+use Rattle.def_machine.specs.Values.{Words, Value, Name, Coming, IsOwn, IsAnswer, Mailing, IsSent, naming, name_of, mail_of, same_reference}
+use Rattle.def_machine.specs.State.{Thing, Bound, Message, Standing, Settled, Known, Note, Open, Ask, Shorten, Put, Happened, Called, Back, Thrown, Left, Got, SlotMade, SlotRead, SlotWrote, ListMade, ListCame, EjectorMade, AuditionMade, PromiseMade, ObjectMade, Sends, Reacts, Finished, Threw, Settles, Waits, Views, Lost, Posted, Vat, tell, spend, spent, new_activation, new_thing, kill, new_slot, write_slot, new_list, enqueue, Change, Hold, Wait, WaitOn, See, React, ToTell, Settle, send_out, new_gift, open_gift, mark, draws, unless_settled, changed_to, changed, with_change, begun, alter, come, mail, new_promise, new_message, draw, new_lone_message, is_in}
 use Rattle.law_uses.specs.Connectivity.Known.{IsAmong, AllOf}
 use Rattle.law_uses.proofs.Connectivity.Knowing.{among_more}
 use Rattle.law_fate.proofs.Name.SameNames.{reference_is}
-use Rattle.law_uses.proofs.Connectivity.Passing.{all_end}
-use Rattle.law_uses.proofs.Connectivity.Moments.{Past, Line, Later, later_same, TookFine, Fine, ReactionFine, QueuedFine, NoteFine, KnownFine, Good, good_later, Ends, Any, Brings, Does, brings_bind, brings_then, brings_ending, brings_some, brings_if, brings_give, brings_throw, brings_eject, brings_stop, brings_look, brings_each}
+use Rattle.law_uses.proofs.Connectivity.Passing.{all_end, all_map}
+use Rattle.law_uses.specs.Connectivity.Stems.{HostIn}
+use Rattle.law_uses.proofs.Connectivity.Moments.{Past, Line, Later, later_same, TookFine, Fine, ReactionFine, QueuedFine, NoteFine, KnownFine, known_later, FineIn, Good, good_later, Ends, Any, Brings, Does, brings_bind, brings_then, brings_ending, brings_some, brings_if, brings_give, brings_throw, brings_eject, brings_stop, brings_look, brings_each}
 
 pub among_last : {A : Type 0} (xs : List A) (x : A) → IsAmong x (xs ++ x ∷ [])
 among_last [] x = inl refl
@@ -24,10 +25,10 @@ slice_last (z ∷ xs) x = slice_last xs x
 
 module _ (past : Past) where
   later_line : (s : Vat Name) (e : Happened Name) → Later s (record s { happened = s.happened ++ e ∷ [] })
-  later_line s e = (λ x i. among_more x s.happened (e ∷ []) i, λ k vs h. h, λ q h. h)
+  later_line s e = (λ x i. among_more x s.happened (e ∷ []) i, λ k vs h. h, λ q h. h, refl, λ n u h. h)
 
   good_line : (s : Vat Name) (e : Happened Name) → TookFine past.step e → Good past s → Good past (record s { happened = s.happened ++ e ∷ [] })
-  good_line s e f g = let h = good_later past s (record s { happened = s.happened ++ e ∷ [] }) s (later_line s e) g in (h.0, h.1, h.2, all_end (TookFine past.step) s.happened e h.3 f)
+  good_line s e f g = let h = good_later past s (record s { happened = s.happened ++ e ∷ [] }) s (later_line s e) g in (h.0, h.1, h.2, all_end (TookFine past.step) s.happened e h.3 f, h.4)
 
   pub brings_tell : (e : Happened Name) → TookFine past.step e → Brings past (tell e)
   unfolding tell
@@ -136,7 +137,7 @@ module _ (past : Past) where
   brings_write n v = record { after = λ s g. (later_same s, g, tt) }
 
   later_list : (s : Vat Name) (vs : List (Value Name)) → Later s (record s { lists = s.lists ++ vs ∷ [] })
-  later_list s vs = (λ x i. i, λ k ws h. slice_more s.lists (vs ∷ []) k ws h, λ q h. h)
+  later_list s vs = (λ x i. i, λ k ws h. slice_more s.lists (vs ∷ []) k ws h, λ q h. h, refl, λ n u h. h)
 
   pub brings_list : (vs : List (Value Name)) → Brings past (new_list vs)
   unfolding new_list
@@ -148,14 +149,14 @@ module _ (past : Past) where
 
   pub does_enqueue : (m : Message Name) → Does past (λ s. QueuedFine past s m) (Any past) (enqueue m)
   unfolding enqueue
-  does_enqueue m = record { after = λ s i g. (later_same s, (all_end (QueuedFine past s) s.queue m g.0 i, g.1, g.2, g.3), tt) }
+  does_enqueue m = record { after = λ s i g. (later_same s, (all_end (QueuedFine past s) s.queue m g.0 i, g.1, g.2, g.3, g.4), tt) }
 
   later_out : (s : Vat Name) (q : Put Name) → Later s (record s { outbox = s.outbox ++ q ∷ [] })
-  later_out s q = (λ x i. i, λ k vs h. h, λ r h. among_more r s.outbox (q ∷ []) h)
+  later_out s q = (λ x i. i, λ k vs h. h, λ r h. among_more r s.outbox (q ∷ []) h, refl, λ n u h. h)
 
   good_out : (s : Vat Name) (q : Put Name) → NoteFine past (record s { outbox = s.outbox ++ q ∷ [] }) q.note → Good past s → Good past (record s { outbox = s.outbox ++ q ∷ [] })
   good_out s q f g = let h = good_later past s (record s { outbox = s.outbox ++ q ∷ [] }) s (later_out s q) g in
-      (h.0, h.1, all_end (λ (r : Put Name). NoteFine past (record s { outbox = s.outbox ++ q ∷ [] }) r.note) s.outbox q h.2 f, h.3)
+      (h.0, h.1, all_end (λ (r : Put Name). NoteFine past (record s { outbox = s.outbox ++ q ∷ [] }) r.note) s.outbox q h.2 f, h.3, h.4)
 
   -- what stays fine when the note itself is put
   pub does_out : (to : ℕ) (n : Note Name) → ((s t : Vat Name) → Later s t → NoteFine past s n → NoteFine past t n) → Does past (λ s. NoteFine past s n) (λ a t. IsAmong (record { to = to; note = n }) t.outbox) (send_out to n)
@@ -185,9 +186,29 @@ module _ (past : Past) where
   unfolding open_gift
   brings_open q i = record { after = λ s g. (later_same s, g, tt) }
 
-  pub brings_mark : (w : ℕ) → Brings past (mark w)
+  marked : (w : ℕ) (ws : List ℕ) → past.cut w → ((u : ℕ) → is_in u ws ≡ true → past.cut u) → (u : ℕ) → is_in u (ws ++ w ∷ []) ≡ true → past.cut u
+  unfolding is_in
+  marked w [] c f u e = either (u == w) refl e
+    where
+      either : (b : Bool) → (u == w) ≡ b → elim b [ true ↦ true | false ↦ false ] ≡ true → past.cut u
+      either true i j = subst past.cut (sym (eqb-true u w i)) c
+      either false i j = cc
+  marked w (x ∷ ws) c f u e = either (u == x) refl e (λ j. marked w ws c (λ n i. f n (behind n x ws i)) u j)
+    where
+      behind : (n y : ℕ) (ys : List ℕ) → is_in n ys ≡ true → elim (n == y) [ true ↦ true | false ↦ is_in n ys ] ≡ true
+      behind n y ys i = at (n == y)
+        where
+          at : (b : Bool) → elim b [ true ↦ true | false ↦ is_in n ys ] ≡ true
+          at true = refl
+          at false = i
+
+      either : (b : Bool) → (u == x) ≡ b → elim b [ true ↦ true | false ↦ is_in u (ws ++ w ∷ []) ] ≡ true → (is_in u (ws ++ w ∷ []) ≡ true → past.cut u) → past.cut u
+      either true i j k = f u (subst (λ b. elim b [ true ↦ true | false ↦ is_in u ws ] ≡ true) (sym i) refl)
+      either false i j k = k j
+
+  pub brings_mark : (w : ℕ) → past.cut w → Brings past (mark w)
   unfolding mark
-  brings_mark w = record { after = λ s g. (later_same s, g, tt) }
+  brings_mark w c = record { after = λ s g. (later_same s, (g.0, g.1, g.2, g.3, marked w s.noticed c g.4), tt) }
 
   pub draws_after : (s : Vat Name) (w : ℕ) (o : Option ℕ) → Good past s → Ends past s (Any past) (draws w o s)
   unfolding draws
@@ -232,13 +253,49 @@ module _ (word : ℕ → ℕ) (v : ℕ) (past : Past) where
       either true f r = (changed_fine past s k c (f refl) h.0, h.1)
       either false f r = (h.0, r)
 
+  -- what was fine by s, and the change, are fine by what is later
+  with_change_later : (s t : Vat Name) → Later s t → (c : Change Name) (n : Name) (ks : List (Known Name)) → ChangeFine past s n c → AllOf (KnownFine past s) ks → AllOf (KnownFine past t) (with_change (naming word v) c n ks)
+  with_change_later s t l c n ks i h = all_map (KnownFine past s) (KnownFine past t) (known_later past s t l) (with_change (naming word v) c n ks) (with_change_fine s c n ks i h)
+
+  host_kept : (c : Change Name) (k : Known Name) → ((changed c k).name ≡ k.name) × ((changed c k).host ≡ k.host)
+  unfolding changed changed_to unless_settled
+  host_kept c k = by_standing k.standing c
+    where
+      to_change : (c : Change Name) → ((changed_to c k).name ≡ k.name) × ((changed_to c k).host ≡ k.host)
+      to_change (Hold m) = (refl, refl)
+      to_change other = (refl, refl)
+
+      by_standing : (x : Standing Name) (c : Change Name) → ((unless_settled x k (changed_to c k)).name ≡ k.name) × ((unless_settled x k (changed_to c k)).host ≡ k.host)
+      by_standing (Settled y) c = (refl, refl)
+      by_standing other c = to_change c
+
+  hosts_change : (c : Change Name) (p : Name) (ks : List (Known Name)) (n : Name) (u : ℕ) → HostIn ks n u → HostIn (with_change (naming word v) c p ks) n u
+  unfolding with_change naming
+  hosts_change c p [] n u h = h
+  hosts_change c p (k ∷ ks) n u h = either (same_reference k.name p) (λ i. hosts_change c p ks n u i) h
+    where
+      either : (b : Bool) → (HostIn ks n u → HostIn (with_change (naming word v) c p ks) n u) → HostIn (k ∷ ks) n u → HostIn (elim b [ true ↦ changed c k ∷ ks | false ↦ k ∷ with_change (naming word v) c p ks ]) n u
+      either true f (j, inl e, a, b) = let q = host_kept c k in (changed c k, inl refl, q.0 ∙ ap (λ (z : Known Name). z.name) (sym e) ∙ a, q.1 ∙ ap (λ (z : Known Name). z.host) (sym e) ∙ b)
+      either true f (j, inr m, a, b) = (j, inr m, a, b)
+      either false f (j, inl e, a, b) = (j, inl e, a, b)
+      either false f (j, inr m, a, b) = let q = f (j, m, a, b) in (q.0, inr q.1, q.2, q.3)
+
+  later_change : (s : Vat Name) (c : Change Name) (p : Name) → Later s (record s { known = with_change (naming word v) c p s.known })
+  later_change s c p = (λ e h. h, λ k vs h. h, λ q h. h, refl, λ n u h. hosts_change c p s.known n u h)
+
+  more_hosts : (k : Known Name) (ks : List (Known Name)) (n : Name) (u : ℕ) → HostIn ks n u → HostIn (ks ++ k ∷ []) n u
+  more_hosts k ks n u h = (h.0, among_more h.0 ks (k ∷ []) h.1, h.2, h.3)
+
   pub does_alter : (c : Change Name) (n : Name) → Does past (λ s. ChangeFine past s n c) (Any past) (alter (naming word v) c n)
   unfolding alter
-  does_alter c n = record { after = λ s i g. (later_same s, (g.0, with_change_fine s c n s.known i g.1, g.2, g.3), tt) }
+  does_alter c n = record {
+    after = λ s i g. let h = good_later past s (record s { known = with_change (naming word v) c n s.known }) s (later_change s c n) g in let t : Vat Name = record s { known = with_change (naming word v) c n s.known } in
+        (later_change s c n, (h.0, with_change_later s t (later_change s c n) c n s.known i g.1, h.2, h.3, h.4), tt);
+  }
 
   alters : (c : Change Name) (n : Name) → ((s : Vat Name) → ChangeFine past s n c) → Brings past (alter (naming word v) c n)
   unfolding alter
-  alters c n f = record { after = λ s g. (later_same s, (g.0, with_change_fine s c n s.known (f s) g.1, g.2, g.3), tt) }
+  alters c n f = record { after = λ s g. (does_alter c n).after s (f s) g }
 
   pub alters_wait : (q n : Name) → Brings past (alter (naming word v) (Wait q) n)
   alters_wait q n = alters (Wait q) n (λ s. tt)
@@ -253,21 +310,41 @@ module _ (word : ℕ → ℕ) (v : ℕ) (past : Past) where
   unfolding begun
   begun_fine s n h = (tt, tt, tt)
 
+  later_known : (s t : Vat Name) (n : Name) (w : ℕ) → t.known ≡ s.known ++ begun n w ∷ [] → t.lists ≡ s.lists → t.outbox ≡ s.outbox → t.happened ≡ s.happened → t.number ≡ s.number → Later s t
+  later_known s t n w e l o p m = (λ x h. subst (λ es. IsAmong x es) (sym p) h, λ k vs h. ap (λ ls. slice_get ls k) l ∙ h, λ q h. subst (λ ps. IsAmong q ps) (sym o) h, m, λ x u h. subst (λ ks. HostIn ks x u) (sym e) (more_hosts (begun n w) s.known x u h))
+
+  -- a name that comes to be known
+  knows_one : (s t : Vat Name) (n : Name) (w : ℕ) → t.known ≡ s.known ++ begun n w ∷ [] → t.lists ≡ s.lists → t.outbox ≡ s.outbox → t.happened ≡ s.happened → t.number ≡ s.number → t.queue ≡ s.queue → t.noticed ≡ s.noticed → Good past s → Later s t × Good past t
+  unfolding begun
+  knows_one s t n w e l o p m q d g = let late = later_known s t n w e l o p m in let h = good_later past s t s late g in (
+    late,
+    (
+      subst (λ ms. AllOf (QueuedFine past t) ms) (sym q) h.0,
+      subst (λ ks. AllOf (KnownFine past t) ks) (sym e) (all_end (KnownFine past t) s.known (begun n w) h.1 (begun_fine t n w)),
+      subst (λ ps. AllOf (λ (x : Put Name). NoteFine past t x.note) ps) (sym o) h.2,
+      subst (λ es. AllOf (TookFine past.step) es) (sym p) h.3,
+      λ u i. h.4 u (subst (λ ws. is_in u ws ≡ true) d i),
+    ),
+  )
+
   pub brings_come : (c : Coming Name Name) (w : ℕ) → Brings past (come (naming word v) c w)
-  unfolding come
-  brings_come c w = record { after = λ s g. (later_same s, (g.0, all_end (KnownFine past s) s.known _ g.1 (begun_fine s _ w), g.2, g.3), tt) }
+  unfolding come naming
+  brings_come c w = record { after = λ s g. let t : Vat Name = record s { known = s.known ++ begun (name_of v c) w ∷ [] } in let k = knows_one s t (name_of v c) w refl refl refl refl refl refl refl g in (k.0, k.1, tt) }
 
   pub brings_mail : (c : Mailing Name) → Brings past (mail (naming word v) c)
   unfolding mail
   brings_mail c = record { after = λ s g. (later_same s, g, tt) }
 
   pub brings_promise : Brings past (new_promise (naming word v))
-  unfolding new_promise
-  brings_promise = record { after = λ s g. (later_same s, (g.0, all_end (KnownFine past s) s.known _ g.1 (begun_fine s _ _), g.2, g.3), tt) }
+  unfolding new_promise naming
+  brings_promise = record { after = λ s g. let n : Name = name_of v (IsOwn s.promises) in let t : Vat Name = record s { promises = suc s.promises; known = s.known ++ begun n s.number ∷ [] } in let k = knows_one s t n s.number refl refl refl refl refl refl refl g in (k.0, k.1, tt) }
 
   pub brings_message : (w : ℕ) → Brings past (new_message (naming word v) w)
-  unfolding new_message
-  brings_message w = record { after = λ s g. (later_same s, (g.0, all_end (KnownFine past s) s.known _ g.1 (begun_fine s _ w), g.2, g.3), tt) }
+  unfolding new_message naming
+  brings_message w = record {
+    after = λ s g. let id : Name = mail_of v (IsSent s.messages) in let n : Name = name_of v (IsAnswer w id) in let t : Vat Name = record s { messages = suc s.messages; mails = s.mails ++ id ∷ []; known = s.known ++ begun n w ∷ [] } in
+        let k = knows_one s t n w refl refl refl refl refl refl refl g in (k.0, k.1, tt);
+  }
 
   pub brings_lone_message : Brings past (new_lone_message (naming word v))
   unfolding new_lone_message
@@ -277,4 +354,4 @@ module _ (word : ℕ → ℕ) (v : ℕ) (past : Past) where
   unfolding draw
   brings_draw = record { after = λ s g. draws_after past s _ _ g }
 
-pub ruleset brings = (brings_bind, brings_then, brings_ending, brings_some, brings_if, brings_give, brings_throw, brings_eject, brings_stop, brings_look, tells_got, tells_back, tells_thrown, tells_left, tells_called, tells_slot_made, tells_slot_read, tells_slot_wrote, tells_list_made, tells_list_came, tells_ejector_made, tells_audition_made, tells_promise_made, tells_object_made, tells_sends, tells_reacts, tells_finished, tells_threw, tells_settles, tells_waits, tells_views, tells_lost, tells_posted, brings_activation, brings_spend, brings_thing, brings_kill, brings_slot, brings_write, brings_list, brings_ask, brings_opens, brings_shorten, brings_gift, brings_open, brings_mark, brings_each, alters_wait, alters_wait_on, alters_tell, brings_come, brings_mail, brings_promise, brings_message, brings_lone_message, brings_draw)
+pub ruleset brings = (brings_bind, brings_then, brings_ending, brings_some, brings_if, brings_give, brings_throw, brings_eject, brings_stop, brings_look, tells_got, tells_back, tells_thrown, tells_left, tells_called, tells_slot_made, tells_slot_read, tells_slot_wrote, tells_list_made, tells_list_came, tells_ejector_made, tells_audition_made, tells_promise_made, tells_object_made, tells_sends, tells_reacts, tells_finished, tells_threw, tells_settles, tells_waits, tells_views, tells_lost, tells_posted, brings_activation, brings_spend, brings_thing, brings_kill, brings_slot, brings_write, brings_list, brings_ask, brings_opens, brings_shorten, brings_gift, brings_open, brings_each, alters_wait, alters_wait_on, alters_tell, brings_come, brings_mail, brings_promise, brings_message, brings_lone_message, brings_draw)

@@ -61,11 +61,11 @@ module _ {script : Script} {w : World} {v : ℕ} {e : Happened Name} (l : LineOf
 
     follows_broken : (so : List (Happened Name)) (x z : Value Name) → IsBroken x → Follows K E so x z → IsBroken z
     follows_broken so x z b (inl r) = (b.0, from_broken so x z b.0 b.1 r)
-    follows_broken so x z b (inr r) = (_, r.2)
+    follows_broken so x z b (inr r) = (_, r.1)
 
-    becomes_broken : (so : List (Happened Name)) (x y : Value Name) → IsBroken x → Becomes K E so x y → IsBroken y
-    becomes_broken so x y b (inl f) = follows_broken so x y b f
-    becomes_broken so x y b (inr f) = (_, f.3)
+    becomes_broken : (so : List (Happened Name)) (p : Name) (x y : Value Name) → IsBroken x → Becomes K E so p x y → IsBroken y
+    becomes_broken so p x y b (inl f) = follows_broken so x y b f
+    becomes_broken so p x y b (inr f) = (_, f.3)
 
     -- ---- the lines of a turn
 
@@ -121,7 +121,7 @@ module _ {script : Script} {w : World} {v : ℕ} {e : Happened Name} (l : LineOf
       given_broken p x b (settlings.lost {t = t} i y h j f) = (t, refl)
 
       settles_broken : (p : Name) (y : Value Name) → Bad p → SettlesWell K E so p y → IsBroken y
-      settles_broken p y b (inl (x, g, c)) = becomes_broken so x y (given_broken p x b g) c
+      settles_broken p y b (inl (x, g, c)) = becomes_broken so p x y (given_broken p x b g) c
       settles_broken p y b (inr (u, n, o, q)) = (_, q)
 
       answer_own : (p i : Name) (x : Value Name) → Bad p → HasAnswer K E so i p x → ⊥

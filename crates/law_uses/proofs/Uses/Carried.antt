@@ -117,8 +117,8 @@ module _ (draws : List ℕ) (es : List Event) (v : ℕ) (Starts : Thing → Type
     list_covered k vs (inl h) c y i = members_covered k vs h c y i
     list_covered k vs (inr e) c y i = absurd (subst (λ us. IsAmong y us) e i)
 
-    module _ (line : Happened Name → Type 0) (shows : (e : Happened Name) → line e → IsAmong (Here v e) es) (opened : ℕ → ℕ → Name → Type 0) where
-      plain_passes : (x y : Value Name) → PassesAs line list opened x (Plain y) → Covered x → (n : ShownName) → IsAmong (AName n) (things_of (show.shown_value draws 0 y)) → May n
+    module _ (line : Happened Name → Type 0) (shows : (e : Happened Name) → line e → IsAmong (Here v e) es) (opened : ℕ → ℕ → Name → Type 0) (gone : Name → Type 0) where
+      plain_passes : (x y : Value Name) → PassesAs line list opened gone x (Plain y) → Covered x → (n : ShownName) → IsAmong (AName n) (things_of (show.shown_value draws 0 y)) → May n
       unfolding show.shown_value things_of
       plain_passes x (Ref m) h c n i = named (show.shown_name draws m) n (AName (show.shown_name draws m) ∷ []) refl (name_covered m (leads_covered line shows x (Ref m) h c)) i
       plain_passes x (Items j) h c n i = absurd h
@@ -127,12 +127,12 @@ module _ (draws : List ℕ) (es : List Event) (v : ℕ) (Starts : Thing → Type
       mutual
         unfolding show.shown_all
 
-        passes_may : (x : Value Name) (y : Passed Name) → PassesAs line list opened x y → Covered x → (n : ShownName) → IsAmong (AName n) (parts (show.shown_passed draws y)) → May n
+        passes_may : (x : Value Name) (y : Passed Name) → PassesAs line list opened gone x y → Covered x → (n : ShownName) → IsAmong (AName n) (parts (show.shown_passed draws y)) → May n
         passes_may x (Plain y) h c n i = plain_passes x y h c n (subst (λ ts. IsAmong (AName n) ts) (plain_parts draws y) i)
         passes_may x (AGift w j) h c n i = inl (gift_is w j n (subst (λ ts. IsAmong (AName n) ts) (gift_parts draws w j v) i))
         passes_may x (Many ys) h c n i = all_pass h.1 ys h.4 (list_covered h.0 h.1 h.3 (leads_covered line shows x (Items h.0) h.2 c)) n (subst (λ ts. IsAmong (AName n) ts) (many_parts draws ys) i)
 
-        pub all_pass : (xs : List (Value Name)) (ys : Passeds Name) → PassAll line list opened xs ys → ((x : Value Name) → IsAmong x xs → Covered x) → (n : ShownName) → IsAmong (AName n) (all_parts (show.shown_all draws ys)) → May n
+        pub all_pass : (xs : List (Value Name)) (ys : Passeds Name) → PassAll line list opened gone xs ys → ((x : Value Name) → IsAmong x xs → Covered x) → (n : ShownName) → IsAmong (AName n) (all_parts (show.shown_all draws ys)) → May n
         all_pass [] NoMore h c n i = absurd i
         all_pass (x ∷ xs) (More y ys) h c n i = either (among_either (AName n) (parts (show.shown_passed draws y)) (all_parts (show.shown_all draws ys)) i) (passes_may x y h.0 (c x (inl refl)) n) (all_pass xs ys h.1 (λ z j. c z (inr j)) n)
           where

@@ -31,14 +31,14 @@ abbrev mutual
   NoLists NoMore = Unit {0}
   NoLists (More y ys) = NoList y × NoLists ys
 
-module _ (line : Happened Name → Type 0) (list : ℕ → List (Value Name) → Type 0) (opened : ℕ → ℕ → Name → Type 0) where
+module _ (line : Happened Name → Type 0) (list : ℕ → List (Value Name) → Type 0) (opened : ℕ → ℕ → Name → Type 0) (gone : Name → Type 0) where
   mutual
-    passes_no_list : (x : Value Name) (y : Passed Name) → PassesAs line list opened x y → NoList y
+    passes_no_list : (x : Value Name) (y : Passed Name) → PassesAs line list opened gone x y → NoList y
     passes_no_list x (Plain (Items k)) h = h
     passes_no_list x (Many ys) h = pass_no_lists h.1 ys h.4
     passes_no_list x other h = tt
 
-    pub pass_no_lists : (xs : List (Value Name)) (ys : Passeds Name) → PassAll line list opened xs ys → NoLists ys
+    pub pass_no_lists : (xs : List (Value Name)) (ys : Passeds Name) → PassAll line list opened gone xs ys → NoLists ys
     pass_no_lists [] NoMore h = tt
     pass_no_lists (x ∷ xs) (More y ys) h = (passes_no_list x y h.0, pass_no_lists xs ys h.1)
     pass_no_lists [] (More y ys) h = absurd h

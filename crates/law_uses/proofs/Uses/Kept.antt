@@ -19,7 +19,7 @@ use Rattle.law_uses.specs.Connectivity.Known.{IsAmong, AllOf}
 use Rattle.law_uses.specs.Connectivity.News.{list_made, Adds}
 use Rattle.law_uses.specs.Connectivity.Stems.{LeadsTo, itself, HasLine, HasList, HasOpened, ComeAll}
 use Rattle.law_uses.proofs.Connectivity.Passing.{Kept, kept_all, all_map, all_end, leads_map, leads_on, pass_all_map}
-use Rattle.law_uses.proofs.Connectivity.Moments.{Past, Line, Members, Offers, Came, Fine, ReactionFine, QueuedFine, NoteFine, KnownFine, Good, IsTaken, TookFine, stand_map}
+use Rattle.law_uses.proofs.Connectivity.Moments.{Past, Line, Members, Offers, Came, Fine, ReactionFine, QueuedFine, NoteFine, KnownFine, IsGone, Good, IsTaken, TookFine, stand_map}
 use Rattle.law_uses.proofs.Connectivity.Events.{among_either, events_here, here_event, IsNobodys, all_at}
 use Rattle.law_uses.proofs.Connectivity.FineSteps.{among_left, among_right}
 use Rattle.law_uses.proofs.Connectivity.RunStems.{Grows, push_stems, put_each}
@@ -359,9 +359,9 @@ module _ (draws : List ℕ) (v : ℕ) (w y : World) (e : Event) (s t : Vat Name)
   -- ---- what the step leaves
 
   abbrev pub P : Past
-  P = record { line = HasLine w v; was = λ m. Source draws w v m × Alive w m.id; reacted = λ m. Reacting draws w v m × Alive w m.id; step = step }
+  P = record { line = HasLine w v; was = λ m. Source draws w v m × Alive w m.id; reacted = λ m. Reacting draws w v m × Alive w m.id; step = step; cut = λ u. Unit {0}; home = v }
 
-  module _ (kept : Kept (Line P t) (HasLine y v)) (next_list : (k : ℕ) (vs : List (Value Name)) → Members t k vs → HasList y v k vs) (next_opened : (to i : ℕ) (n : Name) → Offers t to i n → HasOpened y v to i n)
+  module _ (kept : Kept (Line P t) (HasLine y v)) (next_list : (k : ℕ) (vs : List (Value Name)) → Members t k vs → HasList y v k vs) (next_opened : (to i : ℕ) (n : Name) → Offers v t to i n → HasOpened y v to i n)
       (good : Good P t) (brought : (m : Message Name) → Came t step m → Source draws y v m) where
     fine_source : (m : Message Name) → Fine P t m → Source draws y v m
     fine_source m f = source_on m f.0 (leads_map (Line P t) (HasLine y v) kept f.0 m.target f.1) (either f.2)
@@ -388,7 +388,7 @@ module _ (draws : List ℕ) (v : ℕ) (w y : World) (e : Event) (s t : Vat Name)
       fine_source f.0 f.1,
       f.2,
       leads_map (Line P t) (HasLine y v) kept f.0.target (Ref n) f.4,
-      pass_all_map (Line P t) (HasLine y v) kept (Members t) (HasList y v) next_list (Offers t) (HasOpened y v) next_opened f.0.args ys f.5,
+      pass_all_map (Line P t) (HasLine y v) kept (Members t) (HasList y v) next_list (Offers v t) (HasOpened y v) next_opened (IsGone P t) (λ n. Unit {0}) (λ n i. tt) f.0.args ys f.5,
     )
     note_source (Open i n) f = tt
     note_source other f = tt

@@ -87,7 +87,7 @@ module _ (draws : List ℕ) where
             → (is_gift nm ≡ true) ⊎ Reaches (lines draws w.history) (λ t. uses.IsAmong t ts) (λ way. Unit {0}) (AName nm)
         may ts c f (inl q) = inr (subst (Reached draws w.history u (λ t. uses.IsAmong t ts)) q (name_covered draws w.history u (λ t. uses.IsAmong t ts) (HasList w u) told (list_same w u) n
             (leads_covered draws w.history u (λ t. uses.IsAmong t ts) (HasList w u) told (list_same w u) (HasLine w u) shows h.0.target (Ref n) h.3 c)))
-        may ts c f (inr j) = all_pass draws w.history u (λ t. uses.IsAmong t ts) (HasList w u) told (list_same w u) (HasLine w u) shows (HasOpened w u) h.0.args ys h.4 f nm j
+        may ts c f (inr j) = all_pass draws w.history u (λ t. uses.IsAmong t ts) (HasList w u) told (list_same w u) (HasLine w u) shows (HasOpened w u) (λ n. Unit {0}) h.0.args ys h.4 f nm j
 
     delivery_carries : (past : List _) (b : Bool) (i : ShownMsg) (n : ShownName) (verb : Words) (xs : List Shown) → ((nm : ShownName) → uses.IsAmong (AName nm) (AName n ∷ all_parts xs) → (is_gift nm ≡ true) ⊎ Reaches past (λ t. uses.IsAmong t (line_before past i)) (λ way. Unit {0}) (AName nm))
         → CarriesThese past (delivered (show.shown_delivery draws b i n verb xs))

@@ -91,7 +91,7 @@ module _ (draws : List ℕ) (script : Script) where
     R = world.readied w (record s { queue = ms })
 
     abbrev Q : Past
-    Q = record { line = HasLine w v; was = λ m. Source draws w v m × Alive w m.id; reacted = λ m. Reacting draws w v m × Alive w m.id; step = step }
+    Q = record { line = HasLine w v; was = λ m. Source draws w v m × Alive w m.id; reacted = λ m. Reacting draws w v m × Alive w m.id; step = step; cut = λ u. Unit {0}; home = v }
 
     queued_of : (m : Message Name) → Alive w m.id → Queued draws w v m → (Source draws w v m × Alive w m.id) ⊎ (Reacting draws w v m × Alive w m.id)
     queued_of m a (inl q) = inl (q, a)
@@ -110,14 +110,14 @@ module _ (draws : List ℕ) (script : Script) where
 
     begins_good : Good Q R
     unfolding world.readied
-    begins_good = (queue_good ms fewer, known_good, tt, tt)
+    begins_good = (queue_good ms fewer, known_good, tt, tt, λ u i. tt)
 
     abbrev NextOf : Vat Name → World
     NextOf t = record { fuel = t.fuel; drawn = t.drawn; vats = world.put_at v t w.vats; links = world.push_all v t.outbox w.links; connections = world.connections_after v t (e ∷ []) w.connections; history = w.history ++ (e ∷ []) ++ world.events_of w.links v t.happened }
 
     module _ (t : Vat Name) (q : does (names script v) step R ≡ Gives tt t) where
       good_of : Later R t × Good Q t
-      good_of = ends_gives Q R t (does (names script v) step R) ((step_brings script v (HasLine w v) (λ m. Source draws w v m × Alive w m.id) (λ m. Reacting draws w v m × Alive w m.id) step).after R begins_good) q
+      good_of = ends_gives Q R t (does (names script v) step R) ((step_brings script v (HasLine w v) (λ m. Source draws w v m × Alive w m.id) (λ m. Reacting draws w v m × Alive w m.id) (λ u. Unit {0}) step (λ u i. tt)).after R begins_good) q
 
       adds_of : Adds s.lists (map list_made t.happened) t.lists
       unfolding world.readied
@@ -130,14 +130,14 @@ module _ (draws : List ℕ) (script : Script) where
 
       grows_of : Grows w (NextOf t)
       unfolding world.readied
-      grows_of = next_grows v w (e ∷ []) s R t step at refl good_of.0
+      grows_of = next_grows v w (e ∷ []) s R t step at (refl, refl, refl) good_of.0
 
       stands_of : ((x : Name) → Fated x (NextOf t)) → Stands draws (NextOf t)
       unfolding world.readied
       stands_of fated = stands_next draws v w (NextOf t) e s t step at refl refl refl none plain h hand fated grows_of adds_of own
-          (kept_lines v w (e ∷ []) s R t step at refl good_of.0) (next_list v w (e ∷ []) s R t step at refl good_of.0) (next_opened v w (e ∷ []) s R t step at refl good_of.0) good_of.1
+          (kept_lines v w (e ∷ []) s R t step at (refl, refl, refl) good_of.0) (next_list v w (e ∷ []) s R t step at (refl, refl, refl) good_of.0) (next_opened v w (e ∷ []) s R t step at (refl, refl, refl) good_of.0) good_of.1
           (λ m c. let k = comes t m c in came_here draws v w (NextOf t) e s t step at refl refl refl none plain h hand fated grows_of adds_of own k.0 k.1 k.2 k.3 k.4 k.5 k.6 k.7 m k.8
-          (subst (λ z. LeadsTo (HasLine (NextOf t) v) (Ref k.3) z) (sym k.9) itself) (come_all_map (Members t) (HasList (NextOf t) v) (next_list v w (e ∷ []) s R t step at refl good_of.0) k.5 m.args k.10) k.11)
+          (subst (λ z. LeadsTo (HasLine (NextOf t) v) (Ref k.3) z) (sym k.9) itself) (come_all_map (Members t) (HasList (NextOf t) v) (next_list v w (e ∷ []) s R t step at (refl, refl, refl) good_of.0) k.5 m.args k.10) k.11)
           taking (λ j a b m bytes r. carry_sent draws w a (λ k vs l. (h.lists a l.0 l.1).0 k vs l.2) j b m (carry j a b m bytes r))
 
       made_of : MadeOnce script (NextOf t)
@@ -203,7 +203,7 @@ module _ (draws : List ℕ) (script : Script) where
 
   came_comes : (w : World) (k v to : ℕ) (ks : List Name) (n : Note Name) (bytes : List ℕ) → NoteWell draws w v n → (t : Vat Name) (m : Message Name) → Came t (Receives v (read_note ks n)) m → Comes to (Carried k v to n bytes) t m
   unfolding read_note world.read_value
-  came_comes w k v to ks (Deliver d z verb ys) bytes h t m c = (k, v, d, z, verb, ys, bytes, refl, sym c.0, c.2 ∙ value_read (world.read_all ys ks).known (Ref z), all_read (Members t) ys ks m.args c.3, pass_no_lists (HasLine w v) (HasList w v) (HasOpened w v) h.0.args ys h.4)
+  came_comes w k v to ks (Deliver d z verb ys) bytes h t m c = (k, v, d, z, verb, ys, bytes, refl, sym c.0, c.2 ∙ value_read (world.read_all ys ks).known (Ref z), all_read (Members t) ys ks m.args c.3, pass_no_lists (HasLine w v) (HasList w v) (HasOpened w v) (λ n. Unit {0}) h.0.args ys h.4)
   came_comes w k v to ks other bytes h t m c = absurd c
 
   carried_is : (k v to j a b : ℕ) (n m : Note Name) (bytes more : List ℕ) → Carried k v to n bytes ≡ Carried j a b m more → (v ≡ a) × (n ≡ m)
@@ -414,7 +414,7 @@ module _ (draws : List ℕ) (script : Script) where
   unfolding world.close sent_by carried_by is_carry
   close_well w h = let vs : List Event = world.left_vats script w.vats in let ls : List Event = world.left_links script w.links in let es : List Event = vs ++ (ls ++ IsEnd ∷ []) in
       let y : World = record w { history = w.history ++ vs ++ ls ++ IsEnd ∷ [] } in let more : y.history ≡ w.history ++ es = joined (w.history ++ vs) ls (IsEnd ∷ []) ∙ joined w.history vs (ls ++ IsEnd ∷ []) in
-      let g : Grows w y = (λ e i. subst (λ hs. IsAmong e hs) (sym more) (among_left e w.history es i), λ v k us i. i, λ v a i n o. o) in
+      let g : Grows w y = (λ e i. subst (λ hs. IsAmong e hs) (sym more) (among_left e w.history es i), λ v k us i. i, λ v a i n o. o, λ v n i. (i.0, (i.1.0, subst (λ hs. IsAmong (NoticedAt i.1.0 v i.0) hs) (sym more) (among_left _ w.history es i.1.1)), i.2, i.3, i.4)) in
       let none : IsNobodys es = nobodys_join vs (ls ++ IsEnd ∷ []) (vats_nobodys script w.vats) (nobodys_join ls (IsEnd ∷ []) (links_nobodys script w.links) (one_line IsEnd (λ u e i. cc))) in
       let s : (x : Name) → total (sent_by x) es ≡ 0 = λ x. closing_none (sent_by x) (λ v m. refl) (λ v n m. refl) (λ v n m. refl) (λ v u n. refl) refl w in
       let c : (x : Name) → total (carried_by x) es ≡ 0 = λ x. closing_none (carried_by x) (λ v m. refl) (λ v n m. refl) (λ v n m. refl) (λ v u n. refl) refl w in

@@ -13,10 +13,10 @@ use Rattle.law_fate.specs.Fates.Carry.{carried_by}
 use Rattle.law_fate.proofs.Fates.RunCounts.{all_numbered}
 use Rattle.law_fate.specs.Fates.FateLaws.{numbered}
 use Rattle.law_uses.specs.Connectivity.Known.{IsAmong, AllOf}
-use Rattle.law_uses.specs.Connectivity.Stems.{LeadsTo, HasLine, HasList, ArgsPass, ComeAll}
+use Rattle.law_uses.specs.Connectivity.Stems.{LeadsTo, HasLine, HasList, HasOpened, PassAll, ComeAll}
 use Rattle.law_uses.specs.Connectivity.MessageLaws.{IsToldStanding}
-use Rattle.law_uses.proofs.Connectivity.Passing.{come_all_map}
-use Rattle.law_uses.proofs.Connectivity.RunStems.{Grows, leads_grow, args_grow}
+use Rattle.law_uses.proofs.Connectivity.Passing.{come_all_map, kept_all, pass_all_map}
+use Rattle.law_uses.proofs.Connectivity.RunStems.{Grows, leads_grow}
 use Rattle.def_event.specs.Uses as uses
 use Rattle.def_event.specs.Uses.{Thing, AName, parts, all_parts, had, carried_with, sent_with, or_else, first_of, last_of}
 use Rattle.law_uses.proofs.Uses.Lines.{last_join, first_join}
@@ -164,9 +164,13 @@ module _ (draws : List ℕ) where
   abbrev pub KnownWell : World → ℕ → Known Name → Type 0
   KnownWell w v k = AllOf (Source w v) k.held × AllOf (Reacting w v) k.reactions × IsToldStanding (HasLine w v) k.name k.standing
 
+  -- as arguments pass, whatever was noticed
+  abbrev pub Passes : World → ℕ → List (Value Name) → Passeds Name → Type 0
+  Passes w u xs ys = PassAll (HasLine w u) (HasList w u) (HasOpened w u) (λ n. Unit {0}) xs ys
+
   -- a note from vat u
   abbrev pub NoteWell : World → ℕ → Note Name → Type 0
-  NoteWell w u (Deliver d n verb ys) = (m : Message Name) × Source w u m × (m.id ≡ d.message) × LeadsTo (HasLine w u) m.target (Ref n) × ArgsPass w u m.args ys
+  NoteWell w u (Deliver d n verb ys) = (m : Message Name) × Source w u m × (m.id ≡ d.message) × LeadsTo (HasLine w u) m.target (Ref n) × Passes w u m.args ys
   NoteWell w u other = Unit {0}
 
   abbrev pub LinkWell : World → Link → Type 0
@@ -208,6 +212,9 @@ module _ (draws : List ℕ) where
     queued_grow v m q (inl h) = inl (source_grow v m q h)
     queued_grow v m q (inr h) = inr (reacting_grow v m q h)
 
+    passes_grow : (u : ℕ) (xs : List (Value Name)) (ys : Passeds Name) → Passes w u xs ys → Passes y u xs ys
+    passes_grow u xs ys h = pass_all_map (HasLine w u) (HasLine y u) (kept_all (HasLine w u) (HasLine y u) (λ e i. g.0 (Here u e) i)) (HasList w u) (HasList y u) (g.1 u) (HasOpened w u) (HasOpened y u) (g.2 u) (λ n. Unit {0}) (λ n. Unit {0}) (λ n i. i) xs ys h
+
     pub note_grow : (u : ℕ) (n : Note Name) → ((d : Delivery Name) (z : Name) (verb : Words) (ys : Passeds Name) → n ≡ Deliver d z verb ys → Silent es d.message) → NoteWell w u n → NoteWell y u n
-    note_grow u (Deliver d n verb ys) q h = (h.0, source_grow u h.0 (subst (λ z. Silent es z) (sym h.2) (q d n verb ys refl)) h.1, h.2, leads_grow w y g u h.0.target (Ref n) h.3, args_grow w y g u h.0.args ys h.4)
+    note_grow u (Deliver d n verb ys) q h = (h.0, source_grow u h.0 (subst (λ z. Silent es z) (sym h.2) (q d n verb ys refl)) h.1, h.2, leads_grow w y g u h.0.target (Ref n) h.3, passes_grow u h.0.args ys h.4)
     note_grow u other q h = tt

@@ -1,7 +1,7 @@
 -- When the history of a step is connected: an activation uses only what it knows, and gives back only what it knows.
-use Rattle.std.specs.Prelude.{◌≡◌, ℕ, true, false, List, [], ◌∷◌, ◌++◌, Option, Some, None, map, slice_get, ◌⊎◌, codes}
-use Rattle.def_machine.specs.Values.{Words, Value, Null, Ref, Naming, Own}
-use Rattle.def_machine.specs.State.{Cell, Vat, Happened, Called, Back, Thrown, Left, Got, SlotMade, SlotRead, SlotWrote, ListMade, EjectorMade, AuditionMade, ObjectMade, Sends, Reacts, Finished, Settles, Waits, Views}
+use Rattle.std.specs.Prelude.{◌≡◌, ◌≤◌, length, ℕ, true, false, List, [], ◌∷◌, ◌++◌, Option, Some, None, map, slice_get, ◌⊎◌, codes}
+use Rattle.def_machine.specs.Values.{Words, Value, Null, Ref, Naming, Own, IsOwn}
+use Rattle.def_machine.specs.State.{Cell, Vat, Happened, Called, Back, Thrown, Left, Got, SlotMade, SlotRead, SlotWrote, ListMade, EjectorMade, AuditionMade, PromiseMade, ObjectMade, Sends, Reacts, Finished, Settles, Waits, Views}
 use Rattle.def_machine.specs.Free.{same_words}
 use Rattle.law_machine.specs.Machine.Steps.{Step, Opens, Takes, Receives, Notices, does, After}
 use Rattle.law_uses.specs.Connectivity.Settlings.{Follows, SettlesWell, WaitsWell, ViewsBy}
@@ -107,6 +107,8 @@ module _ {N W : Type 0} (K : Naming N W) (h : Holdings N W) where
   ComesWell so (SlotMade a k v) = (c : Cell N) × (slice_get h.slots k ≡ Some c) × Knows K h so a (AValue c.guard)
   -- what reacts is what the vat follows the value to that is to react
   ComesWell so (Reacts a x o m) = Follows K h.start so o m.target
+  -- a promise is the vat's own, of a number that it had not used before the step
+  ComesWell so (PromiseMade a p r) = (i k : ℕ) × (p ≡ K.made (IsOwn i) k) × (h.start.vat.promises ≤ i) × (length h.start.vat.known ≤ k)
   -- what is told of a name has its cause
   ComesWell so (Settles p y) = SettlesWell K h.start so p y
   ComesWell so (Waits p q) = WaitsWell K h.start so p q

@@ -6,7 +6,7 @@ use Rattle.law_machine.specs.Machine.Steps.{Opens}
 use Rattle.law_machine.specs.Natives.Natives.{IsPlain}
 use Rattle.law_uses.specs.Connectivity.Known.{Item, AValue, AGuard, ASlot, IsAmong, Holdings, parts_of_all, tells, Leads, Runs, Knows}
 use Rattle.law_uses.specs.Connectivity.Connected.{Connected, StepConnected}
-use Rattle.law_uses.specs.Connectivity.Rows.{one_object, secret, handed, guarded, coercing, answering, stray, program, escaping, auditing, fresh}
+use Rattle.law_uses.specs.Connectivity.Rows.{one_object, secret, handed, guarded, coercing, answering, stray, ringless, parting, parted, program, escaping, auditing, fresh}
 
 -- A property of what activations have that each way to come by a reference keeps.
 pub record IsClosed {N W : Type 0} (K : Naming N W) (h : Holdings N W) (so : List (Happened N)) (P : ℕ → Item N → Type 0) : Type 0 where
@@ -62,6 +62,14 @@ LeakIsNotConnected = (word : ℕ → ℕ) → Connected (naming word 0) guarded 
 -- an answer may not settle to what the turn did not give
 abbrev pub StrayIsNotConnected : Type 0
 StrayIsNotConnected = (word : ℕ → ℕ) → Connected (naming word 0) answering stray → ⊥
+
+-- nor break as one that leads back to itself, where the turn gave an object
+abbrev pub RinglessIsNotConnected : Type 0
+RinglessIsNotConnected = (word : ℕ → ℕ) → Connected (naming word 0) answering ringless → ⊥
+
+-- nor as one of a vat that is cut off, where the turn gave null
+abbrev pub PartedIsNotConnected : Type 0
+PartedIsNotConnected = (word : ℕ → ℕ) → Connected (naming word 0) parting parted → ⊥
 
 -- the opening turn of a small program, in which an object uses a capture, an argument and what a call gave back
 abbrev pub ProgramIsConnected : Type 0

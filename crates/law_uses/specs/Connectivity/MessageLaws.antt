@@ -5,7 +5,7 @@ use Rattle.def_machine.specs.State.{Message, Known, Standing, Unsettled, WaitsOn
 use Rattle.def_run.specs.World.{Link, Here, World}
 use Rattle.law_uses.specs.Connectivity.Known.{IsAmong, AllOf}
 use Rattle.law_fate.specs.Fates.FateRuns.{InRuns}
-use Rattle.law_uses.specs.Connectivity.Stems.{LeadsTo, PassesAs, HasLine, HasList, HasOpened, ArgsPass, Stems, IsReaction, StemsOrReacts}
+use Rattle.law_uses.specs.Connectivity.Stems.{LeadsTo, PassesAs, HasLine, HasList, HasOpened, HasGone, ArgsPass, Stems, IsReaction, StemsOrReacts}
 
 -- A note from vat u: the message of a deliver note is one there, and its arguments stand for those. What it tells of a name is what the name leads to there.
 abbrev pub NoteStems : World → ℕ → Note Name → Type 0
@@ -13,7 +13,7 @@ NoteStems w u (Deliver i n verb ys) = (m : Message Name) × Stems w u m × (m.id
 NoteStems w u (Open i n) = Unit {0}
 NoteStems w u (Ask p i n) = Unit {0}
 -- it tells what the name passes as, or that the name leads to an object of vat c
-NoteStems w u (SettledTo n y) = PassesAs (HasLine w u) (HasList w u) (HasOpened w u) (Ref n) y
+NoteStems w u (SettledTo n y) = PassesAs (HasLine w u) (HasList w u) (HasOpened w u) (HasGone w u) (Ref n) y
 NoteStems w u (Elsewhere n c) = (i : ℕ) × LeadsTo (HasLine w u) (Ref n) (Ref (Object c i))
 NoteStems w u (Shorten n c i) = Unit {0}
 

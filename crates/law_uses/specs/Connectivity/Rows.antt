@@ -1,6 +1,6 @@
 -- Histories that are connected, and one that is not.
 use Rattle.std.specs.Prelude.{ℕ, List, [], ◌∷◌, None, Some, codes}
-use Rattle.def_machine.specs.Values.{Value, Null, Ref, Name, Root, Object, Promise, Answer, Sent, Msg}
+use Rattle.def_machine.specs.Values.{Value, Null, Broken, Ref, Name, Root, Object, Promise, Answer, Sent, Msg}
 use Rattle.def_machine.specs.State.{Fixed, Made, Message, Vat, Happened, Took, Called, Sends, Finished, Settles, begun}
 use Rattle.def_kernel.specs.declared.node.Literal.TheVariants as literal
 use Rattle.def_kernel.specs.declared.node.Node.{Node}
@@ -82,6 +82,28 @@ stray =
     ∷ Settles (Answer 0 (sent 0)) secret
     ∷ []
 
+-- ---- broken without a cause
+
+-- Activation 0 takes a message and gives the helper, and the answer breaks as one that leads back to itself.
+unfoldable pub ringless : List (Happened Name)
+ringless =
+    Took 0 (message 0 helper [])
+    ∷ Finished 0 helper
+    ∷ Settles (Answer 0 (sent 0)) (Broken (codes "cycle"))
+    ∷ []
+
+-- The cut of vat 5 is noticed.
+unfoldable pub parting : Holdings Name Name
+parting = record one_object { start = record { step = Takes [] 0 (message 0 helper []); vat = record fresh { noticed = 5 ∷ [] } } }
+
+-- Activation 0 takes a message and gives null, and the answer breaks as one of a vat that is cut off.
+unfoldable pub parted : List (Happened Name)
+parted =
+    Took 0 (message 0 helper [])
+    ∷ Finished 0 Null
+    ∷ Settles (Answer 0 (sent 0)) (Broken (codes "partition"))
+    ∷ []
+
 -- ---- a small program
 
 -- def o { to run(x) { x } }; def f { to go(y) { o.run(y) } }; f.go(o)
@@ -159,5 +181,5 @@ auditing =
     ∷ []
 
 unfoldable pub opened_rows : Unit {0}
-unfolding helper secret one_object sent message handed guarded coercing answering stray program escaping auditing fresh
+unfolding helper secret one_object sent message handed guarded coercing answering stray ringless parting parted program escaping auditing fresh
 opened_rows = tt

@@ -1,11 +1,12 @@
 -- Why a name settles, waits on another or comes to be viewed as one, and to what.
 use Rattle.std.specs.Prelude.{◌≡◌, ◌≤◌, length, ℕ, true, List, [], ◌∷◌, Some, None, slice_get, ◌⊎◌, codes}
-use Rattle.def_machine.specs.Values.{Words, Value, Null, Flag, Number, Letter, Text, Prim, Broken, Items, Ref, Naming, Coming, Own, IsAnswer, IsGift, IsLearnt, IsCarried, under}
-use Rattle.def_machine.specs.State.{Resolver, Message, Known, Passed, Passeds, Plain, AGift, Many, NoMore, More, Delivery, Deliver, Open, Ask, SettledTo, Elsewhere, Shorten, GiftEntry, Happened, Took, Called, Finished, Threw, PromiseMade, ListCame, Sends, Settles, Waits, Views, Lost, Posted, is_in}
+use Rattle.def_machine.specs.Values.{Words, Value, Null, Flag, Number, Letter, Text, Prim, Broken, Items, Ref, Naming, Coming, Own, Foreign, IsRoot, IsOwn, IsAnswer, IsGift, IsLearnt, IsCarried, under}
+use Rattle.def_machine.specs.State.{Resolver, WaitsOn, Message, Known, Passed, Passeds, Plain, AGift, Many, NoMore, More, Delivery, Deliver, Open, Ask, SettledTo, Elsewhere, Shorten, GiftEntry, Happened, Took, Called, Finished, Threw, PromiseMade, ListMade, ListCame, Sends, Settles, Waits, Views, Lost, Posted, is_in}
+use Rattle.def_machine.specs.Refs.{standing_of}
 use Rattle.def_machine.specs.Free.{same_words}
 use Rattle.def_machine.specs.Arrive.{Incoming, Old, New}
 use Rattle.law_machine.specs.Machine.Steps.{Step, Opens, Takes, Receives, Notices}
-use Rattle.law_uses.specs.Connectivity.Known.{IsAmong, Start, AreOne, Reaches, IsThing}
+use Rattle.law_uses.specs.Connectivity.Known.{IsAmong, Start, AreOne, Leads, Reaches, IsThing}
 
 module _ {N W : Type 0} (K : Naming N W) (E : Start N W) where
   -- ---- what a note names
@@ -114,9 +115,62 @@ module _ {N W : Type 0} (K : Naming N W) (E : Start N W) where
 
   -- ---- what a name is given, and what it becomes
 
-  -- a value is followed to that, or to broken since a cut is noticed
+  -- what a note names
+  abbrev pub InValue : Incoming N W → Value (Incoming N W) → Type 0
+  InValue x (Ref y) = x ≡ y
+  InValue x Null = ⊥
+  InValue x (Flag b) = ⊥
+  InValue x (Number z) = ⊥
+  InValue x (Letter c) = ⊥
+  InValue x (Text t) = ⊥
+  InValue x (Prim i) = ⊥
+  InValue x (Broken t) = ⊥
+  InValue x (Items k) = ⊥
+
+  abbrev mutual
+    pub InPassed : Incoming N W → Passed (Incoming N W) → Type 0
+    InPassed x (Plain y) = InValue x y
+    InPassed x (AGift h i) = ⊥
+    InPassed x (Many ys) = InPasseds x ys
+
+    pub InPasseds : Incoming N W → Passeds (Incoming N W) → Type 0
+    InPasseds x NoMore = ⊥
+    InPasseds x (More y ys) = InPassed x y ⊎ InPasseds x ys
+
+  abbrev pub InNote : Incoming N W → Step N W → Type 0
+  InNote x (Receives from (Deliver d y verb ys)) = (x ≡ y) ⊎ InPasseds x ys
+  InNote x (Receives from (Open i y)) = x ≡ y
+  InNote x (Receives from (Ask q i y)) = x ≡ y
+  InNote x (Receives from (SettledTo y z)) = (x ≡ y) ⊎ InPassed x z
+  InNote x (Receives from (Elsewhere y c)) = x ≡ y
+  InNote x (Receives from (Shorten y c i)) = x ≡ y
+  InNote x (Opens tree depth root given) = ⊥
+  InNote x (Takes tree depth m) = ⊥
+  InNote x (Notices w) = ⊥
+
+  -- the host of a name that comes to be known so; of one that is learnt, as the note names it
+  abbrev pub ComesOf : Coming N W → ℕ → Type 0
+  ComesOf (IsRoot u) w = u ≡ w
+  ComesOf (IsOwn i) w = E.vat.number ≡ w
+  ComesOf (IsAnswer h m) w = h ≡ w
+  ComesOf (IsGift h i) w = h ≡ w
+  ComesOf (IsLearnt x) w = InNote (New x w) E.step
+
+  -- that vat is the host of a name that is known: it was before the step, or the name came to be known so
+  abbrev pub IsKnownOf : ℕ → N → Type 0
+  IsKnownOf w n = ((k : Known N) × IsAmong k E.vat.known × (k.name ≡ n) × (k.host ≡ w)) ⊎ ((c : Coming N W) × IsNew c n × ComesOf c w)
+
+  -- A name is hosted there: it is an object of that vat, or what is known as that name is of it. What is not known has the vat itself for its host.
+  abbrev pub IsHosted : ℕ → N → Type 0
+  IsHosted w n = (K.spot n ≡ Foreign w) ⊎ ((m : N) × (K.same m n ≡ true) × IsKnownOf w m) ⊎ (w ≡ E.vat.number)
+
+  -- a value leads to a name whose host is cut off, as is noticed
+  abbrev pub IsSevered : List (Happened N) → Value N → Type 0
+  IsSevered so x = (w : ℕ) × (n : N) × Reaches K E.vat.known so x (Ref n) × IsNoticed w × IsHosted w n
+
+  -- a value is followed to that, or to broken since a cut is noticed of the host of a name that it leads to
   abbrev pub Follows : List (Happened N) → Value N → Value N → Type 0
-  Follows so x y = Reaches K E.vat.known so x y ⊎ ((w : ℕ) × IsNoticed w × (y ≡ Broken (codes "partition")))
+  Follows so x y = Reaches K E.vat.known so x y ⊎ (IsSevered so x × (y ≡ Broken (codes "partition")))
 
   -- After these lines a name is to have that value.
   pub data IsGiven (so : List (Happened N)) : N → Value N → Type 0 where
@@ -133,26 +187,44 @@ module _ {N W : Type 0} (K : Naming N W) (E : Start N W) where
     -- its message is lost on a target that is broken
     lost : {p : N} {t : Words} (i : N) (x : Value N) → HasAnswer so i p x → IsAmong (Lost i) so → Follows so x (Broken t) → IsGiven so p (Broken t)
 
-  -- what may lead back to a name: a list or another name
-  abbrev pub MayRing : Value N → Type 0
-  MayRing (Items k) = Unit {0}
-  MayRing (Ref n) = Unit {0}
-  MayRing Null = ⊥
-  MayRing (Flag b) = ⊥
-  MayRing (Number z) = ⊥
-  MayRing (Letter c) = ⊥
-  MayRing (Text t) = ⊥
-  MayRing (Prim i) = ⊥
-  MayRing (Broken t) = ⊥
+  -- a list has these members: it had before the step, or a line tells that it was made or came with them
+  abbrev pub HasMembers : List (Happened N) → ℕ → List (Value N) → Type 0
+  HasMembers so k vs = (slice_get E.vat.lists k ≡ Some vs) ⊎ ((a : ℕ) × IsAmong (ListMade a k vs) so) ⊎ IsAmong (ListCame k vs) so
 
-  -- A name that is given x settles to that: x is followed to it, or to what leads back to the name.
-  abbrev pub Becomes : List (Happened N) → Value N → Value N → Type 0
-  Becomes so x y = Follows so x y ⊎ ((z : Value N) × Follows so x z × MayRing z × (y ≡ Broken (codes "cycle")))
+  -- members, each followed, any number of times, lead from a value to that name
+  pub data Rings (so : List (Happened N)) : Value N → N → Type 0 where
+    itself : {x : Value N} {p : N} (n : N) → Follows so x (Ref n) → K.same n p ≡ true → Rings so x p
+    member : {x : Value N} {p : N} (k : ℕ) (vs : List (Value N)) (y : Value N) → Follows so x (Items k) → HasMembers so k vs → IsAmong y vs → Rings so y p → Rings so x p
+
+  -- one name waits on the next: it did before the step, or a line tells it; or it is led to it by what it settled to or is viewed as
+  abbrev pub GoesOn : List (Happened N) → N → N → Type 0
+  GoesOn so n q = (standing_of K E.vat.known n ≡ WaitsOn q) ⊎ ((p : N) × IsAmong (Waits p q) so × AreOne K E.vat.known p n) ⊎ Leads K E.vat.known so (Ref n) (Ref q)
+
+  -- a chain of such leads from the first name to the second
+  pub data Chain (so : List (Happened N)) : N → N → Type 0 where
+    there : {n p : N} → K.same n p ≡ true → Chain so n p
+    onward : {n p : N} (q : N) → GoesOn so n q → Chain so q p → Chain so n p
+
+  -- what leads back to a name: a list by its members, or another name by what waits
+  abbrev pub LeadsBack : List (Happened N) → N → Value N → Type 0
+  LeadsBack so p (Items k) = Rings so (Items k) p
+  LeadsBack so p (Ref n) = Chain so n p
+  LeadsBack so p Null = ⊥
+  LeadsBack so p (Flag b) = ⊥
+  LeadsBack so p (Number z) = ⊥
+  LeadsBack so p (Letter c) = ⊥
+  LeadsBack so p (Text t) = ⊥
+  LeadsBack so p (Prim i) = ⊥
+  LeadsBack so p (Broken t) = ⊥
+
+  -- A name p that is given x settles to that: x is followed to it, or to what leads back to the name.
+  abbrev pub Becomes : List (Happened N) → N → Value N → Value N → Type 0
+  Becomes so p x y = Follows so x y ⊎ ((z : Value N) × Follows so x z × LeadsBack so p z × (y ≡ Broken (codes "cycle")))
 
   -- ---- lines
 
   abbrev pub SettlesWell : List (Happened N) → N → Value N → Type 0
-  SettlesWell so p y = ((x : Value N) × IsGiven so p x × Becomes so x y) ⊎ ((w : ℕ) × IsNoticed w × IsOf w p × (y ≡ Broken (codes "partition")))
+  SettlesWell so p y = ((x : Value N) × IsGiven so p x × Becomes so p x y) ⊎ ((w : ℕ) × IsNoticed w × IsOf w p × (y ≡ Broken (codes "partition")))
 
   -- on what it was given, or, as the answer of a message that was sent on, on the answer at the vat to which it was
   abbrev pub WaitsWell : List (Happened N) → N → N → Type 0

@@ -3,7 +3,7 @@ use Rattle.std.proofs.lemmas.Result.{err_from_is_err_and}
 use Rattle.std.proofs.lemmas.List.{map_push}
 use Rattle.def_op.specs.Frames.{none, more, members}
 use Rattle.def_op.specs.Views.{described, all_described}
-use Rattle.ev_op.specs.Reading.{members_at, member_at}
+use Rattle.def_op.specs.Reading.{members_at, member_at}
 use Rattle.ev_op.proofs.Loop.{join, members-push, goes_on, ends, is_done}
 use Rattle.ev_op.proofs.reading.+descriptions.Goals as goal
 

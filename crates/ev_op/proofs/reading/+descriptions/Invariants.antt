@@ -1,6 +1,6 @@
 use Rattle.std.proofs.Common.{◌≡◌, ◌+◌, ◌-◌, ◌*◌}
 use Rattle.def_op.specs.Views.{all_described}
-use Rattle.ev_op.specs.Reading.{members_at, member_at}
+use Rattle.def_op.specs.Reading.{members_at, member_at}
 use Rattle.ev_op.proofs.Loop.{with_front, depth_of}
 use Rattle.ev_op.proofs.reading.+descriptions.Given as goal
 

@@ -1,5 +1,5 @@
 use Rattle.std.proofs.lemmas.Result.{err_from_is_err_and}
-use Rattle.ev_parts.specs.Items.{left, walk_members, walk_member}
+use Rattle.def_op.specs.Items.{left, walk_members, walk_member}
 use Rattle.ev_parts.proofs.WalkLoop.{goes_on, ends, is_done}
 use Rattle.ev_parts.proofs.walks.+walks.Goals as goal
 

@@ -1,5 +1,5 @@
 use Rattle.std.proofs.Common.{◌≡◌, ◌+◌, ◌-◌, ◌*◌}
-use Rattle.ev_parts.specs.Items.{walk_members, walk_member}
+use Rattle.def_op.specs.Items.{walk_members, walk_member}
 use Rattle.ev_parts.proofs.WalkLoop.{depth_of}
 use Rattle.ev_parts.proofs.walks.+walks.Given as goal
 

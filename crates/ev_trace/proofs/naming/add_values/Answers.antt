@@ -6,8 +6,8 @@ use Rattle.ev_trace.proofs.naming.add_values.Goals as goal
 
 pub loop-word-preserved : goal.loop-word-preserved
 loop-word-preserved c =
-    next_word (scan Outside false []) c.word-item.result c.loop-word.names _ _ c.args.words.now c.loop-word.word-index c.loop-word-test.true c.word-item.is c.loop-word.invariant
-    (c.in_ok-add_scanned.ensures ∙ ap (λ w. with_names c.loop-word.names (scan Outside false [] w)) c.as_str.ensures)
+    next_word (scan Outside false false []) c.word-item.result c.loop-word.names _ _ c.args.words.now c.loop-word.word-index c.loop-word-test.true c.word-item.is c.loop-word.invariant
+    (c.in_ok-add_scanned.ensures ∙ ap (λ w. with_names c.loop-word.names (scan Outside false false [] w)) c.as_str.ensures)
 
 pub returns : goal.returns
-returns c = last_word (scan Outside false []) c.loop-word.names _ c.args.words.now c.loop-word.word-index c.loop-word-test.false c.loop-word.invariant
+returns c = last_word (scan Outside false false []) c.loop-word.names _ c.args.words.now c.loop-word.word-index c.loop-word-test.false c.loop-word.invariant

@@ -1,4 +1,4 @@
-use Rattle.std.proofs.Common.{[], ◌∙◌, ap}
+use Rattle.std.proofs.Common.{[], false, ◌∙◌, ap}
 use Rattle.ev_trace.specs.Naming.{line_vats, with_names}
 use Rattle.ev_trace.proofs.NamingLemmas.{next_word, last_word}
 use Rattle.ev_trace.proofs.naming.names_in.Goals as goal

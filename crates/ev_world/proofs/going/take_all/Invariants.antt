@@ -3,7 +3,7 @@ use Rattle.std.proofs.Common.{◌≡◌, ◌≤◌, ℕ, List, length, map, zero
 use Rattle.std.specs.declared.option.Option.{Option}
 use Rattle.def_run.specs.Numbers.{Runs, Vats, begins, open_from}
 use Rattle.def_run.specs.World.{Script}
-use Rattle.ev_wire.specs.Steady.{RunsSteadily}
+use Rattle.def_run.specs.Steady.{RunsSteadily}
 use Rattle.law_schedule.specs.Scripts.{machine_entry}
 use Rattle.ev_world.specs.Standing.{AreReady, Comes}
 use Rattle.ev_world.specs.Writing.{IsWritten}

@@ -2,7 +2,7 @@
 use Rattle.std.proofs.Common.{◌≡◌, length}
 use Rattle.def_run.specs.Numbers.{Vats, begins}
 use Rattle.def_run.specs.World.{Script}
-use Rattle.ev_wire.specs.Steady.{RunsSteadily}
+use Rattle.def_run.specs.Steady.{RunsSteadily}
 use Rattle.ev_world.specs.Standing.{AreReady, Comes, IsWorld}
 use Rattle.ev_world.proofs.Loops.{OpenedBy}
 use Rattle.ev_world.proofs.world.World.open_all.Given as goal

@@ -2,7 +2,7 @@
 use Rattle.std.proofs.Common.{◌≡◌, length, map, zero}
 use Rattle.def_run.specs.Numbers.{Runs, Vats, begins, open_from}
 use Rattle.def_run.specs.World.{Script}
-use Rattle.ev_wire.specs.Steady.{RunsSteadily}
+use Rattle.def_run.specs.Steady.{RunsSteadily}
 use Rattle.law_schedule.specs.Scripts.{machine_entry}
 use Rattle.ev_world.specs.Standing.{AreReady, Comes, IsWorld}
 use Rattle.ev_world.proofs.Loops.{SteppedBy}

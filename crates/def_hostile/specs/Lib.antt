@@ -1,0 +1,5 @@
+pub mod Judge
+pub mod Claims
+pub mod Hostile
+pub mod ShownMarks
+pub mod HostileText

@@ -1,0 +1,6 @@
+-- copied are the texts so far
+use Rattle.std.proofs.Common.{◌≡◌, ◌++◌, drop}
+use Rattle.ev_make_text.proofs.heads.copies.Given as goal
+
+abbrev pub invariant-loop-text : goal.invariant-loop-text
+invariant-loop-text l = l.copies ++ drop l.text-index l.texts ≡ l.texts

@@ -1,0 +1,4 @@
+pub mod Codes
+pub mod Asked
+pub mod Due
+pub mod Paying

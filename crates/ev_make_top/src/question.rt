@@ -1,0 +1,46 @@
+//! What the words of the command ask.
+
+ghost use Rattle.std.specs.Prelude.{◌≡◌};
+ghost use Rattle.ev_make_top.specs.Asked.{question_of, word_asks};
+
+use ev_base::Str;
+
+/// What is asked.
+#[derive(Clone, Copy)]
+pub enum Question {
+    /// `--help`
+    Help,
+    /// `--version`
+    Version,
+    /// `script`
+    Script,
+    /// Other words.
+    Unknown,
+}
+
+/// What one word asks.
+#[tactic(auto, unfolding(crate::specs::Asked::word_asks))]
+fn word_asks(word: &str) -> Question
+    ensures { result ≡ word_asks word.now }
+{
+    if word == "--help" {
+        Question::Help
+    } else if word == "--version" {
+        Question::Version
+    } else if word == "script" {
+        Question::Script
+    } else {
+        Question::Unknown
+    }
+}
+
+/// What the words of a command ask.
+#[tactic(auto, unfolding(crate::specs::Asked::question_of))]
+pub fn question_of(words: &[Str]) -> Question
+    ensures { result ≡ question_of words.now }
+{
+    match words {
+        [word] => word_asks(word.as_str()),
+        _ => Question::Unknown,
+    }
+}

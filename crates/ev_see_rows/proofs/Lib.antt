@@ -1,0 +1,4 @@
+pub mod FirstLemmas
+pub mod WideLemmas
+pub mod BlankLemmas
+pub mod EndLemmas

@@ -1,0 +1,8 @@
+use Rattle.std.proofs.Common.{ℕ, sym, ◌∙◌}
+use Rattle.def_see.specs.Lines.{line_at}
+use Rattle.def_see.specs.Rows.{waits_at_host}
+use Rattle.ev_see_rows.proofs.FirstLemmas.{passes}
+use Rattle.ev_see_rows.proofs.outcomes.first_waiting.Goals as goal
+
+pub loop-number-preserved : goal.loop-number-preserved
+loop-number-preserved c = passes (λ (i : ℕ). waits_at_host c.args.name.now (line_at c.args.lines.now i)) c.args.numbers.now c.loop-number.number-index _ c.loop-number-test.true (sym c.waits_at_host.ensures ∙ c.if-waits_at_host.false) c.loop-number.invariant

@@ -1,0 +1,6 @@
+-- the spaces so far
+use Rattle.std.proofs.Common.{◌≡◌, ◌++◌, replicate, string_bytes}
+use Rattle.ev_see_rows.proofs.table.push_spaces.Given as goal
+
+abbrev pub invariant-loop-space : goal.invariant-loop-space
+invariant-loop-space l = string_bytes l.out ≡ string_bytes l.fn.out ++ replicate l._space 32

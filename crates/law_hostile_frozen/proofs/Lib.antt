@@ -1,0 +1,3 @@
+pub mod Passing
+pub mod Moves
+pub mod Plays

@@ -1,0 +1,2 @@
+pub mod HostileReached
+pub mod HostileKept

@@ -1,0 +1,3 @@
+pub mod Honest
+pub mod Corollaries
+pub mod Rows

@@ -1,0 +1,11 @@
+pub mod ReadParts
+pub mod Spelled
+pub mod Running
+pub mod Meeting
+pub mod Operations
+pub mod Growing
+pub mod Heard
+pub mod HeardNames
+pub mod Allowed
+pub mod AllowedOps
+pub mod Own

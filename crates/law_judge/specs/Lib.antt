@@ -1,0 +1,4 @@
+pub mod Points
+pub mod PartsOf
+pub mod OwnNumbers
+pub mod Statements

@@ -1,0 +1,15 @@
+pub mod Claimed
+pub mod Arrives
+pub mod Heard
+pub mod Tables
+pub mod Shapes
+pub mod Prepared
+pub mod Spoken
+pub mod Steps
+pub mod Moved
+pub mod Reached
+pub mod Learnt
+pub mod Runs
+pub mod Logged
+pub mod Asked
+pub mod Thirds

@@ -1,0 +1,76 @@
+-- A run with hostile vats, and its text.
+use Rattle.std.specs.Prelude.{◌≡◌, List, [], ◌∷◌, codes, None, pos}
+use Rattle.def_run.specs.World.{Carry, Script}
+use Rattle.def_hostile.specs.Hostile.{Play, Does, Injects, acts}
+use Rattle.def_hostile.specs.HostileText.{text}
+use Rattle.test_hostile.specs.Lines.{lines}
+use Rattle.def_kernel.specs.declared.node.Literal.TheVariants as literal
+use Rattle.def_kernel.specs.declared.node.Node.{Node}
+use Rattle.def_kernel.specs.declared.node.Node.TheVariants.{Call, Final, Lit, Method, Noun, Object}
+
+unfoldable pub tree_0 : List Node
+tree_0 =
+    Object 1 [] (2 ∷ 5 ∷ [])
+    ∷ Final (codes "t") None
+    ∷ Method (codes "put") (3 ∷ []) 4
+    ∷ Final (codes "x") None
+    ∷ Noun (codes "x")
+    ∷ Method (codes "get") [] 6
+    ∷ Lit (literal.Int (pos 1))
+    ∷ []
+
+unfoldable pub tree_2 : List Node
+tree_2 =
+    Object 1 [] (2 ∷ 10 ∷ [])
+    ∷ Final (codes "o") None
+    ∷ Method (codes "fwd") (3 ∷ []) 4
+    ∷ Final (codes "x") None
+    ∷ Call 5 (codes "send") (6 ∷ 7 ∷ 8 ∷ [])
+    ∷ Noun (codes "E")
+    ∷ Noun (codes "x")
+    ∷ Lit (literal.Text (codes "hi"))
+    ∷ Call 9 (codes "run") []
+    ∷ Noun (codes "__makeList")
+    ∷ Method (codes "hi") [] 11
+    ∷ Lit (literal.Int (pos 1))
+    ∷ []
+
+unfoldable pub play : Play
+play = record {
+  script = record {
+    key = (0 ∷ 0 ∷ 0 ∷ 0 ∷ 0 ∷ 0 ∷ 0 ∷ 0 ∷ 0 ∷ 0 ∷ 0 ∷ 0 ∷ 0 ∷ 0 ∷ 0 ∷ 0 ∷ 0 ∷ 0 ∷ 0 ∷ 0 ∷ 0 ∷ 0 ∷ 0 ∷ 0 ∷ 0 ∷ 0 ∷ 0 ∷ 0 ∷ 0 ∷ 0 ∷ 0 ∷ 0 ∷ []);
+    fuel = 1000000;
+    depth = 400;
+    vats =
+        record { name = codes "a"; knows = (1 ∷ 2 ∷ []); tree = tree_0 } ∷
+        record { name = codes "h"; knows = (0 ∷ []); tree = [] } ∷
+        record { name = codes "c"; knows = (1 ∷ []); tree = tree_2 } ∷
+        [];
+    schedule = [];
+  };
+  hostile = (1 ∷ []);
+  doings = Injects 1 0 (1 ∷ 0 ∷ 9 ∷ 0 ∷ 3 ∷ 112 ∷ 117 ∷ 116 ∷ 1 ∷ 13 ∷ 1 ∷ 1 ∷ 0 ∷ 0 ∷ 0 ∷ 0 ∷ 0 ∷ 0 ∷ 0 ∷ 0 ∷ 0 ∷ 0 ∷ 0 ∷ 0 ∷ 0 ∷ 0 ∷ 0 ∷ []) ∷ Does (Carry 1 0) ∷ Injects 1 0 (1 ∷ []) ∷ Does (Carry 0 1) ∷ [];
+}
+
+abbrev pub Holds : Type 0
+Holds = text play (acts play) ≡ lines (
+    codes "open a"
+    ∷ codes "!0 made a.0 t"
+    ∷ codes "!0 done a.0"
+    ∷ codes "settle @a a.0"
+    ∷ codes "open c"
+    ∷ codes "!0 made c.0 o"
+    ∷ codes "!0 done c.0"
+    ∷ codes "settle @c c.0"
+    ∷ codes "1 inject h a 0100090003707574010d0101000000000000000000000000000000"
+    ∷ codes "2 carry h a malformed 10"
+    ∷ codes "settle @h broken:\"partition\""
+    ∷ codes "3 inject h a cut"
+    ∷ codes "4 idle"
+    ∷ codes "left link c a settled @c c.0"
+    ∷ codes "end"
+    ∷ [])
+
+unfoldable pub opened : Unit {0}
+unfolding tree_0 tree_2 play
+opened = tt

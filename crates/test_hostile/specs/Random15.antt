@@ -1,0 +1,114 @@
+-- A run with hostile vats, and its text with its frames.
+use Rattle.std.specs.Prelude.{◌≡◌, List, [], ◌∷◌, codes, None}
+use Rattle.def_run.specs.World.{Carry, Turn, Script}
+use Rattle.def_hostile.specs.Hostile.{Play, Does, Injects, acts}
+use Rattle.def_hostile.specs.HostileText.{wire_text}
+use Rattle.test_hostile.specs.Lines.{lines}
+use Rattle.def_kernel.specs.declared.node.Literal.TheVariants as literal
+use Rattle.def_kernel.specs.declared.node.Node.{Node}
+use Rattle.def_kernel.specs.declared.node.Node.TheVariants.{Any, Call, Escape, Final, ListPattern, Lit, Matcher, Method, Noun, Object, Sequence}
+
+unfoldable pub tree_0 : List Node
+tree_0 =
+    Object 1 [] (2 ∷ 16 ∷ 24 ∷ [])
+    ∷ Final (codes "t") None
+    ∷ Method (codes "put") (3 ∷ []) 4
+    ∷ Final (codes "x") None
+    ∷ Escape 5 6 None
+    ∷ Final (codes "__return") None
+    ∷ Sequence (7 ∷ 15 ∷ [])
+    ∷ Call 8 (codes "run") (9 ∷ [])
+    ∷ Noun (codes "__return")
+    ∷ Call 10 (codes "send") (11 ∷ 12 ∷ 13 ∷ [])
+    ∷ Noun (codes "E")
+    ∷ Noun (codes "x")
+    ∷ Lit (literal.Text (codes "get"))
+    ∷ Call 14 (codes "run") []
+    ∷ Noun (codes "__makeList")
+    ∷ Noun (codes "null")
+    ∷ Method (codes "get") [] 17
+    ∷ Escape 18 19 None
+    ∷ Final (codes "__return") None
+    ∷ Sequence (20 ∷ 23 ∷ [])
+    ∷ Call 21 (codes "run") (22 ∷ [])
+    ∷ Noun (codes "__return")
+    ∷ Noun (codes "t")
+    ∷ Noun (codes "null")
+    ∷ Matcher 25 28
+    ∷ ListPattern (26 ∷ 27 ∷ [])
+    ∷ Final (codes "v") None
+    ∷ Final (codes "w") None
+    ∷ Noun (codes "w")
+    ∷ []
+
+unfoldable pub tree_1 : List Node
+tree_1 =
+    Object 1 [] (2 ∷ 10 ∷ [])
+    ∷ Final (codes "u") None
+    ∷ Method (codes "get") [] 3
+    ∷ Escape 4 5 None
+    ∷ Final (codes "__return") None
+    ∷ Sequence (6 ∷ 9 ∷ [])
+    ∷ Call 7 (codes "run") (8 ∷ [])
+    ∷ Noun (codes "__return")
+    ∷ Noun (codes "u")
+    ∷ Noun (codes "null")
+    ∷ Matcher 11 14
+    ∷ ListPattern (12 ∷ 13 ∷ [])
+    ∷ Any None
+    ∷ Final (codes "w") None
+    ∷ Noun (codes "w")
+    ∷ []
+
+unfoldable pub play : Play
+play = record {
+  script = record {
+    key = (0 ∷ 0 ∷ 0 ∷ 0 ∷ 0 ∷ 0 ∷ 0 ∷ 0 ∷ 0 ∷ 0 ∷ 0 ∷ 0 ∷ 0 ∷ 0 ∷ 0 ∷ 0 ∷ 0 ∷ 0 ∷ 0 ∷ 0 ∷ 0 ∷ 0 ∷ 0 ∷ 0 ∷ 0 ∷ 0 ∷ 0 ∷ 0 ∷ 0 ∷ 0 ∷ 0 ∷ 0 ∷ []);
+    fuel = 1000000;
+    depth = 400;
+    vats =
+        record { name = codes "a"; knows = (1 ∷ []); tree = tree_0 } ∷
+        record { name = codes "b"; knows = []; tree = tree_1 } ∷
+        record { name = codes "h"; knows = (0 ∷ 1 ∷ []); tree = [] } ∷
+        [];
+    schedule = [];
+  };
+  hostile = (2 ∷ []);
+  doings = Does (Carry 0 2) ∷ Injects 2 0 (4 ∷ 0 ∷ 1 ∷ 1 ∷ 0 ∷ 0 ∷ 0 ∷ 0 ∷ 0 ∷ 0 ∷ 0 ∷ 0 ∷ 0 ∷ 0 ∷ 0 ∷ 0 ∷ 0 ∷ 0 ∷ 0 ∷ []) ∷ Does (Carry 2 0) ∷ Injects 2 0 (1 ∷ 1 ∷ 9 ∷ 0 ∷ 3 ∷ 112 ∷ 117 ∷ 116 ∷ 1 ∷ 14 ∷ 0 ∷ []) ∷ Does (Carry 2 0) ∷ Does (Turn 0) ∷ Does (Turn 1) ∷ Does (Turn 2) ∷ Does (Carry 0 1) ∷ Does (Carry 0 2) ∷ Does (Carry 1 0) ∷ Does (Carry 1 2) ∷ Does (Carry 2 0) ∷ Does (Carry 2 1) ∷ [];
+}
+
+abbrev pub Holds : Type 0
+Holds = wire_text play (acts play) ≡ lines (
+    codes "open a"
+    ∷ codes "!0 made a.0 t caps a.0"
+    ∷ codes "!0 done a.0"
+    ∷ codes "settle @a a.0"
+    ∷ codes "open b"
+    ∷ codes "!0 made b.0 u caps b.0"
+    ∷ codes "!0 done b.0"
+    ∷ codes "settle @b b.0"
+    ∷ codes "1 carry a h settled @a a.0"
+    ∷ codes "frame 020c000b01"
+    ∷ codes "2 inject h a 04000101000000000000000000000000000000"
+    ∷ codes "3 carry h a ask a^b:01000000000000000000000000000000 b"
+    ∷ codes "frame 04000101000000000000000000000000000000"
+    ∷ codes "4 inject h a 0101090003707574010e00"
+    ∷ codes "5 carry h a malformed 10"
+    ∷ codes "6 idle"
+    ∷ codes "7 idle"
+    ∷ codes "8 idle"
+    ∷ codes "9 idle"
+    ∷ codes "10 idle"
+    ∷ codes "11 carry b a settled @b b.0"
+    ∷ codes "frame 020c000b01"
+    ∷ codes "settle @b b.0"
+    ∷ codes "12 carry b h settled @b b.0"
+    ∷ codes "frame 020c000b01"
+    ∷ codes "13 idle"
+    ∷ codes "14 idle"
+    ∷ codes "end"
+    ∷ [])
+
+unfoldable pub opened : Unit {0}
+unfolding tree_0 tree_1 play
+opened = tt

@@ -1,0 +1,4 @@
+//! Runs with hostile vats, by computing.
+#![tactic(auto)]
+
+pub mod rows;
