@@ -51,7 +51,7 @@ def scenarios() -> list[str]:
 def verdict_of(scenario: str) -> str:
     """What the row of the scenario says."""
     wanted = "foolscap-" + scenario.replace("_", "-")
-    return next(told.decode() for name, _, _, _, _, told in rows.rows_of(ROWS / "foolscap.rows") if name == wanted)
+    return next(told.decode() for name, *_, told in rows.rows_of(ROWS / "foolscap.rows") if name == wanted)
 
 
 class Lines(unittest.TestCase):
@@ -90,7 +90,7 @@ class Page(unittest.TestCase):
         self.assertEqual({name for name in there - named if name.startswith(("others-", "forged-"))}, set())
 
     def test_what_is_believed_passes_and_nothing_else(self):
-        told = {name: text for name, _, _, _, _, text in rows.rows_of(ROWS / "forged.rows")}
+        told = {name: text for name, *_, text in rows.rows_of(ROWS / "forged.rows")}
         believed = self.page.split("**Believed.**")[1].split("So `uses yes`")[0]
         named = set(re.findall(r"`(forged-[a-z-]+)`", believed))
         self.assertEqual(named, {name for name, text in told.items() if text == rows.RIGHT})

@@ -48,7 +48,7 @@ def part(text: str) -> bytes:
 
 
 def rows_of(path: pathlib.Path):
-    """The rows of a file: name, words, keys, status, input and output."""
+    """The rows of a file: name, program (none: `evat`), words, keys, status, input and output."""
     for text in path.read_bytes().decode().split("====\n"):
         head, rest = text.split("\n", 1)
         name, call = head.split(": ", 1)
