@@ -8,9 +8,19 @@ use Rattle.def_event.specs.declared.note.ShownNote.{ShownNote}
 use Rattle.def_event.specs.declared.note.ShownNote.TheVariants.{Deliver, DeliverOnly}
 use Rattle.def_event.specs.declared.reference.Reference.{Reference}
 use Rattle.def_event.specs.declared.event.Event.{Event}
-use Rattle.def_event.specs.declared.event.Event.TheVariants.{Open, Turn, Idle, Carry, Cut, Notice, Take, Send, SendOnly}
+use Rattle.def_event.specs.declared.event.Event.TheVariants.{Open, Turn, Idle, Carry, Cut, Notice, Take, Send, SendOnly, Raw}
+use Rattle.def_event.specs.declared.raw.RawLine.{RawLine}
+use Rattle.def_event.specs.declared.raw.RawLine.TheVariants.{Inject, InjectCut, Malformed, Bytes, LeftBytes}
 
 -- ---- where a line stands
+
+-- The vat of the lines behind one about a frame: that to which the frame comes, and none where it is put on a link.
+abbrev pub raw_vat : Option ℕ → RawLine → Option ℕ
+raw_vat here (Inject k v w bytes) = None
+raw_vat here (InjectCut k v w) = None
+raw_vat here (Malformed k v w place) = Some w
+raw_vat here (Bytes k v w bytes) = Some w
+raw_vat here (LeftBytes v w bytes) = here
 
 -- The vat of the lines behind a line, by the vat of the line before it. Lines before the first step, and those behind an idle entry or a cut, are of no vat.
 abbrev pub vat_behind : Option ℕ → Event → Option ℕ
@@ -20,6 +30,7 @@ vat_behind here (Carry k v w note) = Some w
 vat_behind here (Notice k v w) = Some v
 vat_behind here (Idle k) = None
 vat_behind here (Cut k v w) = None
+vat_behind here (Raw line) = raw_vat here line
 vat_behind here _ = here
 
 -- the vat behind all these lines

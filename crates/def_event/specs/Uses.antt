@@ -9,7 +9,9 @@ use Rattle.def_event.specs.declared.note.ShownNote.{ShownNote}
 use Rattle.def_event.specs.declared.note.ShownNote.TheVariants.{Deliver, DeliverOnly}
 use Rattle.def_event.specs.declared.event.Event.{Event}
 use Rattle.def_event.specs.declared.event.Called.{Called}
-use Rattle.def_event.specs.declared.event.Event.TheVariants.{Open, Turn, Idle, Carry, Cut, Notice, Take, Call, Back, Thrown, Gone, Got, Read, Wrote, List as ListMade, Arrived, Ejector, Audition as AuditionMade, Promise, Made as ObjectMade, Send, SendOnly, When, Done, Settle, View}
+use Rattle.def_event.specs.declared.event.Event.TheVariants.{Open, Turn, Idle, Carry, Cut, Notice, Take, Call, Back, Thrown, Gone, Got, Read, Wrote, List as ListMade, Arrived, Ejector, Audition as AuditionMade, Promise, Made as ObjectMade, Send, SendOnly, When, Done, Settle, View, Raw}
+use Rattle.def_event.specs.declared.raw.RawLine.{RawLine}
+use Rattle.def_event.specs.declared.raw.RawLine.TheVariants.{Inject, InjectCut, Malformed, Bytes, LeftBytes}
 
 -- ---- what is known, and by whom
 
@@ -51,6 +53,14 @@ pub record Line : Type 0 where
   pub at : ℕ
   pub event : Event
 
+-- the place of a line about a frame: that of the vat to which it comes, and 0 where it is put on a link
+unfoldable pub raw_place : ℕ → RawLine → ℕ
+raw_place at (Inject k v w bytes) = 0
+raw_place at (InjectCut k v w) = 0
+raw_place at (Malformed k v w place) = w + 1
+raw_place at (Bytes k v w bytes) = w + 1
+raw_place at (LeftBytes v w bytes) = at
+
 -- the place of a line, by that of the line before it
 unfoldable pub place_after : ℕ → Event → ℕ
 place_after at (Open v) = v + 1
@@ -59,6 +69,7 @@ place_after at (Notice k v w) = v + 1
 place_after at (Carry k v w note) = w + 1
 place_after at (Idle k) = 0
 place_after at (Cut k v w) = 0
+place_after at (Raw line) = raw_place at line
 place_after at _ = at
 
 abbrev pub place_of : List Line → ℕ

@@ -66,6 +66,11 @@ unfoldable pub then_plays : Acted → (Scene → Acted) → Acted
 then_plays (Plays s) f = f s
 then_plays (Breaks c k s) f = Breaks c k s
 
+-- What comes of what is done in that scene; where it stops, the scene is left as it was.
+unfoldable pub or_leaves : Scene → Acted → Acted
+or_leaves s (Plays t) = Plays t
+or_leaves s (Breaks c k t) = Breaks c k s
+
 -- ---- frames under way
 
 unfoldable pub is_raw : ℕ → ℕ → Raw → Bool
@@ -387,12 +392,16 @@ module _ (play : Play) where
   injects true k h w bytes s = tells (NotInjected k h w) s
   injects false k h w bytes s = tells (Injected k h w bytes) (record s { raws = with_frames (λ fs. fs ++ bytes ∷ []) h w s.raws })
 
+  -- what is done; where it stops, a frame may be off its link by then, and claims made
+  unfoldable pub tries : Doing → ℕ → Scene → Acted
+  tries (Does (Turn v)) k s = does_turn (is_hostile v) k v s
+  tries (Does (Carry v w)) k s = does_carry (is_hostile v) k v w s
+  tries (Does (CutLink v w)) k s = acted (step_of k) (record s { raws = raws_cut v w s.raws }) [] (step play.script (CutLink v w) k s.world)
+  tries (Does (NoticeLink v w)) k s = does_notice (is_hostile v) k v w s
+  tries (Injects h w bytes) k s = injects (is_cut h w s.world.links) k h w bytes s
+
   unfoldable pub does : Doing → ℕ → Scene → Acted
-  does (Does (Turn v)) k s = does_turn (is_hostile v) k v s
-  does (Does (Carry v w)) k s = does_carry (is_hostile v) k v w s
-  does (Does (CutLink v w)) k s = acted (step_of k) (record s { raws = raws_cut v w s.raws }) [] (step play.script (CutLink v w) k s.world)
-  does (Does (NoticeLink v w)) k s = does_notice (is_hostile v) k v w s
-  does (Injects h w bytes) k s = injects (is_cut h w s.world.links) k h w bytes s
+  does d k s = or_leaves s (tries d k s)
 
   unfoldable pub does_all : List Doing → ℕ → Scene → Acted
   does_all [] k s = Plays s
@@ -427,5 +436,5 @@ module _ (play : Play) where
 
 -- opens each definition of this file, and of those below
 unfoldable pub opened_hostile : Unit {0}
-unfolding then_plays is_raw frames_at with_frames raws_cut told_since acted tells happens new_names counts newcomers name_in object_host shortened_host answer_if names_passed names_all names_value names_in_note makes_new message_deed message_deeds deeds_for asked_for said_on is_resolve subject_of is_empty is_hostile honest_before step_of entered_note placed_imports then_places receives receives_at swallows comes carry_notes carry_link noticed_after lines_behind severed_by malformed completed read_op tells_again said_beside said carries_said spoken heard_note lawful judged_frame frame_comes carry does_carry does_turn does_notice injects does does_all opens opens_from raw_of starts left_links closes acts opened_deeds opened_judge opened_entered opened_claims
+unfolding then_plays or_leaves is_raw frames_at with_frames raws_cut told_since acted tells happens new_names counts newcomers name_in object_host shortened_host answer_if names_passed names_all names_value names_in_note makes_new message_deed message_deeds deeds_for asked_for said_on is_resolve subject_of is_empty is_hostile honest_before step_of entered_note placed_imports then_places receives receives_at swallows comes carry_notes carry_link noticed_after lines_behind severed_by malformed completed read_op tells_again said_beside said carries_said spoken heard_note lawful judged_frame frame_comes carry does_carry does_turn does_notice injects tries does does_all opens opens_from raw_of starts left_links closes acts opened_deeds opened_judge opened_entered opened_claims
 opened_hostile = tt

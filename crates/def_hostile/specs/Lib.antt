@@ -1,5 +1,11 @@
 pub mod Judge
 pub mod Claims
 pub mod Hostile
+pub mod Plays
 pub mod ShownMarks
 pub mod HostileText
+pub mod Made
+pub mod Outsiders
+pub mod Arrivals
+pub mod Numbers
+pub mod NumbersText

@@ -1,7 +1,7 @@
 -- What the record of a hostile vat does, so as to have names for what it says, and what it does with a note that comes.
 use Rattle.std.specs.Prelude.{ℕ, zero, Bool, true, false, List, [], ◌∷◌}
-use Rattle.def_machine.specs.Values.{Name, IsAnswer, host_of}
-use Rattle.def_machine.specs.State.{Made, Note, Deliver, Act, ◌>>=◌, ◌>>◌, give, come, new_thing, new_promise, new_message, new_lone_message, draw}
+use Rattle.def_machine.specs.Values.{Name, host_of, answer_of}
+use Rattle.def_machine.specs.State.{Made, Note, Deliver, Act, ◌>>=◌, ◌>>◌, give, new_thing, new_promise, new_message, new_lone_message}
 use Rattle.def_machine.specs.Arrive.{New, learn_name, learn_message}
 use Rattle.def_run.specs.World.{Script, names, names_of, read_name}
 use Rattle.def_run.specs.World.{opened_world}
@@ -13,7 +13,6 @@ pub data Deed : Type 0 where
   NewMessage : ℕ → Deed
   -- a message without an answer
   NewLone : Deed
-  NewDraw : Deed
   -- a name of which it was told
   Learns : Name → Deed
 
@@ -23,7 +22,6 @@ module _ (script : Script) where
   perform v NewPromise = new_promise (names script v) >> give tt
   perform v (NewMessage h) = new_message (names script v) h >> give tt
   perform v NewLone = new_lone_message (names script v) >> give tt
-  perform v NewDraw = draw (names script v) >> give tt
   perform v (Learns n) = λ s. (learn_name (names script v) (read_name (names_of s) n) >> give tt) s
 
   -- one after another
@@ -31,9 +29,9 @@ module _ (script : Script) where
   perform_all v [] = give tt
   perform_all v (d ∷ ds) = perform v d >> perform_all v ds
 
-  -- a message comes, and its answer where it asks for one
+  -- a message comes, and its answer where it asks for one, which may be known: frames of this vat may have named it
   unfoldable pub hear_message : ℕ → Name → Bool → Act Name (Unit {0})
-  hear_message v m true = learn_message (names script v) (New m (host_of m)) >>= (λ id. come (names script v) (IsAnswer v id) v >> give tt)
+  hear_message v m true = learn_message (names script v) (New m (host_of m)) >>= (λ id. perform v (Learns (answer_of v id)))
   hear_message v m false = learn_message (names script v) (New m (host_of m)) >> give tt
 
   -- a note comes to a hostile vat, which hosts the answer of a message that comes and asks for one

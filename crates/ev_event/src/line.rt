@@ -21,7 +21,7 @@ use ev_base::{Memory, Msg, Name, Seq, Str, VatId};
 use std::alloc::{AllocError, Global};
 
 /// What an activation does, or how a line begins that says more of it.
-fn push_act(out: &mut String, id: u64, word: &str) -> Result<(), AllocError>
+pub fn push_act(out: &mut String, id: u64, word: &str) -> Result<(), AllocError>
     ensures { OnOk result (string_bytes out.new ≡ string_bytes out.old ++ spaced (activation id ∷ word.now ∷ [])) }
 {
     push_activation(out, id)?;
@@ -138,7 +138,7 @@ fn push_left_link(
 }
 
 /// A message that is lost.
-fn push_lost(out: &mut String, names: &[Str], id: &Msg, word: &str) -> Result<(), AllocError>
+pub fn push_lost(out: &mut String, names: &[Str], id: &Msg, word: &str) -> Result<(), AllocError>
     ensures { OnOk result (string_bytes out.new ≡ string_bytes out.old ++ spaced (codes "lost" ∷ message names.now id.now ∷ word.now ∷ [])) }
 {
     out.push_str("lost")?;
@@ -147,7 +147,7 @@ fn push_lost(out: &mut String, names: &[Str], id: &Msg, word: &str) -> Result<()
 }
 
 /// What an activation does with a message.
-fn push_message_act(
+pub fn push_message_act(
     out: &mut String,
     names: &[Str],
     id: u64,
@@ -262,7 +262,7 @@ fn push_made(
 }
 
 /// An answer.
-fn add_answer(out: &mut String, names: &[Str], answer: &Name) -> Result<(), AllocError>
+pub fn add_answer(out: &mut String, names: &[Str], answer: &Name) -> Result<(), AllocError>
     ensures { OnOk result (string_bytes out.new ≡ string_bytes out.old ++ flat_map (λ v. 32 ∷ v) (codes "->" ∷ name names.now answer.now ∷ [])) }
 {
     add_word(out, "->")?;
@@ -452,7 +452,7 @@ fn push_referred(
 }
 
 /// Appends the line of an event.
-fn push_event(
+pub fn push_event(
     alloc: Global,
     out: &mut String,
     names: &[Str],

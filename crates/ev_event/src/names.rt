@@ -9,7 +9,7 @@ use itoa::Buffer;
 use std::alloc::AllocError;
 
 /// Appends a number.
-pub(crate) fn push_number(out: &mut String, number: u64) -> Result<(), AllocError>
+pub fn push_number(out: &mut String, number: u64) -> Result<(), AllocError>
     ensures { OnOk result (string_bytes out.new ≡ string_bytes out.old ++ decimal number) }
 {
     let mut digits = Buffer::new();
@@ -17,7 +17,7 @@ pub(crate) fn push_number(out: &mut String, number: u64) -> Result<(), AllocErro
 }
 
 /// Appends an activation of a vat by its number.
-pub(crate) fn push_activation(out: &mut String, number: u64) -> Result<(), AllocError>
+pub fn push_activation(out: &mut String, number: u64) -> Result<(), AllocError>
     ensures { OnOk result (string_bytes out.new ≡ string_bytes out.old ++ activation number) }
 {
     out.push('!')?;
@@ -25,7 +25,7 @@ pub(crate) fn push_activation(out: &mut String, number: u64) -> Result<(), Alloc
 }
 
 /// Appends the name of a vat.
-pub(crate) fn push_vat(out: &mut String, names: &[Str], id: VatId) -> Result<(), AllocError>
+pub fn push_vat(out: &mut String, names: &[Str], id: VatId) -> Result<(), AllocError>
     ensures { OnOk result (string_bytes out.new ≡ string_bytes out.old ++ vat names.now id) }
 {
     match names.get(id.0 as usize) {
@@ -35,7 +35,7 @@ pub(crate) fn push_vat(out: &mut String, names: &[Str], id: VatId) -> Result<(),
 }
 
 /// Appends a thing of a vat by a mark and its number there.
-pub(crate) fn push_numbered(
+pub fn push_numbered(
     out: &mut String,
     names: &[Str],
     id: VatId,
@@ -51,7 +51,7 @@ pub(crate) fn push_numbered(
 }
 
 /// Appends a message.
-pub(crate) fn push_message(out: &mut String, names: &[Str], id: &Msg) -> Result<(), AllocError>
+pub fn push_message(out: &mut String, names: &[Str], id: &Msg) -> Result<(), AllocError>
     ensures { OnOk result (string_bytes out.new ≡ string_bytes out.old ++ message names.now id.now) }
 {
     push_numbered(out, names, id.sender, '/', id.number)
@@ -75,7 +75,7 @@ fn push_claimed(
 }
 
 /// Appends a name.
-pub(crate) fn push_name(out: &mut String, names: &[Str], id: &Name) -> Result<(), AllocError>
+pub fn push_name(out: &mut String, names: &[Str], id: &Name) -> Result<(), AllocError>
     ensures { OnOk result (string_bytes out.new ≡ string_bytes out.old ++ name names.now id.now) }
 {
     match id {

@@ -58,7 +58,7 @@ fn push_primitive(out: &mut String, primitive: PrimId) -> Result<(), AllocError>
 }
 
 /// Appends an integer.
-fn push_integer(out: &mut String, number: i128) -> Result<(), AllocError>
+pub fn push_integer(out: &mut String, number: i128) -> Result<(), AllocError>
     ensures { OnOk result (string_bytes out.new ≡ string_bytes out.old ++ signed_decimal number) }
 {
     let mut digits = Buffer::new();
@@ -66,7 +66,7 @@ fn push_integer(out: &mut String, number: i128) -> Result<(), AllocError>
 }
 
 /// Appends the problem of a broken reference.
-fn push_problem(alloc: Global, out: &mut String, problem: &str) -> Result<(), AllocError>
+pub fn push_problem(alloc: Global, out: &mut String, problem: &str) -> Result<(), AllocError>
     ensures { OnOk result (string_bytes out.new ≡ string_bytes out.old ++ (codes "broken:" ++ shortened problem.now)) }
 {
     out.push_str("broken:")?;
@@ -74,7 +74,7 @@ fn push_problem(alloc: Global, out: &mut String, problem: &str) -> Result<(), Al
 }
 
 /// Appends the name of a primitive between angle brackets.
-fn push_bracketed(out: &mut String, primitive: PrimId) -> Result<(), AllocError>
+pub fn push_bracketed(out: &mut String, primitive: PrimId) -> Result<(), AllocError>
     ensures { OnOk result (string_bytes out.new ≡ string_bytes out.old ++ 60 ∷ (primitive_name primitive ++ 62 ∷ [])) }
 {
     out.push('<')?;

@@ -12,7 +12,7 @@ use ev_text::push_verb;
 use std::alloc::{AllocError, Global};
 
 /// Appends a word.
-pub(crate) fn add_word(out: &mut String, word: &str) -> Result<(), AllocError>
+pub fn add_word(out: &mut String, word: &str) -> Result<(), AllocError>
     ensures { OnOk result (string_bytes out.new ≡ string_bytes out.old ++ 32 ∷ word.now) }
 {
     out.push(' ')?;
@@ -20,7 +20,7 @@ pub(crate) fn add_word(out: &mut String, word: &str) -> Result<(), AllocError>
 }
 
 /// Appends a verb.
-pub(crate) fn add_verb(out: &mut String, verb: &str) -> Result<(), AllocError>
+pub fn add_verb(out: &mut String, verb: &str) -> Result<(), AllocError>
     ensures { OnOk result (string_bytes out.new ≡ string_bytes out.old ++ 32 ∷ printed_verb verb.now) }
 {
     out.push(' ')?;
@@ -36,7 +36,7 @@ pub(crate) fn add_vat(out: &mut String, names: &[Str], id: VatId) -> Result<(), 
 }
 
 /// Appends a thing of a vat by a mark and its number there.
-pub(crate) fn add_numbered(
+pub fn add_numbered(
     out: &mut String,
     names: &[Str],
     id: (VatId, u64),
@@ -50,7 +50,7 @@ pub(crate) fn add_numbered(
 }
 
 /// Appends a message.
-pub(crate) fn add_message(out: &mut String, names: &[Str], id: &Msg) -> Result<(), AllocError>
+pub fn add_message(out: &mut String, names: &[Str], id: &Msg) -> Result<(), AllocError>
     ensures { OnOk result (string_bytes out.new ≡ string_bytes out.old ++ 32 ∷ message names.now id.now) }
 {
     out.push(' ')?;
@@ -58,7 +58,7 @@ pub(crate) fn add_message(out: &mut String, names: &[Str], id: &Msg) -> Result<(
 }
 
 /// Appends a name.
-pub(crate) fn add_name(out: &mut String, names: &[Str], id: &Name) -> Result<(), AllocError>
+pub fn add_name(out: &mut String, names: &[Str], id: &Name) -> Result<(), AllocError>
     ensures { OnOk result (string_bytes out.new ≡ string_bytes out.old ++ 32 ∷ name names.now id.now) }
 {
     out.push(' ')?;

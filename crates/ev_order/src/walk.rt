@@ -1,13 +1,13 @@
 //! What the lines of a trace say of the order of messages, gathered line by line.
 
 ghost use Rattle.std.specs.Prelude.{◌≡◌, ◌∷◌, ◌++◌, [], Some, None, length, map, IfOk, OnOk};
-ghost use Rattle.def_event.specs.Order.{is_object, note_carrying, vat_behind};
+ghost use Rattle.def_event.specs.Order.{is_object, note_carrying, raw_vat, vat_behind};
 ghost use Rattle.ev_order.specs.Chains.{IsChain, reference};
 ghost use Rattle.ev_order.specs.Walk.{Does, IsWalked, Steps, carries_of, deed_of, does_carry, does_send, does_take, started};
 
 use crate::chains::Chains;
 use crate::mentions::{Mention, Mentions};
-use def_event::{Event, Shown, ShownNote};
+use def_event::{Event, RawLine, Shown, ShownNote};
 use ev_base::{Memory, Msg, Name, Seq, VatId};
 use std::alloc::Global;
 use std::marker::Model;
@@ -31,6 +31,17 @@ impl Model for Walk {
     ghost view = { λ w. record { here = w.here; chain = w.chains; sent = w.sent; carried = w.carried; taken = w.taken } };
 }
 
+/// The vat of the lines behind a line about a frame: that to which the frame comes, and none where it is put on a link.
+fn raw_vat(here: Option<u8>, line: &RawLine) -> Option<u8>
+    ensures { result ≡ raw_vat here line.now }
+{
+    match line {
+        RawLine::Inject(_, _, _, _) | RawLine::InjectCut(_, _, _) => None,
+        RawLine::Malformed(_, _, vat, _) | RawLine::Bytes(_, _, vat, _) => Some(vat.0),
+        RawLine::LeftBytes(_, _, _) => here,
+    }
+}
+
 /// The vat of the lines behind an event.
 fn vat_behind(here: Option<u8>, event: &Event) -> Option<u8>
     ensures { result ≡ vat_behind here event.now }
@@ -39,6 +50,7 @@ fn vat_behind(here: Option<u8>, event: &Event) -> Option<u8>
         Event::Open(vat) | Event::Turn(_, vat) | Event::Notice(_, vat, _) => Some(vat.0),
         Event::Carry(_, _, reaches, _) => Some(reaches.0),
         Event::Idle(_) | Event::Cut(_, _, _) => None,
+        Event::Raw(line) => raw_vat(here, line),
         _ => here,
     }
 }

@@ -24,7 +24,7 @@ use Rattle.ev_script.proofs.RuleSteps.{IsStepOf, step_is, all_written, cuts_stan
 
 -- ---- what a chain of rules that gave something gave on its way
 
-gave : {A B : Type 0} (r : Result A ℕ) (f : A → Result B ℕ) (y : B) → (r >>= f) ≡ Ok y → (x : A) × (r ≡ Ok x) × (f x ≡ Ok y)
+pub gave : {A B : Type 0} (r : Result A ℕ) (f : A → Result B ℕ) (y : B) → (r >>= f) ≡ Ok y → (x : A) × (r ≡ Ok x) × (f x ≡ Ok y)
 gave (Ok x) f y e = (x, refl, e)
 gave (Err k) f y e = cc
 
@@ -37,16 +37,16 @@ upheld k true u e = refl
 upheld k false u e = cc
 
 -- a rule that gives, and a rule that holds, at the head of a chain
-by_rule : {A B : Type 0} (k : ℕ) (o : Option A) (f : A → Result B ℕ) (y : B) → (rule k o >>= f) ≡ Ok y → (x : A) × (o ≡ Some x) × (f x ≡ Ok y)
+pub by_rule : {A B : Type 0} (k : ℕ) (o : Option A) (f : A → Result B ℕ) (y : B) → (rule k o >>= f) ≡ Ok y → (x : A) × (o ≡ Some x) × (f x ≡ Ok y)
 by_rule k o f y e = let g = gave (rule k o) f y e in (g.0, ruled k o g.0 g.1, g.2)
 
-by_test : {B : Type 0} (k : ℕ) (b : Bool) (f : Unit {0} → Result B ℕ) (y : B) → (rule_holds k b >>= f) ≡ Ok y → (b ≡ true) × (f tt ≡ Ok y)
+pub by_test : {B : Type 0} (k : ℕ) (b : Bool) (f : Unit {0} → Result B ℕ) (y : B) → (rule_holds k b >>= f) ≡ Ok y → (b ≡ true) × (f tt ≡ Ok y)
 by_test k true f y e = (refl, e)
 by_test k false f y e = cc
 
 -- ---- the head
 
-key_is : (d : Data) (key : List ℕ) → key_of d ≡ Some key → length key ≡ 32
+pub key_is : (d : Data) (key : List ℕ) → key_of d ≡ Some key → length key ≡ 32
 key_is d key e =
     let a = answered (text_at (codes "key") d) key_from key e in
     let c = chosen (is_key a.0) (key_bytes a.0) key a.2 in
@@ -61,13 +61,13 @@ bounded_is n fuel e =
     let same = c.1 in
     (grind (arith, nat_tests), grind (arith, nat_tests))
 
-from_is : (o : Option Data) (fuel : ℕ) → fuel_from o ≡ Some fuel → (1 ≤ fuel) × (fuel ≤ 10000000)
+pub from_is : (o : Option Data) (fuel : ℕ) → fuel_from o ≡ Some fuel → (1 ≤ fuel) × (fuel ≤ 10000000)
 from_is None fuel e = let n : 1000000 ≡ fuel = some_same e in subst (λ f. (1 ≤ f) × (f ≤ 10000000)) n (omega arith, omega arith)
 from_is (Some d) fuel e = let a = answered (option_and_then as_u64 (as_number d)) bounded_fuel fuel e in bounded_is a.0 fuel a.2
 
 -- ---- the vats
 
-abbrev AreDescribed : List Described → Type 0
+abbrev pub AreDescribed : List Described → Type 0
 AreDescribed ds = (length ds ≤ 16) × (are_vat_names (names_of ds) ≡ true) × (list_all is_source ds ≡ true)
 
 few : (b : Bool) (vats : List Data) (ds : List Described) → nat_le (length vats) 16 ≡ b → (if b then each vat_of vats else None) ≡ Some ds → length ds ≤ 16
@@ -77,7 +77,7 @@ few true vats ds t e =
     subst (λ k. k ≤ 16) (sym n) m
 few false vats ds t e = cc
 
-described : (d : Data) (ds : List Described) → read_vats d ≡ Ok ds → AreDescribed ds
+pub described : (d : Data) (ds : List Described) → read_vats d ≡ Ok ds → AreDescribed ds
 unfolding read_vats
 described d ds e =
     let a = by_rule 5 (vats_of d) _ ds e in
@@ -100,7 +100,7 @@ all_named ds names sources =
     let s = AllPass-from_list_all is_source ds sources in
     λ k d lt. (n k d lt, short (get_or ds k d) (s k d lt))
 
-vats_are : (ds : List Described) (vats : List VatScript) → AreDescribed ds → FromPlace (length (names_of ds)) 0 ds vats → AreVats vats
+pub vats_are : (ds : List Described) (vats : List VatScript) → AreDescribed ds → FromPlace (length (names_of ds)) 0 ds vats → AreVats vats
 vats_are ds vats h from =
     let same = same_names (length (names_of ds)) 0 ds vats from in
     let b = both (list_all is_vat_name (names_of ds)) (differ (names_of ds)) h.1 in (
@@ -112,10 +112,10 @@ vats_are ds vats h from =
 
 -- ---- the schedule
 
-abbrev AreEntries : ℕ → List Entry → Type 0
+abbrev pub AreEntries : ℕ → List Entry → Type 0
 AreEntries count es = (length es ≤ most_entries) × All (IsEntryOf count) es
 
-within : {A : Type 0} (b : Bool) (x : A) (k : ℕ) (y : A) → if◌then◌else◌ {A = Result A ℕ} b (Ok x) (Err k) ≡ Ok y → (b ≡ true) × (x ≡ y)
+pub within : {A : Type 0} (b : Bool) (x : A) (k : ℕ) (y : A) → if◌then◌else◌ {A = Result A ℕ} b (Ok x) (Err k) ≡ Ok y → (b ≡ true) × (x ≡ y)
 within true x k y e = (refl, cc)
 within false x k y e = cc
 
@@ -141,14 +141,14 @@ schedule_is names d es e =
 
 -- ---- the whole
 
-count_of : (ds : List Described) → length (names_of ds) ≡ length ds
+pub count_of : (ds : List Described) → length (names_of ds) ≡ length ds
 count_of [] = refl
 count_of (d ∷ ds) = ap suc (count_of ds)
 
 abbrev value : {A : Type 0} → A → Result A ℕ
 value x = Ok x
 
-ok_same : {A : Type 0} {x y : A} → value x ≡ value y → x ≡ y
+pub ok_same : {A : Type 0} {x y : A} → value x ≡ value y → x ≡ y
 ok_same e = cc
 
 rest_is : (key : List ℕ) (fuel : ℕ) (ds : List Described) (d : Data) (script : Script) → length key ≡ 32 → (1 ≤ fuel) × (fuel ≤ 10000000) → AreDescribed ds → read_rest key fuel ds d ≡ Ok script → IsAdmitted script

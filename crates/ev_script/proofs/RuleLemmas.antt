@@ -101,7 +101,7 @@ place_below [] word k e = cc
 place_below (n ∷ names) word k e = below_if (bytes_eq word n) names word k (place_below names word) e
 
 -- places that stand once, behind those before them
-once : (before places : List ℕ) → stand_once before places ≡ true → AllPairs ◌≢◌ before → AllPairs ◌≢◌ (before ++ places)
+pub once : (before places : List ℕ) → stand_once before places ≡ true → AllPairs ◌≢◌ before → AllPairs ◌≢◌ (before ++ places)
 once before [] e h = subst (AllPairs ◌≢◌) (sym (append-nil before)) h
 once before (p ∷ ps) e h =
     let b = both (not (list_any (λ q. q == p) before)) (stand_once (before ++ p ∷ []) ps) e in

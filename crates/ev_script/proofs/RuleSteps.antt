@@ -21,11 +21,11 @@ use Rattle.ev_script.proofs.RuleLemmas.{both, chosen, answered, some_same, mappe
 
 -- ---- an entry as it is spelled: the vats that it names are those of places
 
-abbrev IsBelow : ℕ → Option ℕ → Type 0
+abbrev pub IsBelow : ℕ → Option ℕ → Type 0
 IsBelow count None = Unit {0}
 IsBelow count (Some k) = k < count
 
-abbrev IsSpelledOf : ℕ → Spelled → Type 0
+abbrev pub IsSpelledOf : ℕ → Spelled → Type 0
 IsSpelledOf count (spelled.Turn v) = IsBelow count v
 IsSpelledOf count (spelled.Pair verb v w) = IsBelow count v × IsBelow count w
 IsSpelledOf count (spelled.Drain n) = Unit {0}
@@ -34,7 +34,7 @@ below : (names : List (List ℕ)) (word : List ℕ) (o : Option ℕ) → place_o
 below names word None e = tt
 below names word (Some k) e = place_below names word k e
 
-word_below : (names : List (List ℕ)) (text : List ℕ) (v : Option ℕ) → vat_word names text ≡ Some v → IsBelow (length names) v
+pub word_below : (names : List (List ℕ)) (text : List ℕ) (v : Option ℕ) → vat_word names text ≡ Some v → IsBelow (length names) v
 word_below names text v e = let c = chosen _ _ v e in below names text v c.1
 
 turn_below : (names : List (List ℕ)) (rest : List ℕ) (s : Spelled) → turn_of names rest ≡ Some s → IsSpelledOf (length names) s
@@ -54,11 +54,11 @@ pair_below names word rest s e =
     let n : spelled.Pair a.0 c.0 d.0 ≡ s = some_same d.2 in
     subst (IsSpelledOf (length names)) n (word_below names b.0.0 c.0 c.1, word_below names b.0.1 d.0 d.1)
 
-either : {A : Type 0} (P : A → Type 0) (b : Bool) (o p : Option A) → ((x : A) → o ≡ Some x → P x) → ((x : A) → p ≡ Some x → P x) → (x : A) → (if b then o else p) ≡ Some x → P x
+pub either : {A : Type 0} (P : A → Type 0) (b : Bool) (o p : Option A) → ((x : A) → o ≡ Some x → P x) → ((x : A) → p ≡ Some x → P x) → (x : A) → (if b then o else p) ≡ Some x → P x
 either P true o p f g x e = f x e
 either P false o p f g x e = g x e
 
-told_below : (names : List (List ℕ)) (word rest : List ℕ) (s : Spelled) → told names word rest ≡ Some s → IsSpelledOf (length names) s
+pub told_below : (names : List (List ℕ)) (word rest : List ℕ) (s : Spelled) → told names word rest ≡ Some s → IsSpelledOf (length names) s
 told_below names word rest s e = either (IsSpelledOf (length names)) _ _ _ (turn_below names rest) (either (IsSpelledOf (length names)) _ _ _ (drain_below (length names) rest) (pair_below names word rest)) s e
 
 text_below : (names : List (List ℕ)) (text : List ℕ) (s : Spelled) → spelled_by names text ≡ Some s → IsSpelledOf (length names) s
@@ -94,7 +94,7 @@ turn_placed : (count : ℕ) (o : Option ℕ) (s : Step) → IsBelow count o → 
 turn_placed count (Some v) s l e = let n : step.Turn v ≡ s = some_same e in subst (IsStepOf count) n l
 turn_placed count None s l e = cc
 
-step_placed : (count : ℕ) (x : Spelled) (s : Step) → IsSpelledOf count x → placed x ≡ Some s → IsStepOf count s
+pub step_placed : (count : ℕ) (x : Spelled) (s : Step) → IsSpelledOf count x → placed x ≡ Some s → IsStepOf count s
 step_placed count (spelled.Turn v) s h e = turn_placed count v s h e
 step_placed count (spelled.Pair v a b) s h e = pair_placed count v a b s h.0 h.1 e
 step_placed count (spelled.Drain n) s h e = let m : step.Rounds n ≡ s = some_same e in subst (IsStepOf count) m tt
@@ -143,7 +143,7 @@ rounds_are P (suc n) es h = All-append P es (repeat n es) h (rounds_are P n es h
 alone : (count : ℕ) (e : Entry) → IsEntryOf count e → All (IsEntryOf count) (e ∷ [])
 alone count e h = All-cons (IsEntryOf count) e [] h (All-nil (IsEntryOf count))
 
-step_written : (count : ℕ) (s : Step) → IsStepOf count s → All (IsEntryOf count) (written (round count) s)
+pub step_written : (count : ℕ) (s : Step) → IsStepOf count s → All (IsEntryOf count) (written (round count) s)
 step_written count (step.Turn v) h = alone count (Turn v) h
 step_written count (step.Carry v w) h = alone count (Carry v w) h
 step_written count (step.Cut v w) h = alone count (Cut v w) h

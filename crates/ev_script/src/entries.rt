@@ -21,7 +21,7 @@ const MOST_ROUNDS: u32 = 100_000;
 
 /// What an entry does with two vats.
 #[derive(Clone, Copy)]
-pub(crate) enum Verb {
+pub enum Verb {
     Carry,
     Cut,
     Notice,
@@ -29,7 +29,7 @@ pub(crate) enum Verb {
 
 /// An entry as it is spelled: a word that names no vat has none.
 #[derive(Clone, Copy)]
-pub(crate) enum Spelled {
+pub enum Spelled {
     Turn(Option<VatId>),
     Pair(Verb, Option<VatId>, Option<VatId>),
     Drain(u32),
@@ -37,7 +37,7 @@ pub(crate) enum Spelled {
 
 /// An entry whose vats are found, or so many rounds.
 #[derive(Clone, Copy)]
-pub(crate) enum Step {
+pub enum Step {
     Turn(VatId),
     Carry(VatId, VatId),
     Cut(VatId, VatId),
@@ -58,7 +58,7 @@ fn is_word(text: &str) -> bool
 }
 
 /// The vat that a word names, and none where the text is no word.
-fn vat_word(names: &[Str], text: &str) -> Option<Option<VatId>>
+pub fn vat_word(names: &[Str], text: &str) -> Option<Option<VatId>>
     requires { length names.now ≤ 16 }
     ensures { result ≡ vat_word names.now text.now }
 {
@@ -155,7 +155,7 @@ fn pair_of(names: &[Str], word: &str, rest: &str) -> Option<Spelled>
 }
 
 /// What a verb and the words behind it spell.
-fn told(names: &[Str], word: &str, rest: &str) -> Option<Spelled>
+pub fn told(names: &[Str], word: &str, rest: &str) -> Option<Spelled>
     requires { length names.now ≤ 16 }
     ensures { result ≡ told names.now word.now rest.now }
 {
@@ -233,7 +233,7 @@ fn placed_pair(verb: Verb, from: Option<VatId>, to: Option<VatId>) -> Option<Ste
 }
 
 /// The step of an entry, where its vats are there and differ.
-fn placed(entry: Spelled) -> Option<Step>
+pub fn placed(entry: Spelled) -> Option<Step>
     ensures { result ≡ placed entry }
 {
     match entry {

@@ -31,7 +31,7 @@ fn is_hex_digit(byte: u8) -> bool
     byte.is_ascii_digit() || (byte >= b'a' && byte <= b'f')
 }
 
-fn are_hex_digits(bytes: &[u8]) -> bool
+pub fn are_hex_digits(bytes: &[u8]) -> bool
     ensures { result ≡ list_all is_hex_digit bytes.now }
 {
     bytes.iter().all(|byte| is_hex_digit(*byte))
@@ -59,7 +59,7 @@ fn hex_value(byte: u8) -> u8
 }
 
 /// The byte that two digits spell.
-fn key_byte(digits: &[u8], place: usize) -> u8
+pub fn key_byte(digits: &[u8], place: usize) -> u8
     requires { 2 * place + 1 < length digits.now }
     ensures { result ≡ key_byte digits.now place }
 {
@@ -88,7 +88,7 @@ fn key_from(text: &str) -> Option<[u8; 32]>
 }
 
 /// The key of a script.
-pub(crate) fn key_of(value: &Value) -> Option<[u8; 32]>
+pub fn key_of(value: &Value) -> Option<[u8; 32]>
     ensures { result ≡ key_of (view value.now) }
 {
     match text_at(value, "key") {
@@ -98,7 +98,7 @@ pub(crate) fn key_of(value: &Value) -> Option<[u8; 32]>
 }
 
 /// The fuel of a script, which is the usual one where the script does not say.
-pub(crate) fn fuel_of(value: &Value) -> Option<u32>
+pub fn fuel_of(value: &Value) -> Option<u32>
     ensures { result ≡ fuel_of (view value.now) }
 {
     let Some(member) = value.get("fuel") else {

@@ -10,7 +10,7 @@ use serde_json::{Category, Value};
 use std::alloc::Global;
 
 /// The JSON value of the bytes.
-pub(crate) fn read_json(alloc: Global, bytes: &[u8]) -> Result<Option<Value>, Memory>
+pub fn read_json(alloc: Global, bytes: &[u8]) -> Result<Option<Value>, Memory>
     ensures { IfOk result (λ o. option_map view o ≡ json_of bytes.now) }
 {
     match Value::from_slice(alloc, bytes) {
@@ -23,7 +23,7 @@ pub(crate) fn read_json(alloc: Global, bytes: &[u8]) -> Result<Option<Value>, Me
 }
 
 /// Whether the value is an object of so many members.
-pub(crate) fn has_count(value: &Value, count: usize) -> bool
+pub fn has_count(value: &Value, count: usize) -> bool
     ensures { result ≡ has_count count (as_object (view value.now)) }
 {
     match value.as_object() {
@@ -33,7 +33,7 @@ pub(crate) fn has_count(value: &Value, count: usize) -> bool
 }
 
 /// Whether the value is an object with a member of this name.
-pub(crate) fn has_member(value: &Value, name: &str) -> bool
+pub fn has_member(value: &Value, name: &str) -> bool
     ensures { result ≡ is_some (get name.now (view value.now)) }
 {
     value.get(name).is_some()
@@ -48,14 +48,14 @@ pub(crate) fn text_at<'v>(value: &'v Value, name: &str) -> Option<&'v str>
 
 /// The items of a value that is a list.
 #[tactic(auto, using(crate::proofs::JsonLemmas::listed_items_of))]
-fn list_of(value: &Value) -> Option<&[Value]>
+pub fn list_of(value: &Value) -> Option<&[Value]>
     ensures { option_map (λ list. map view list.now) result ≡ list_of (view value.now) }
 {
     value.as_array().map(Vec::as_slice)
 }
 
 /// The items of the member that is a list.
-pub(crate) fn list_at<'v>(value: &'v Value, name: &str) -> Option<&'v [Value]>
+pub fn list_at<'v>(value: &'v Value, name: &str) -> Option<&'v [Value]>
     ensures { option_map (λ list. map view list.now) result ≡ list_at name.now (view value.now) }
 {
     value.get(name).and_then(list_of)

@@ -17,7 +17,7 @@ use std::alloc::Global;
 
 /// What the script says of its vats: rules 5 to 7.
 #[tactic(auto, unfolding(crate::specs::Script::read_vats))]
-fn read_vats(alloc: Global, value: &Value) -> Result<Seq<Described>, ScriptFault>
+pub fn read_vats(alloc: Global, value: &Value) -> Result<Seq<Described>, ScriptFault>
     ensures reads { Reads result (read_vats (view value.now)) }
     ensures few { IfOk result (λ vats. length vats ≤ 16) }
 {

@@ -54,7 +54,7 @@ fn push_carries(out: &mut Vec<Entry>, vats: u8) -> Result<(), Memory>
 }
 
 /// One round of a drain over so many vats.
-pub(crate) fn round_of(alloc: Global, vats: u8) -> Result<Vec<Entry>, Memory>
+pub fn round_of(alloc: Global, vats: u8) -> Result<Vec<Entry>, Memory>
     ensures { IfOk result (λ entries. entries.items ≡ round vats) }
 {
     let mut entries = Vec::new(alloc);
@@ -64,7 +64,7 @@ pub(crate) fn round_of(alloc: Global, vats: u8) -> Result<Vec<Entry>, Memory>
 }
 
 /// How many entries a step is, and none where they are more than a `u64` counts.
-fn size_of(round: &[Entry], step: Step) -> Option<u64>
+pub fn size_of(round: &[Entry], step: Step) -> Option<u64>
     ensures { MatchOption result (most_entries < length (written round.now step)) (λ size. size ≡ length (written round.now step)) }
 {
     match step {
@@ -106,7 +106,7 @@ fn push_rounds(out: &mut Vec<Entry>, round: &[Entry], rounds: u32) -> Result<(),
 }
 
 /// Appends the entries of a step.
-fn push_step(out: &mut Vec<Entry>, round: &[Entry], step: Step) -> Result<(), Memory>
+pub fn push_step(out: &mut Vec<Entry>, round: &[Entry], step: Step) -> Result<(), Memory>
     ensures { OnOk result (out.new.items ≡ out.old.items ++ written round.now step) }
 {
     match step {
@@ -187,7 +187,7 @@ fn note_cut(kept: &mut Vec<Entry>, entry: Entry) -> Result<(), Memory>
 }
 
 /// Whether before each notice stands a cut of the same two vats.
-pub(crate) fn are_in_order(alloc: Global, entries: &[Entry]) -> Result<bool, Memory>
+pub fn are_in_order(alloc: Global, entries: &[Entry]) -> Result<bool, Memory>
     ensures { IfOk result (λ ordered. ordered ≡ are_in_order [] entries.now) }
 {
     let mut kept = Vec::new(alloc);

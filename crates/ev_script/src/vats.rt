@@ -22,7 +22,7 @@ const MOST_VATS: usize = 16;
 
 /// What a script says of a vat.
 #[derive(Drop)]
-pub(crate) struct Described {
+pub struct Described {
     pub name: Str,
     /// The names of the vats that it knows.
     pub knows: Seq<Str>,
@@ -139,7 +139,7 @@ fn is_vat_name(word: &str) -> bool
 }
 
 /// The names of the vats.
-pub(crate) fn names_of(alloc: Global, vats: &[Described]) -> Result<Seq<Str>, Memory>
+pub fn names_of(alloc: Global, vats: &[Described]) -> Result<Seq<Str>, Memory>
     ensures names { IfOk result (λ names. names ≡ names_of vats.now) }
     ensures as_many { IfOk result (λ names. length names ≡ length vats.now) }
 {
@@ -199,7 +199,7 @@ pub(crate) fn are_sources(vats: &[Described]) -> bool
 }
 
 /// The vat of this name.
-pub(crate) fn place_of(names: &[Str], word: &str) -> Option<VatId>
+pub fn place_of(names: &[Str], word: &str) -> Option<VatId>
     requires { length names.now ≤ 16 }
     ensures { result ≡ place_of names.now word.now }
 {
@@ -236,7 +236,7 @@ fn has_vat(places: &[VatId], vat: VatId) -> bool
 }
 
 /// Whether no vat stands twice. Among more than 16 the second is found early.
-fn stand_once(places: &[VatId]) -> bool
+pub fn stand_once(places: &[VatId]) -> bool
     ensures { result ≡ stand_once [] places.now }
 {
     for i in 0..places.len() {
@@ -275,7 +275,7 @@ fn known(
 }
 
 /// The vats of a script with whom each knows, where each knows others only and none twice.
-pub(crate) fn known_by_all(
+pub fn known_by_all(
     alloc: Global,
     names: &[Str],
     vats: &[Described],

@@ -7,6 +7,17 @@ use Rattle.ev_see_top.specs.Due.{Debt}
 use Rattle.ev_see_top.specs.declared.status.SeeStatus.{SeeStatus}
 use Rattle.ev_see_top.specs.declared.status.SeeStatus.TheVariants.{ReadFault, WriteFault, Memory}
 
+-- a status that tells no fault and no want of memory
+abbrev pub IsPlain : SeeStatus → Type 0
+IsPlain ReadFault = ⊥
+IsPlain WriteFault = ⊥
+IsPlain Memory = ⊥
+IsPlain _ = Unit {0}
+
+-- it ends so, or with a fault of writing that has its cause
+abbrev pub EndsBy : Type 0 → SeeStatus → SeeStatus → Type 0
+EndsBy Cause status result = (result ≡ status) ⊎ ((result ≡ WriteFault) × Cause)
+
 -- all of it, with its status
 abbrev pub IsPaid : Debt → SeeStatus → List ℕ → List ℕ → Type 0
 IsPaid debt result written noted = (result ≡ debt.status) × (written ≡ debt.out) × (noted ≡ debt.err)
@@ -29,7 +40,8 @@ abbrev pub Finishes : Debt → Option (List ℕ) → Option (List ℕ) → Optio
 Finishes debt held held' told told' result =
     (written : List ℕ) × (noted : List ℕ) × Appends held held' written × Appends told told' noted × (IsPaid debt result written noted ⊎ IsCutShort debt result written noted)
 
-abbrev pub Pays : Debt → Option (List ℕ) → Option (List ℕ) → Option (List ℕ) → Option (List ℕ) → SeeStatus → Type 0
-Pays debt held held' told told' result =
+-- of some debt that is due
+abbrev pub Pays : (Debt → Type 0) → Option (List ℕ) → Option (List ℕ) → Option (List ℕ) → Option (List ℕ) → SeeStatus → Type 0
+Pays Due held held' told told' result =
     (written : List ℕ) × (noted : List ℕ) × Appends held held' written × Appends told told' noted
-    × (IsPaid debt result written noted ⊎ (IsCutShort debt result written noted ⊎ IsUnpaid result written noted))
+    × (((debt : Debt) × Due debt × (IsPaid debt result written noted ⊎ IsCutShort debt result written noted)) ⊎ IsUnpaid result written noted)

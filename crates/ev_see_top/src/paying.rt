@@ -1,7 +1,9 @@
 //! Writing an answer.
 
+ghost use Rattle.std.specs.Prelude.{◌⊎◌};
+ghost use Rattle.ev_io.specs.Causes.{Rose};
 ghost use Rattle.ev_see_top.specs.Due.{debt_of};
-ghost use Rattle.ev_see_top.specs.Paying.{Ends, Finishes};
+ghost use Rattle.ev_see_top.specs.Paying.{Ends, EndsBy, Finishes};
 
 use crate::answer::Answer;
 use crate::status::SeeStatus;
@@ -9,7 +11,8 @@ use ev_io::{Sink, write_all};
 
 /// Writes the text with which a status ends.
 fn end<L: Sink>(err: &mut L, status: SeeStatus, text: &[u8]) -> SeeStatus
-    ensures { Ends status text.now (L.written err.old) (L.written err.new) result }
+    ensures text { Ends status text.now (L.written err.old) (L.written err.new) result }
+    ensures fault { EndsBy (Rose (L.faults err.old) (L.faults err.new)) status result }
 {
     match write_all(err, text) {
         Ok(()) => status,
@@ -19,7 +22,8 @@ fn end<L: Sink>(err: &mut L, status: SeeStatus, text: &[u8]) -> SeeStatus
 
 /// Writes an answer, first to the first sink. It ends with `WriteFault` where a sink fails, with fronts written.
 pub fn pay<K: Sink, L: Sink>(out: &mut K, err: &mut L, answer: &Answer) -> SeeStatus
-    ensures { Finishes (debt_of answer.now) (K.written out.old) (K.written out.new) (L.written err.old) (L.written err.new) result }
+    ensures text { Finishes (debt_of answer.now) (K.written out.old) (K.written out.new) (L.written err.old) (L.written err.new) result }
+    ensures fault { EndsBy (Rose (K.faults out.old) (K.faults out.new) ⊎ Rose (L.faults err.old) (L.faults err.new)) answer.now.status result }
 {
     match write_all(out, answer.out.as_bytes()) {
         Ok(()) => end(err, answer.status, answer.err.as_bytes()),

@@ -1,7 +1,7 @@
 //! What the words of the command ask.
 
 ghost use Rattle.std.specs.Prelude.{◌≡◌};
-ghost use Rattle.ev_see_top.specs.Asked.{question_of, word_asks};
+ghost use Rattle.ev_see_top.specs.Asked.{question_of, word_asks, words_ask};
 
 use ev_base::Str;
 
@@ -14,6 +14,12 @@ pub enum Question {
     Version,
     /// `messages`
     Messages,
+    /// `draw`
+    Draw,
+    /// `why`
+    Why,
+    /// `why --strict`
+    Strict,
     /// Other words.
     Unknown,
 }
@@ -29,9 +35,24 @@ fn word_asks(word: &str) -> Question
         Question::Version
     } else if word == "messages" {
         Question::Messages
+    } else if word == "draw" {
+        Question::Draw
+    } else if word == "why" {
+        Question::Why
     } else {
         Question::Unknown
     }
+}
+
+/// What two words ask.
+#[tactic(auto, unfolding(crate::specs::Asked::words_ask))]
+fn words_ask(first: &str, second: &str) -> Question
+    ensures { result ≡ words_ask first.now second.now }
+{
+    if first == "why" && second == "--strict" {
+        return Question::Strict;
+    }
+    Question::Unknown
 }
 
 /// What the words of a command ask.
@@ -41,6 +62,7 @@ pub fn question_of(words: &[Str]) -> Question
 {
     match words {
         [word] => word_asks(word.as_str()),
+        [first, second] => words_ask(first.as_str(), second.as_str()),
         _ => Question::Unknown,
     }
 }

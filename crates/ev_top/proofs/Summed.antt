@@ -11,7 +11,7 @@ use Rattle.def_run.specs.Numbers.{Course, Runs, Halts}
 use Rattle.law_frame.specs.Local.Mirrors.{RunMirrors}
 use Rattle.def_run.specs.Steady.{RunsSteadily}
 use Rattle.law_schedule.specs.Scripts.{machine_entry, tree_at}
-use Rattle.law_read.proofs.ReadScripts.Meets.{meets}
+use Rattle.law_accepted.proofs.Meets.{meets}
 use Rattle.ev_reader.specs.declared.accepted.Scoped.{Scoped}
 use Rattle.ev_script.specs.Rules.{IsAdmitted}
 use Rattle.ev_script.specs.declared.script.Script.{Script}

@@ -28,7 +28,7 @@ use std::alloc::Global;
 
 /// What a command asks for, of bytes that are few enough.
 #[tactic(auto, using(crate::proofs::DueLemmas::due_few, crate::proofs::DueLemmas::whole))]
-fn reply_bytes(alloc: Global, command: Command, bytes: &[u8]) -> Result<Owed, Memory>
+pub(crate) fn reply_bytes(alloc: Global, command: Command, bytes: &[u8]) -> Result<Owed, Memory>
     requires { length bytes.now ≤ most_bytes }
     ensures due { IfOk result (λ owed. IsDue (Some command) bytes.now (debt_of owed).status (debt_of owed).text) }
     ensures whole { IfOk result (λ owed. IsOfWhole (debt_of owed).status) }
@@ -47,7 +47,7 @@ fn reply_bytes(alloc: Global, command: Command, bytes: &[u8]) -> Result<Owed, Me
 
 /// What a command asks for, of bytes that are too many.
 #[tactic(auto, using(crate::proofs::DueLemmas::due_long))]
-fn reply_long(alloc: Global, command: Command) -> Result<Reply, Memory>
+pub(crate) fn reply_long(alloc: Global, command: Command) -> Result<Reply, Memory>
     requires { reads command ≡ true }
     ensures due { (input : List ℕ) → most_bytes < length input → IfOk result (λ reply. IsDue (Some command) input reply.status (string_bytes reply.text)) }
     ensures long { IfOk result (λ reply. reply.status ≡ Status.TooLong) }
@@ -78,7 +78,7 @@ fn reply_to<S: Source>(alloc: Global, command: Command, src: &mut S) -> Result<O
 
 /// What a command asks for that reads nothing.
 #[tactic(auto, using(crate::proofs::Unread::due_whatever))]
-fn reply_unread(alloc: Global, command: Command) -> Result<Owed, Memory>
+pub(crate) fn reply_unread(alloc: Global, command: Command) -> Result<Owed, Memory>
     requires { reads command ≡ false }
     ensures due { (input : List ℕ) → IfOk result (λ owed. IsDue (Some command) input (debt_of owed).status (debt_of owed).text) }
     ensures whole { IfOk result (λ owed. IsOfWhole (debt_of owed).status) }

@@ -1,17 +1,18 @@
 -- Answers follow their messages, in each world that is reached with hostile vats.
-use mathlib.Core.Bool.{false}
-use Rattle.std.proofs.Common.{◌≡◌, ℕ, List, [], ◌∷◌, ◌++◌, Some, refl, sym, subst, ap, ◌∙◌, ◌⊎◌, inl, inr, length, arith, Bool, true}
+use Rattle.std.proofs.Common.{◌≡◌, ℕ, List, [], ◌∷◌, ◌++◌, Some, refl, sym, subst, ap, ◌∙◌, ◌⊎◌, inl, inr, length, arith, Bool, true, false}
 use Rattle.std.specs.Prelude.{slice_get}
-use Rattle.def_machine.specs.Values.{Name, Promise, Answer, Sent, Msg, IsAnswer, host_of, naming, name_of, answer_of, mail_of}
+use Rattle.def_machine.specs.Values.{Name, Promise, Answer, Sent, Msg, host_of, naming, name_of, answer_of, mail_of}
 use Rattle.def_machine.specs.State.{Known, Note, Deliver, Put, Vat, Done, Gives, ◌>>=◌, ◌>>◌, and_then, give, come, mail, send_out, begun}
 use Rattle.def_machine.specs.Arrive as arrive
-use Rattle.def_machine.specs.Arrive.{New}
+use Rattle.def_machine.specs.Arrive.{Old, New}
 use Rattle.def_run.specs.Wire.{Connected}
-use Rattle.def_run.specs.World.{next_frame, Script, Program, Event, Carried, Link, World, link_at, put_at, push_all, with_link, with_notes, readied, names, names_of, read_note}
+use Rattle.def_run.specs.World as world
+use Rattle.def_run.specs.World.{is_old, next_frame, Script, Program, Event, Carried, Link, World, link_at, put_at, push_all, with_link, with_notes, readied, names, names_of, read_note}
 use Rattle.law_machine.specs.Machine.Steps.{Receives, does}
 use Rattle.law_fate.specs.Name.Names.{AllOf, IsAmong, IsMessageMade, NoteOk, names_in, Once}
 use Rattle.law_fate.proofs.Name.Among.{among_more, among_last, among_or, names_end}
 use Rattle.law_fate.proofs.Name.Run.{Stands, Told}
+use Rattle.law_fate.proofs.Name.SameNames.{old_known}
 use Rattle.law_reference.proofs.Reference.OwnRuns.{InScript}
 use Rattle.law_reference.proofs.Reference.NotesRuns.{links_of}
 use Rattle.law_reference.specs.Reference.Behind.{Avoids, Bears, IsKnownTo}
@@ -22,7 +23,7 @@ use Rattle.law_reference.proofs.Reference.First.{PutsFirst}
 use Rattle.law_reference.proofs.Reference.Follow.{put_cases, goes_known, goes_follow}
 use Rattle.law_reference.proofs.Reference.FollowRuns.{Past, Holds, after_gives, taken_known, taken_follow, stepped_follow, outs_known, there_next, bearer_known, arrives_first, holds_on, begins_holds}
 use Rattle.law_reference.proofs.Reference.Moves.{Does, waiting, entry_moves, opening_moves, get_mid}
-use Rattle.law_machine.specs.Run.Moves.{Deed, Move, Opened, Stepped, Swallowed, Says, AnyNotice, Performs, went, without, hear, hear_message}
+use Rattle.law_machine.specs.Run.Moves.{Deed, Move, Opened, Stepped, Swallowed, Says, AnyNotice, Performs, went, without, perform, hear, hear_message}
 use Rattle.law_adversary.specs.Moves.{FrameMove, Usual, Recorded, Framed, Received, FramesFollow, entered_at, sight_at, framed_on, placed_from}
 use Rattle.law_adversary.proofs.Lift.{frames_lifted}
 use Rattle.law_hostile.specs.Hostile as hostile
@@ -83,13 +84,13 @@ module _ (script : Script) (hs : List ℕ) where
 
   -- ---- what comes
 
-  given_known : (v : ℕ) (n : Name) (a x b : Vat Name) → x.known ≡ a.known ++ begun n v ∷ [] → host_of n ≡ v → Gives (tt {0}) x ≡ Gives (tt {0}) b → (z : Name) → IsAmong z (names_in b.known) → IsAmong z (names_in a.known) ⊎ (host_of z ≡ v)
+  given_known : (v g : ℕ) (n : Name) (a x b : Vat Name) → x.known ≡ a.known ++ begun n g ∷ [] → host_of n ≡ v → Gives (tt {0}) x ≡ Gives (tt {0}) b → (z : Name) → IsAmong z (names_in b.known) → IsAmong z (names_in a.known) ⊎ (host_of z ≡ v)
   unfolding begun
-  given_known v n a x b i h e z k = let same : x ≡ b = cc in let one : IsAmong z (names_in x.known) = rw (sym same) at k in let two : IsAmong z (names_in (a.known ++ begun n v ∷ [])) = rw (ap names_in i) at one in
+  given_known v g n a x b i h e z k = let same : x ≡ b = cc in let one : IsAmong z (names_in x.known) = rw (sym same) at k in let two : IsAmong z (names_in (a.known ++ begun n g ∷ [])) = rw (ap names_in i) at one in
       either (among_or z (names_in a.known) n (three two))
     where
-      three : IsAmong z (names_in (a.known ++ begun n v ∷ [])) → IsAmong z (names_in a.known ++ n ∷ [])
-      three m = rw (names_end a.known (begun n v)) at m
+      three : IsAmong z (names_in (a.known ++ begun n g ∷ [])) → IsAmong z (names_in a.known ++ n ∷ [])
+      three m = rw (names_end a.known (begun n g)) at m
 
       either : IsAmong z (names_in a.known) ⊎ (z ≡ n) → IsAmong z (names_in a.known) ⊎ (host_of z ≡ v)
       either (inl m) = inl m
@@ -98,9 +99,15 @@ module _ (script : Script) (hs : List ℕ) where
   given_same : (v : ℕ) (a b : Vat Name) → Gives (tt {0}) a ≡ Gives (tt {0}) b → (z : Name) → IsAmong z (names_in b.known) → IsAmong z (names_in a.known) ⊎ (host_of z ≡ v)
   given_same v a b e z k = let same : a ≡ b = cc in inl (rw (sym same) at k)
 
-  message_known : (v : ℕ) (vats : List (Vat Name)) (m : Name) (a b : Vat Name) → IsMessageMade vats m → (arrive.learn_message (names script v) (New m (host_of m)) >>= (λ id. come (names script v) (IsAnswer v id) v >> give (tt {0}))) a ≡ Gives (tt {0}) b → (z : Name) → IsAmong z (names_in b.known) → IsAmong z (names_in a.known) ⊎ (host_of z ≡ v)
-  unfolding ◌>>=◌ ◌>>◌ and_then give arrive.learn_message mail come names naming name_of mail_of answer_of host_of
-  message_known v vats (Sent x) a b m e = given_known v (Answer v x) a _ b refl refl e
+  -- a name of the vat's own that is learnt, be it known or not
+  learnt_known : (v : ℕ) (n : Name) (a b : Vat Name) (c : Bool) → host_of n ≡ v → and_then {B = Unit {0}} (arrive.learn_name (names script v) (elim c [ true ↦ Old n | false ↦ New n (host_of n) ]) a) (λ _. give (tt {0})) ≡ Gives (tt {0}) b → (z : Name) → IsAmong z (names_in b.known) → IsAmong z (names_in a.known) ⊎ (host_of z ≡ v)
+  unfolding and_then give arrive.learn_name come names naming name_of
+  learnt_known v n a b true h e = given_same v a b e
+  learnt_known v n a b false h e = given_known v (host_of n) n a _ b refl h e
+
+  message_known : (v : ℕ) (vats : List (Vat Name)) (m : Name) (a b : Vat Name) → IsMessageMade vats m → hear_message script v m true a ≡ Gives (tt {0}) b → (z : Name) → IsAmong z (names_in b.known) → IsAmong z (names_in a.known) ⊎ (host_of z ≡ v)
+  unfolding hear_message perform names names_of ◌>>=◌ ◌>>◌ world.read_name and_then give arrive.learn_message mail naming mail_of answer_of host_of
+  message_known v vats (Sent x) a b m e = learnt_known v (Answer v x) (record a { mails = a.mails ++ Sent x ∷ [] }) b _ refl e
   message_known v vats other a b m e = absurd m
 
   lone_known : (v : ℕ) (m : Name) (a b : Vat Name) → (arrive.learn_message (names script v) (New m (host_of m)) >> give (tt {0})) a ≡ Gives (tt {0}) b → (z : Name) → IsAmong z (names_in b.known) → IsAmong z (names_in a.known) ⊎ (host_of z ≡ v)
@@ -117,13 +124,19 @@ module _ (script : Script) (hs : List ℕ) where
   heard_known v w (Deliver d x verb ys) a b o e = hears_known v w.vats d.message d.asks a b o.0.0 e
   heard_known v w other a b o e = given_same v a b e
 
-  answer_comes : (v : ℕ) (m : Msg) (a b : Vat Name) → (arrive.learn_message (names script v) (New (Sent m) (host_of (Sent m))) >>= (λ id. come (names script v) (IsAnswer v id) v >> give (tt {0}))) a ≡ Gives (tt {0}) b → IsAmong (Answer v m) (names_in b.known)
-  unfolding ◌>>=◌ ◌>>◌ and_then give arrive.learn_message mail come names naming name_of mail_of answer_of begun
-  answer_comes v m a b e = at_end _ b refl e
+  -- an answer that is learnt is known, be it for the first time or not
+  learnt_among : (v : ℕ) (m : Msg) (a b : Vat Name) (c : Bool) → is_old (names_in a.known) (Answer v m) ≡ c → and_then {B = Unit {0}} (arrive.learn_name (names script v) (elim c [ true ↦ Old (Answer v m) | false ↦ New (Answer v m) v ]) a) (λ _. give (tt {0})) ≡ Gives (tt {0}) b → IsAmong (Answer v m) (names_in b.known)
+  unfolding and_then give arrive.learn_name come names naming name_of begun
+  learnt_among v m a b true i e = let same : a ≡ b = cc in let one : IsAmong (Answer v m) (names_in a.known) = old_known (names_in a.known) (Answer v m) i in rw same at one
+  learnt_among v m a b false i e = at_end _ b refl e
     where
       at_end : (x b : Vat Name) → x.known ≡ a.known ++ begun (Answer v m) v ∷ [] → Gives (tt {0}) x ≡ Gives (tt {0}) b → IsAmong (Answer v m) (names_in b.known)
       at_end x b i e = let same : x ≡ b = cc in let last : IsAmong (Answer v m) (names_in (a.known ++ begun (Answer v m) v ∷ [])) = rw (sym (names_end a.known (begun (Answer v m) v))) at (among_last (names_in a.known) (Answer v m)) in
           let one : IsAmong (Answer v m) (names_in x.known) = rw (sym (ap names_in i)) at last in rw same at one
+
+  answer_comes : (v : ℕ) (m : Msg) (a b : Vat Name) → hear_message script v (Sent m) true a ≡ Gives (tt {0}) b → IsAmong (Answer v m) (names_in b.known)
+  unfolding hear_message perform names names_of ◌>>=◌ ◌>>◌ world.read_name and_then give arrive.learn_message mail naming mail_of answer_of host_of
+  answer_comes v m a b e = learnt_among v m (record a { mails = a.mails ++ Sent m ∷ [] }) b _ refl e
 
   bearer_heard : (v : ℕ) (m : Msg) (n : Note Name) (a b : Vat Name) → hear script v n a ≡ Gives tt b → Bears m (Answer v m) n → IsAmong (Answer v m) (names_in b.known)
   unfolding hear hear_message
@@ -225,15 +238,15 @@ module _ (script : Script) (hs : List ℕ) where
   usual_holds w y p r own (Stepped entry k o e) h = holds_on script w y p r (entry_moves script entry k w y p.0 e) h
   usual_holds w y p r own (Swallowed k a v l n ns s t o at c notes there f e) h =
       let left = left_stands script a v l n ns w at notes p.0 in let grows : Grows s t = readied_known w s t (hear_keeps script hs v Grows (deeds_grow v) n (readied w s) t f) in
-      let quiet : t.outbox ≡ [] = silent a v n s t there left.1 f in
+      let quiet : t.outbox ≡ [] = silent v n s t there f in
       let outs : AllOf (λ (x : Put Name). NoteOk (IsKnownTo t) x.note) t.outbox = rw quiet tt in
       let old = taken_follow script w.vats w.links a v n ns l at notes s t there grows (λ m b. bearer_heard v m n (readied w s) t f b) h.1 in let known = taken_known script w.vats w.links a v n ns l at notes h.0 in
       let news : (g : ℕ) (m : Msg) (q : Vat Name) → (g ≡ v → ⊥) → slice_get (put_at v t w.vats) g ≡ Some q → IsAmong (Answer g m) (names_in t.known) → (IsAmong (Answer g m) (names_in s.known) ⊎ PutsFirst g m t.outbox) ⊎ IsAmong (Answer g m) (names_in q.known) =
       λ g m q far i j. inl (inl (either g m far (heard_known v w n (readied w s) t left.1 f (Answer g m) j))) in
       is_so _ y (holds_without a v ns w (Carried k a v n (next_frame a v w.connections) ∷ []) t (goes_known w.vats v s t there grows outs (with_link (with_notes ns) a v w.links) known old news, goes_follow w.vats v s t there grows outs (with_link (with_notes ns) a v w.links) known old news)) e
     where
-      silent : (a v : ℕ) (n : Note Name) (s t : Vat Name) → slice_get w.vats v ≡ Some s → NoteOk (Told script w) n → hear script v n (readied w s) ≡ Gives tt t → t.outbox ≡ []
-      silent a v n s t there o f = (heard_own script v w n (readied w s) t o (ready_clean script hs w v s (own v s there)) f).1
+      silent : (v : ℕ) (n : Note Name) (s t : Vat Name) → slice_get w.vats v ≡ Some s → hear script v n (readied w s) ≡ Gives tt t → t.outbox ≡ []
+      silent v n s t there f = (heard_own script v n (readied w s) t (ready_clean script hs w v s (own v s there)) f).1
 
       either : (g : ℕ) (m : Msg) → (g ≡ v → ⊥) → IsAmong (Answer g m) (names_in (readied w s).known) ⊎ (host_of (Answer g m) ≡ v) → IsAmong (Answer g m) (names_in s.known)
       either g m far (inl a) = known_readied w s (Answer g m) a

@@ -1,21 +1,21 @@
 -- The deeds of a hostile vat's record, and what it says, keep what is kept of names in a step of one vat.
 use mathlib.Core.Bool.{false}
-use Rattle.std.proofs.Common.{◌≡◌, ℕ, zero, true, List, [], ◌∷◌, Some, subst, length, arith, Bool}
+use Rattle.std.proofs.Common.{◌≡◌, ℕ, zero, true, List, [], ◌∷◌, ◌++◌, Some, subst, length, arith, Bool}
 use Rattle.std.specs.Prelude.{slice_get}
-use Rattle.def_machine.specs.Values.{Name, IsAnswer, host_of, Naming, naming}
-use Rattle.def_machine.specs.State.{Made, Note, Deliver, Vat, Done, Gives, Act, ◌>>=◌, ◌>>◌, and_then, give, come, new_thing, new_promise, new_message, new_lone_message, draw, send_out}
+use Rattle.def_machine.specs.Values.{Name, Answer, Sent, host_of, Naming, naming, answer_of, mail_of}
+use Rattle.def_machine.specs.State.{Made, Note, Deliver, Vat, Done, Gives, Act, ◌>>=◌, ◌>>◌, and_then, give, mail, new_thing, new_promise, new_message, new_lone_message, send_out}
 use Rattle.def_machine.specs.Arrive as arrive
 use Rattle.def_machine.specs.Arrive.{New}
 use Rattle.def_run.specs.Draws.{draw_word}
 use Rattle.def_run.specs.World.{Script, World, put_at, names, names_of, read_note}
 use Rattle.law_fate.specs.Name.Names.{Bit, Named, Mail, At, Off, bare, promises_of, IsMade, IsHad, NoteOk, GoesOk, names_in}
-use Rattle.law_fate.proofs.Name.Facts.{note_up, Fact, Also, Nothing, IsVat, IsName, IsMail, IsDraw, NoteDoes, NoteGoes, new_names, nothing}
-use Rattle.law_fate.proofs.Name.Care.{Care, Sound, Ends, Fine, fine_then, fine_give, fine_thing, fine_promise, fine_new_message, fine_lone_message, fine_draw, fine_out, come_answer}
+use Rattle.law_fate.proofs.Name.Facts.{note_up, Fact, Also, Nothing, IsVat, IsName, IsMail, NoteDoes, NoteGoes, new_names, nothing}
+use Rattle.law_fate.proofs.Name.Care.{Care, Sound, Ends, Fine, fine_then, fine_give, fine_thing, fine_promise, fine_new_message, fine_lone_message, fine_out}
 use Rattle.law_fate.proofs.Name.Among.{promises_at, get_put}
-use Rattle.law_fate.proofs.Name.Run.{IsInside, Inside, inside, name_had}
+use Rattle.law_fate.proofs.Name.Run.{IsInside, Inside, inside, inside_answer, name_had}
 use Rattle.law_fate.proofs.Name.Tracked.{IsFar, Ok, follows_trans, tracked, tracked_under, tracked_makes}
 use Rattle.law_fate.proofs.Name.Learn.{Grew, Knows, Learned, Ended, grew, learn_name, message_learned, reads_bind, reads_fine, reads_note}
-use Rattle.law_machine.specs.Run.Moves.{Deed, NewObject, NewPromise, NewMessage, NewLone, NewDraw, Learns, Performs, perform, hear, hear_message}
+use Rattle.law_machine.specs.Run.Moves.{Deed, NewObject, NewPromise, NewMessage, NewLone, Learns, Performs, perform, hear, hear_message}
 use Rattle.law_hostile.specs.Hostile.{May, Lawful, IsBelow, IsOther}
 
 module _ (script : Script) (w : World) (v : ℕ) (s : Vat Name) (there : slice_get w.vats v ≡ Some s) (here : Inside script (At v)) where
@@ -62,6 +62,10 @@ module _ (script : Script) (w : World) (v : ℕ) (s : Vat Name) (there : slice_g
   learned_at a (Gives n t) b ks h e = let same : t ≡ b = cc in let k : GrewTo a t = (h.0, h.1) in rw same at k
   learned_at a other b ks h e = cc
 
+  learn_goes : (n : Name) (a b : Vat Name) → Sound T a → IsMade (put_at v a w.vats) a.drawn (Named n) → Inside script (Named n) → perform script v (Learns n) a ≡ Gives tt b → GrewTo a b
+  unfolding perform names names_of ◌>>◌
+  learn_goes n a b h made in' e = learned_at a _ b _ ((learn_name true (inside script) w.vats v s there here Word (put_at v a w.vats) a.drawn {C = Nothing} (names_in a.known) n (made, in')).after a h (knows a h) tt) e
+
   -- ---- deeds
 
   pub deed_goes : (d : Deed) (a b : Vat Name) → Sound T a → May script w v a d → perform script v d a ≡ Gives tt b → GrewTo a b
@@ -70,8 +74,7 @@ module _ (script : Script) (w : World) (v : ℕ) (s : Vat Name) (there : slice_g
   deed_goes NewPromise a b h m e = ends_at a _ b ((fine_then_nothing Nothing (new_promise Names) IsName (fine_promise Names T (tracked_under true (inside script) w.vats v s there here Word) (tracked_makes (inside script) w.vats v s there here Word))).after a h tt) e
   deed_goes (NewMessage h) a b g m e = ends_at a _ b ((fine_then_nothing (IsVat h) (new_message Names h) new_names (fine_new_message Names T (tracked_under true (inside script) w.vats v s there here Word) (tracked_makes (inside script) w.vats v s there here Word) h (record { at = λ r c. c }))).after a g (tt, tt, tt, λ k. m)) e
   deed_goes NewLone a b h m e = ends_at a _ b ((fine_then_nothing Nothing (new_lone_message Names) IsMail (fine_lone_message Names T (tracked_under true (inside script) w.vats v s there here Word) (tracked_makes (inside script) w.vats v s there here Word))).after a h tt) e
-  deed_goes NewDraw a b h m e = ends_at a _ b ((fine_then_nothing Nothing (draw Names) IsDraw (fine_draw Names T (tracked_under true (inside script) w.vats v s there here Word))).after a h tt) e
-  deed_goes (Learns n) a b h m e = learned_at a _ b _ ((learn_name true (inside script) w.vats v s there here Word (put_at v a w.vats) a.drawn {C = Nothing} (names_in a.known) n (m.0, λ k. m.1)).after a h (knows a h) tt) e
+  deed_goes (Learns n) a b h m e = learn_goes n a b h m.0 (λ k. m.1) e
 
   module _ (Hostile : ℕ → Type 0) (MayNotice : World → ℕ → ℕ → Type 0) where
     pub deeds_go : (ds : List Deed) (a t : Vat Name) → Sound T a → Performs script Hostile MayNotice (λ w v s d. May script w v s d) (λ w v u s n. Lawful script w v u s n) w v ds a t → GrewTo a t
@@ -80,13 +83,17 @@ module _ (script : Script) (w : World) (v : ℕ) (s : Vat Name) (there : slice_g
 
   -- ---- what comes
 
-  message_goes : (m : Name) (a b : Vat Name) → IsMade w.vats w.drawn (Mail m) → Inside script (Mail m) → Sound T a → Knows true (inside script) w.vats v s there here Word w.vats w.drawn (names_in a.known) a
-      → (arrive.learn_message Names (New m (host_of m)) >>= (λ id. come Names (IsAnswer v id) v >> give (tt {0}))) a ≡ Gives (tt {0}) b → GrewTo a b
-  message_goes m a b made in' h k e = ended a _ b ((reads_bind true (inside script) w.vats v s there here Word w.vats w.drawn {C = Nothing} IsMail (message_learned true (inside script) w.vats v s there here Word w.vats w.drawn {C = Nothing} (names_in a.known) m (host_of m) (made, in'))
-      (λ id. reads_fine true (inside script) w.vats v s there here Word w.vats w.drawn (fine_then T IsName (come_answer Names T (tracked_under true (inside script) w.vats v s there here Word) v id (record { at = λ r c. c.1 }) (record { at = λ r c. (tt, tt, tt, here) })) (fine_give T (tt {0}) {H = nothing} (record { at = λ r c. tt }))))).after a h k tt) e
-    where
-      ended : (a : Vat Name) (d : Done Name (Unit {0})) (b : Vat Name) → Ended true (inside script) w.vats v s there here Word w.vats w.drawn a d → d ≡ Gives (tt {0}) b → GrewTo a b
-      ended a d b h e = let k : Ended true (inside script) w.vats v s there here Word w.vats w.drawn a (Gives (tt {0}) b) = rw e at h in k
+  -- its answer, which the record may know
+  answer_goes : (m : Name) (a b : Vat Name) → Sound T a → IsMade (put_at v a w.vats) a.drawn (Mail m) → perform script v (Learns (answer_of v m)) a ≡ Gives tt b → GrewTo a b
+  unfolding answer_of
+  answer_goes (Sent x) a b h made e = learn_goes (Answer v x) a b h made (inside_answer script v x here) e
+  answer_goes other a b h made e = absurd made
+
+  message_goes : (m : Name) (a b : Vat Name) → IsMade w.vats w.drawn (Mail m) → Inside script (Mail m) → Sound T a → Knows true (inside script) w.vats v s there here Word w.vats w.drawn (names_in a.known) a → hear_message script v m true a ≡ Gives (tt {0}) b → GrewTo a b
+  unfolding hear_message ◌>>=◌ and_then arrive.learn_message mail names naming mail_of
+  message_goes m a b made in' h k e = let t : Vat Name = record a { mails = a.mails ++ m ∷ [] } in
+      let one : Learned true (inside script) w.vats v s there here Word w.vats w.drawn (names_in a.known) IsMail a (Gives m t) = (message_learned true (inside script) w.vats v s there here Word w.vats w.drawn {C = Nothing} (names_in a.known) m (host_of m) (made, in')).after a h k tt in
+      goes_on a t b (one.0, one.1) (answer_goes m t b one.1 one.3.0 e)
 
   lone_goes : (m : Name) (a b : Vat Name) → IsMade w.vats w.drawn (Mail m) → Inside script (Mail m) → Sound T a → Knows true (inside script) w.vats v s there here Word w.vats w.drawn (names_in a.known) a
       → (arrive.learn_message Names (New m (host_of m)) >> give (tt {0})) a ≡ Gives (tt {0}) b → GrewTo a b

@@ -1,8 +1,8 @@
 -- The notes between two vats name only the two, in each world that is reached with hostile vats.
-use Rattle.std.proofs.Common.{◌≡◌, ℕ, zero, Bool, true, false, List, [], ◌∷◌, ◌++◌, Option, Some, None, refl, sym, subst, ◌∙◌, ◌⊎◌, inl, inr, length}
+use Rattle.std.proofs.Common.{◌≡◌, ℕ, zero, Bool, true, false, List, [], ◌∷◌, ◌++◌, Some, refl, sym, subst, ◌∙◌, ◌⊎◌, inl, inr, length}
 use Rattle.std.specs.Prelude.{slice_get}
-use Rattle.def_machine.specs.Values.{Name, Sent, Answer, IsAnswer, host_of, Naming, naming, name_of, answer_of, mail_of}
-use Rattle.def_machine.specs.State.{Made, Note, Deliver, Put, Vat, Done, Gives, ◌>>=◌, ◌>>◌, and_then, give, new_thing, new_promise, new_message, new_lone_message, draw, draws, send_out, begun, come, mail, is_in}
+use Rattle.def_machine.specs.Values.{Name, host_of, Naming, naming, name_of, answer_of, mail_of}
+use Rattle.def_machine.specs.State.{Made, Note, Deliver, Put, Vat, Done, Gives, ◌>>=◌, ◌>>◌, and_then, give, new_thing, new_promise, new_message, new_lone_message, send_out, begun, come, mail, is_in}
 use Rattle.def_machine.specs.Arrive as arrive
 use Rattle.def_machine.specs.Arrive.{Old, New}
 use Rattle.def_machine.specs.Receive.{receive}
@@ -10,7 +10,7 @@ use Rattle.def_run.specs.Wire.{Connected}
 use Rattle.def_run.specs.Draws.{draw_word}
 use Rattle.def_run.specs.World as world
 use Rattle.def_run.specs.World.{Script, Program, Entry, Event, Carried, Link, World, Run, Goes as Going, readied, names, names_of, read_note}
-use Rattle.law_fate.specs.Name.Names.{AllOf, Once, IsMessageMade, IsMade, NoteOk}
+use Rattle.law_fate.specs.Name.Names.{AllOf, Once, IsMade, NoteOk}
 use Rattle.law_fate.proofs.Name.Facts.{all_end, all_map, note_up}
 use Rattle.law_fate.proofs.Name.Run.{Stands, Told}
 use Rattle.law_reference.specs.Reference.Own.{IsOwnKnown}
@@ -21,7 +21,7 @@ use Rattle.law_reference.proofs.Reference.OwnRuns.{Any, InScript, Each, own_keep
 use Rattle.law_reference.proofs.Reference.RunLift.{put_at_or, all_allowed}
 use Rattle.law_reference.proofs.Reference.NotesLift as lift
 use Rattle.law_reference.proofs.Reference.NotesRuns.{CarriesOut, Its, OfNotes, Ever, its_keep, note_carries, begins_all}
-use Rattle.law_machine.specs.Run.Moves.{Deed, NewObject, NewPromise, NewMessage, NewLone, NewDraw, Learns, Performs, perform, Move, Opened, Stepped, Swallowed, Says, AnyNotice, Nobody, went, without, hear, hear_message, Follows, IsHonest}
+use Rattle.law_machine.specs.Run.Moves.{Deed, NewObject, NewPromise, NewMessage, NewLone, Learns, Performs, perform, Move, Opened, Stepped, Swallowed, Says, AnyNotice, Nobody, went, without, hear, hear_message, Follows, IsHonest}
 use Rattle.law_adversary.specs.Moves.{Usual, Recorded, Framed, Received, entered_at, sight_at, framed_on, placed_from}
 use Rattle.law_adversary.proofs.Lift.{usual_reached, frames_lifted}
 use Rattle.law_hostile.specs.Hostile as hostile
@@ -73,15 +73,6 @@ module _ (script : Script) where
   unfolding ◌>>◌ and_then new_lone_message give naming name_of mail_of answer_of host_of
   lone_own v a b h e = let o = h.0 in given v _ b ((o.0, o.1, o.2, o.3, o.4, o.5), h.1) e
 
-  drawn_own : (v w : ℕ) (a b : Vat Name) (o : Option ℕ) → Clean v a → and_then {B = Unit {0}} (draws w o a) (λ _. give (tt {0})) ≡ Gives (tt {0}) b → Clean v b
-  unfolding and_then give draws
-  drawn_own v w a b None h e = given v (record a { drawn = a.drawn ++ w ∷ [] }) b h e
-  drawn_own v w a b (Some i) h e = cc
-
-  draw_own : (v : ℕ) (a b : Vat Name) → Clean v a → (draw (Names v) >> give (tt {0})) a ≡ Gives (tt {0}) b → Clean v b
-  unfolding ◌>>◌ draw
-  draw_own v a b h e = drawn_own v _ a b _ h e
-
   learnt_own : (v : ℕ) (n : Name) (a b : Vat Name) (c : Bool) → Clean v a → and_then {B = Unit {0}} (arrive.learn_name (Names v) (elim c [ true ↦ Old n | false ↦ New n (host_of n) ]) a) (λ _. give (tt {0})) ≡ Gives (tt {0}) b → Clean v b
   unfolding and_then give arrive.learn_name come naming name_of
   learnt_own v n a b true h e = given v a b h e
@@ -93,29 +84,27 @@ module _ (script : Script) where
   deed_own v NewPromise a b h e = promise_own v a b h e
   deed_own v (NewMessage u) a b h e = message_own v u a b h e
   deed_own v NewLone a b h e = lone_own v a b h e
-  deed_own v NewDraw a b h e = draw_own v a b h e
   deed_own v (Learns n) a b h e = learnt_own v n a b _ h e
 
   -- ---- what comes
 
-  message_heard : (v : ℕ) (vats : List (Vat Name)) (m : Name) (a b : Vat Name) → IsMessageMade vats m → Clean v a → (arrive.learn_message (Names v) (New m (host_of m)) >>= (λ id. come (Names v) (IsAnswer v id) v >> give (tt {0}))) a ≡ Gives (tt {0}) b → Clean v b
-  unfolding ◌>>=◌ ◌>>◌ and_then give arrive.learn_message mail come naming name_of mail_of answer_of host_of
-  message_heard v vats (Sent x) a b m h e = let o = h.0 in given v _ b ((o.0, o.1, came v a (Answer v x) v refl h, o.3, o.4, o.5), h.1) e
-  message_heard v vats other a b m h e = absurd m
+  message_heard : (v : ℕ) (m : Name) (a b : Vat Name) → Clean v a → hear_message script v m true a ≡ Gives (tt {0}) b → Clean v b
+  unfolding hear_message ◌>>=◌ and_then arrive.learn_message mail names naming mail_of
+  message_heard v m a b h e = let o = h.0 in deed_own v (Learns (answer_of v m)) (record a { mails = a.mails ++ m ∷ [] }) b ((o.0, o.1, o.2, o.3, o.4, o.5), h.1) e
 
   lone_heard : (v : ℕ) (m : Name) (a b : Vat Name) → Clean v a → (arrive.learn_message (Names v) (New m (host_of m)) >> give (tt {0})) a ≡ Gives (tt {0}) b → Clean v b
   unfolding ◌>>◌ and_then give arrive.learn_message mail naming name_of mail_of
   lone_heard v m a b h e = let o = h.0 in given v _ b ((o.0, o.1, o.2, o.3, o.4, o.5), h.1) e
 
-  heard_by : (v : ℕ) (vats : List (Vat Name)) (m : Name) (asks : Bool) (a b : Vat Name) → IsMessageMade vats m → Clean v a → hear_message script v m asks a ≡ Gives tt b → Clean v b
+  heard_by : (v : ℕ) (m : Name) (asks : Bool) (a b : Vat Name) → Clean v a → hear_message script v m asks a ≡ Gives tt b → Clean v b
   unfolding hear_message names
-  heard_by v vats m true a b i h e = message_heard v vats m a b i h e
-  heard_by v vats m false a b i h e = lone_heard v m a b h e
+  heard_by v m true a b h e = message_heard v m a b h e
+  heard_by v m false a b h e = lone_heard v m a b h e
 
-  pub heard_own : (v : ℕ) (w : World) (n : Note Name) (a b : Vat Name) → NoteOk (Told script w) n → Clean v a → hear script v n a ≡ Gives tt b → Clean v b
+  pub heard_own : (v : ℕ) (n : Note Name) (a b : Vat Name) → Clean v a → hear script v n a ≡ Gives tt b → Clean v b
   unfolding hear names give
-  heard_own v w (Deliver d x verb ys) a b o h e = heard_by v w.vats d.message d.asks a b o.0.0 h e
-  heard_own v w other a b o h e = given v a b h e
+  heard_own v (Deliver d x verb ys) a b h e = heard_by v d.message d.asks a b h e
+  heard_own v other a b h e = given v a b h e
 
   silent : (v : ℕ) (t : Vat Name) → Clean v t → Its script v t × AllOf (λ (p : Put Name). OfNotes script v p.to p.note) t.outbox
   silent v t h = let e : t.outbox ≡ [] = h.1 in ((h.0, rw e tt), rw e tt)
@@ -211,7 +200,7 @@ module _ (script : Script) where
     usual_fits : (w y : World) → Stands script y → All w → Usually script hs w y → All y
     usual_fits w y g h (Opened front rest p o i e) = lift.opens_all script (Its script) (OfNotes script) (Ever script) (Any script) (its_keep script) front (p ∷ []) rest w y i h (one_open (length front) p w y e)
     usual_fits w y g h (Stepped entry k o e) = lift.step_all script (Its script) (OfNotes script) (Ever script) (Any script) (its_keep script) entry k w y (all_allowed (Any script) (λ v to. tt) (entry ∷ [])).0 h e
-    usual_fits w y g h (Swallowed k a v l n ns s t o i c j q f e) = let left = left_stands script a v l n ns w i j h.0 in let b = h.2 in let out = silent v t (heard_own v w n (readied w s) t left.1 (ready_clean w v s (b.0 v s q).0) f) in
+    usual_fits w y g h (Swallowed k a v l n ns s t o i c j q f e) = let left = left_stands script a v l n ns w i j h.0 in let b = h.2 in let out = silent v t (heard_own v n (readied w s) t (ready_clean w v s (b.0 v s q).0) f) in
         is_so _ y (went_all (without a v ns w) v _ t (rw e at g) (left_all a v l n ns w i j left.0 h) out.0 out.1) e
     usual_fits w y g h (Says v u s t r ds n o i p l f e) = let b = h.2 in let out = said_its v u n t r (deeds_own w v ds (readied w s) t (ready_clean w v s (b.0 v s i).0) p) l.2 l.3 f in is_so (went v w [] r) y (went_all w v [] r (rw e at g) h out.0 out.1) e
 

@@ -1,8 +1,8 @@
 -- What each single change of a vat keeps, each move keeps; and what each step keeps of the state of a vat, and what is said keeps, holds of each vat that is reached.
-use Rattle.std.proofs.Common.{◌≡◌, ℕ, zero, suc, ◌+◌, Bool, true, false, List, [], ◌∷◌, ◌++◌, Option, Some, None, refl, sym, subst, ◌⊎◌, inl, inr, length, arith}
+use Rattle.std.proofs.Common.{◌≡◌, ℕ, zero, suc, ◌+◌, Bool, true, false, List, [], ◌∷◌, ◌++◌, Some, refl, sym, subst, ◌⊎◌, inl, inr, length, arith}
 use Rattle.std.specs.Prelude.{slice_get}
-use Rattle.def_machine.specs.Values.{Name, Promise, Answer, Sent, Msg, IsLearnt, IsAnswer, IsCarried, host_of, naming, name_of, answer_of, mail_of}
-use Rattle.def_machine.specs.State.{Thing, Made, Note, Deliver, Put, Vat, Done, Gives, ◌>>=◌, ◌>>◌, and_then, give, new_thing, new_promise, new_message, new_lone_message, draw, draws, send_out, begun, come, mail}
+use Rattle.def_machine.specs.Values.{Name, Promise, Answer, Sent, Msg, IsLearnt, IsCarried, host_of, naming, name_of, answer_of, mail_of}
+use Rattle.def_machine.specs.State.{Thing, Made, Note, Deliver, Put, Vat, Done, Gives, ◌>>=◌, ◌>>◌, and_then, give, new_thing, new_promise, new_message, new_lone_message, draw, send_out, begun, come, mail}
 use Rattle.def_machine.specs.Arrive as arrive
 use Rattle.def_machine.specs.Arrive.{Incoming, Old, New}
 use Rattle.def_machine.specs.Receive.{Sight, receive}
@@ -18,7 +18,7 @@ use Rattle.law_fate.proofs.Name.Facts.{note_up}
 use Rattle.law_fate.proofs.Name.Run.{Stands, Told}
 use Rattle.law_reference.proofs.Reference.RunLift.{StepsKeep, InVats, put_at_or, step_keeps, opened_keeps, all_allowed}
 use Rattle.law_reference.proofs.Reference.Gentle.{IsGentle, AfterGives}
-use Rattle.law_machine.specs.Run.Moves.{Deed, NewObject, NewPromise, NewMessage, NewLone, NewDraw, Learns, Performs, perform, Opened, Stepped, Swallowed, Says, AnyNotice, went, without, hear, hear_message}
+use Rattle.law_machine.specs.Run.Moves.{Deed, NewObject, NewPromise, NewMessage, NewLone, Learns, Performs, perform, Opened, Stepped, Swallowed, Says, AnyNotice, went, without, hear, hear_message}
 use Rattle.law_adversary.specs.Moves.{Usual, Recorded, Framed, Received, entered_at, sight_at, framed_on, placed_from}
 use Rattle.law_adversary.proofs.Lift.{frames_lifted}
 use Rattle.law_hostile.specs.Hostile.{May, Lawful, IsHostile, IsReached, Leads}
@@ -76,32 +76,26 @@ module _ (script : Script) (hs : List ℕ) where
     given : (a x b : Vat Name) → R a x → Gives (tt {0}) x ≡ Gives (tt {0}) b → R a b
     given a x b c e = let same : x ≡ b = cc in rw same at c
 
-    drawn_keeps : (i : ℕ) (a b : Vat Name) (o : Option ℕ) → and_then {B = Unit {0}} (draws i o a) (λ _. give (tt {0})) ≡ Gives (tt {0}) b → R a b
-    unfolding and_then give draws
-    drawn_keeps i a b None e = given a (record a { drawn = a.drawn ++ i ∷ [] }) b (law.drawn a i) e
-    drawn_keeps i a b (Some j) e = cc
-
     learnt_keeps : (n : Name) (a b : Vat Name) (c : Bool) → and_then {B = Unit {0}} (arrive.learn_name (names script v) (elim c [ true ↦ Old n | false ↦ New n (host_of n) ]) a) (λ _. give (tt {0})) ≡ Gives (tt {0}) b → R a b
     unfolding and_then give arrive.learn_name come names naming name_of
     learnt_keeps n a b true e = given a a b (law.same a) e
     learnt_keeps n a b false e = given a _ b (law.came a n (host_of n)) e
 
-    deed_keeps : (d : Deed) (a b : Vat Name) → perform script v d a ≡ Gives tt b → R a b
+    pub deed_keeps : (d : Deed) (a b : Vat Name) → perform script v d a ≡ Gives tt b → R a b
     unfolding perform names names_of ◌>>◌ world.read_name and_then new_thing new_promise new_message new_lone_message give draw naming name_of mail_of answer_of
     deed_keeps NewObject a b e = given a _ b (law.thing a (Made zero [] [])) e
     deed_keeps NewPromise a b e = given a _ b (law.promised a) e
     deed_keeps (NewMessage u) a b e = given a _ b (law.messaged a u) e
     deed_keeps NewLone a b e = given a _ b (law.lone a) e
-    deed_keeps NewDraw a b e = drawn_keeps _ a b _ e
     deed_keeps (Learns n) a b e = learnt_keeps n a b _ e
 
     deeds_keep : (w : World) (ds : List Deed) (a t : Vat Name) → Performs script (IsHostile hs) AnyNotice (λ w v s d. May script w v s d) (λ w v u s n. Lawful script w v u s n) w v ds a t → R a t
     deeds_keep w [] a t e = subst (λ x. R a x) e (law.same a)
     deeds_keep w (d ∷ ds) a t p = law.trans a p.0 t (deed_keeps d a p.0 p.2) (deeds_keep w ds p.0 t p.3)
 
-    message_keeps : (m : Name) (a b : Vat Name) → (arrive.learn_message (names script v) (New m (host_of m)) >>= (λ id. come (names script v) (IsAnswer v id) v >> give (tt {0}))) a ≡ Gives (tt {0}) b → R a b
-    unfolding ◌>>=◌ ◌>>◌ and_then give arrive.learn_message mail come names naming name_of mail_of
-    message_keeps m a b e = let c : Vat Name = record a { mails = a.mails ++ m ∷ [] } in given a _ b (law.trans a c _ (law.mailed a m) (law.came c (answer_of v m) v)) e
+    message_keeps : (m : Name) (a b : Vat Name) → hear_message script v m true a ≡ Gives (tt {0}) b → R a b
+    unfolding hear_message ◌>>=◌ and_then arrive.learn_message mail names naming mail_of
+    message_keeps m a b e = let c : Vat Name = record a { mails = a.mails ++ m ∷ [] } in law.trans a c b (law.mailed a m) (deed_keeps (Learns (answer_of v m)) c b e)
 
     lone_keeps : (m : Name) (a b : Vat Name) → (arrive.learn_message (names script v) (New m (host_of m)) >> give (tt {0})) a ≡ Gives (tt {0}) b → R a b
     unfolding ◌>>◌ and_then give arrive.learn_message mail names naming mail_of

@@ -74,7 +74,7 @@ views_wait script once hs w r = reached_all script hs (λ v s. ViewsWait (names 
 pub what_a_vat_has_is_its_own : hostile.WhatAVatHasIsItsOwn
 what_a_vat_has_is_its_own script once hs w r v s e = let o = reached_all script hs (InScript script) (own_keep script)
     (λ w v u s t r ds n g i p l f h. (said_its script hs v u n t r (deeds_own script hs w v ds (readied w s) t (ready_clean script hs w v s h) p) l.2 l.3 f).0.0)
-    (λ w v s t n g o i f h. (heard_own script v w n (readied w s) t o (ready_clean script hs w v s h) f).0)
+    (λ w v s t n g o i f h. (heard_own script v n (readied w s) t (ready_clean script hs w v s h) f).0)
     (λ w v s h. (ready_clean script hs w v s h).0) once (begins_own script) w r v s e in (o.0, o.1, o.2, o.3)
 
 -- ---- the laws of runs follow

@@ -1,8 +1,8 @@
 -- Strict deeds of a hostile vat keep the order of answers.
-use Rattle.std.proofs.Common.{◌≡◌, ℕ, Bool, true, false, List, [], ◌∷◌, ◌++◌, Option, Some, None, refl, sym, ap, ◌∙◌, ◌⊎◌, inl, inr}
+use Rattle.std.proofs.Common.{◌≡◌, ℕ, Bool, true, false, List, [], ◌∷◌, ◌++◌, Option, Some, refl, sym, ap, ◌∙◌, ◌⊎◌, inl, inr}
 use Rattle.std.specs.Prelude.{slice_get}
 use Rattle.def_machine.specs.Values.{Name, Promise, Answer, Msg, host_of, naming, name_of, answer_of, mail_of}
-use Rattle.def_machine.specs.State.{Known, Note, Vat, Gives, ◌>>◌, and_then, give, come, new_thing, new_promise, new_message, new_lone_message, draw, draws, begun}
+use Rattle.def_machine.specs.State.{Known, Note, Vat, Gives, ◌>>◌, and_then, give, come, new_thing, new_promise, new_message, new_lone_message, draw, begun}
 use Rattle.def_machine.specs.Arrive as arrive
 use Rattle.def_machine.specs.Arrive.{Old, New}
 use Rattle.def_run.specs.World as world
@@ -10,7 +10,7 @@ use Rattle.def_run.specs.World.{Script, World, readied, names, names_of}
 use Rattle.law_fate.specs.Name.Names.{IsAmong, names_in}
 use Rattle.law_fate.proofs.Name.Among.{among_or, names_end}
 use Rattle.law_reference.specs.Reference.Behind.{Bears}
-use Rattle.law_machine.specs.Run.Moves.{Deed, NewPromise, NewMessage, NewDraw, Learns, perform}
+use Rattle.law_machine.specs.Run.Moves.{Deed, NewPromise, NewMessage, Learns, perform}
 use Rattle.law_hostile.specs.Hostile as hostile
 use Rattle.law_hostile.specs.Hostile.{IsStrict, PerformsStrictly}
 
@@ -43,11 +43,6 @@ module _ (script : Script) (w : World) (v u : ℕ) (s : Vat Name) (n : Note Name
   unfolding host_of
   told_by x g m e f = let one : (q : Vat Name) → slice_get w.vats (host_of (Answer g m)) ≡ Some q → IsAmong (Answer g m) (names_in q.known) = rw (sym e) at f in inr one
 
-  drawn : (i : ℕ) (a b : Vat Name) (o : Option ℕ) → Ordered a → and_then {B = Unit {0}} (draws i o a) (λ _. give (tt {0})) ≡ Gives (tt {0}) b → Ordered b
-  unfolding and_then give draws
-  drawn i a b None h e = same (record a { drawn = a.drawn ++ i ∷ [] }) b h e
-  drawn i a b (Some j) h e = cc
-
   learnt : (x : Name) (a b : Vat Name) (c : Bool) → Ordered a → ((q : Vat Name) → slice_get w.vats (host_of x) ≡ Some q → IsAmong x (names_in q.known)) → and_then {B = Unit {0}} (arrive.learn_name (names script v) (elim c [ true ↦ Old x | false ↦ New x (host_of x) ]) a) (λ _. give (tt {0})) ≡ Gives (tt {0}) b → Ordered b
   unfolding and_then give arrive.learn_name come names naming name_of begun
   learnt x a b true h f e = same a b h e
@@ -57,7 +52,6 @@ module _ (script : Script) (w : World) (v u : ℕ) (s : Vat Name) (n : Note Name
   unfolding perform names names_of ◌>>◌ world.read_name and_then new_thing new_promise new_message new_lone_message give draw naming name_of mail_of answer_of begun
   deed NewPromise a b h f e = one_more a _ b (begun (Promise v a.promises) a.number) refl h (λ g m far i. absurd (no_promise g a.promises m i)) e
   deed (NewMessage q) a b h f e = let k : Msg = record { sender = v; number = a.messages } in one_more a _ b (begun (Answer q k) q) refl h (λ g m far i. the_message q g m k i f) e
-  deed NewDraw a b h f e = drawn _ a b _ h e
   deed (Learns x) a b h f e = learnt x a b _ h f e
   deed other a b h f e = same _ b h e
 

@@ -13,7 +13,7 @@ use Rattle.law_reference.specs.Reference.Own.{Own}
 use Rattle.law_reference.specs.Reference.Behind.{Bears, ComesFirst}
 use Rattle.law_machine.specs.Machine.Laws.{SettledStays, NoticedStays}
 use Rattle.law_machine.specs.Run.Runs.{EachVat}
-use Rattle.law_machine.specs.Run.Moves.{Deed, NewObject, NewPromise, NewMessage, NewLone, NewDraw, Learns, Reached, AnyNotice, perform}
+use Rattle.law_machine.specs.Run.Moves.{Deed, NewObject, NewPromise, NewMessage, NewLone, Learns, Reached, AnyNotice, perform}
 use Rattle.law_adversary.specs.Moves.{FrameMove, FramesReached}
 
 -- its host, or the vat, is one of so many
@@ -49,7 +49,6 @@ module _ (script : Script) (w : World) (v : ℕ) where
   May s NewPromise = Unit {0}
   May s (NewMessage h) = h < length script.vats
   May s NewLone = Unit {0}
-  May s NewDraw = Unit {0}
   May s (Learns n) = IsMadeBy s (Named n) × (host_of n < length script.vats)
 
   -- Of each name in the note: it was made, the record knows it, and its host is a vat of the script. And it is a note between v and u, which calls the answer that it asks for by its name: nobody reads that.
@@ -156,7 +155,6 @@ abbrev pub IsStrict : World → ℕ → ℕ → Note Name → Vat Name → Deed 
 IsStrict w v u n a NewObject = Unit {0}
 IsStrict w v u n a NewPromise = Unit {0}
 IsStrict w v u n a NewLone = Unit {0}
-IsStrict w v u n a NewDraw = Unit {0}
 IsStrict w v u n a (NewMessage h) = (u ≡ h) × Bears (record { sender = v; number = a.messages }) (Answer h (record { sender = v; number = a.messages })) n
 IsStrict w v u n a (Learns x) = (q : Vat Name) → slice_get w.vats (host_of x) ≡ Some q → IsAmong x (names_in q.known)
 

@@ -1,15 +1,15 @@
 -- Every world that is reached with hostile vats is sound: a fact of each vat and of each note under way, kept by each move.
-use Rattle.std.proofs.Common.{◌≡◌, ℕ, zero, suc, Bool, true, false, List, [], ◌∷◌, ◌++◌, Option, Some, None, refl, sym, subst, length}
+use Rattle.std.proofs.Common.{◌≡◌, ℕ, zero, suc, Bool, true, false, List, [], ◌∷◌, ◌++◌, Option, Some, refl, sym, subst, length}
 use Rattle.std.specs.Prelude.{slice_get}
-use Rattle.def_machine.specs.Values.{Name, IsOwn, IsSent, IsLearnt, IsAnswer, IsCarried}
-use Rattle.def_machine.specs.State.{Made, Note, Deliver, Put, Vat, Done, Gives, Act, and_then, ◌>>=◌, ◌>>◌, give, new_thing, new_promise, new_message, new_lone_message, draw, draws, come, mail, send_out, begun, is_in}
+use Rattle.def_machine.specs.Values.{Name, IsOwn, IsSent, IsLearnt, IsAnswer, IsCarried, answer_of}
+use Rattle.def_machine.specs.State.{Made, Note, Deliver, Put, Vat, Done, Gives, Act, and_then, ◌>>=◌, ◌>>◌, give, new_thing, new_promise, new_message, new_lone_message, draw, come, mail, send_out, begun, is_in}
 use Rattle.def_machine.specs.Arrive.{Incoming, Old, New, learn_name, learn_message}
 use Rattle.def_run.specs.World as world
-use Rattle.def_run.specs.World.{read_note, Script, Event, Carried, Link, World, Goes, names, names_of, read_name, readied, with_link, with_notes, link_at, next_frame}
+use Rattle.def_run.specs.World.{read_note, Script, Event, Carried, Link, World, names, names_of, read_name, readied, with_notes, link_at, next_frame}
 use Rattle.law_machine.proofs.Machine.StepLaws.{get_append}
 use Rattle.law_adversary.proofs.Lift.{frames_lifted}
 use Rattle.law_adversary.specs.Moves.{FrameMove, Usual, Recorded, Framed, Received, FramesReached, sight_at, entered_at, placed_from, framed_on}
-use Rattle.law_machine.specs.Run.Moves.{Deed, NewObject, NewPromise, NewMessage, NewLone, NewDraw, Learns, Move, Opened, Stepped, Swallowed, Says, Performs, AnyNotice, went, without, perform, hear, hear_message}
+use Rattle.law_machine.specs.Run.Moves.{Deed, NewObject, NewPromise, NewMessage, NewLone, Learns, Move, Opened, Stepped, Swallowed, Says, Performs, AnyNotice, went, without, perform, hear, hear_message}
 use Rattle.law_frozen.specs.Runs.{ReachIsFrozenIn}
 use Rattle.law_frozen.specs.Frozen.{AllOf, NotePasses, KnownThere, ThingWell, Sound}
 use Rattle.law_hostile_frozen.specs.Moves.{AnyDeed, SaysPassing, FramesPassing, ReachIsFrozenInReached}
@@ -58,9 +58,6 @@ module _ (script : Script) (Hostile : ℕ → Type 0) (v : ℕ) where
   known_added : (s : Vat Name) (n : Name) (h : ℕ) → S s → S (record s { known = s.known ++ begun n h ∷ [] })
   known_added s n h i = record { things = i.things; slots = i.slots; lists = i.lists; stacked = i.stacked; queue = i.queue; known = all_end (KnownThere s.lists) s.known (begun n h) i.known (begun_there s n h); outbox = i.outbox }
 
-  drawn_added : (s : Vat Name) (w : ℕ) → S s → S (record s { drawn = s.drawn ++ w ∷ [] })
-  drawn_added s w h = record { things = h.things; slots = h.slots; lists = h.lists; stacked = h.stacked; queue = h.queue; known = h.known; outbox = h.outbox }
-
   mail_added : (s : Vat Name) (n : Name) → S s → S (record s { mails = s.mails ++ n ∷ [] })
   mail_added s n h = record { things = h.things; slots = h.slots; lists = h.lists; stacked = h.stacked; queue = h.queue; known = h.known; outbox = h.outbox }
 
@@ -76,11 +73,6 @@ module _ (script : Script) (Hostile : ℕ → Type 0) (v : ℕ) where
   lone : (s : Vat Name) (m : Name) → S s → S (record s { messages = suc s.messages; mails = s.mails ++ m ∷ [] })
   lone s m h = record { things = h.things; slots = h.slots; lists = h.lists; stacked = h.stacked; queue = h.queue; known = h.known; outbox = h.outbox }
 
-  drawn_sound : (w : ℕ) (o : Option ℕ) (s t : Vat Name) → S s → and_then (draws w o s) (λ _. done) ≡ given t → S t
-  unfolding draws and_then give
-  drawn_sound w (Some i) s t h e = cc
-  drawn_sound w None s t h e = subst (λ x. S x) (gives_is _ t e) (drawn_added s w h)
-
   learnt_sound : (x : Incoming Name Name) (s t : Vat Name) → S s → (learn_name (names script v) x >> done) s ≡ given t → S t
   unfolding learn_name come ◌>>◌ and_then give
   learnt_sound (Old n) s t h e = subst (λ x. S x) (gives_is _ t e) h
@@ -92,7 +84,6 @@ module _ (script : Script) (Hostile : ℕ → Type 0) (v : ℕ) where
   deed_sound NewPromise s t h e = subst (λ x. S x) (gives_is _ t e) (promised s ((names script v).made (IsOwn s.promises) (length s.known)) h)
   deed_sound (NewMessage g) s t h e = subst (λ x. S x) (gives_is _ t e) (messaged s ((names script v).mailed (IsSent s.messages) (length s.mails)) ((names script v).made (IsAnswer g ((names script v).mailed (IsSent s.messages) (length s.mails))) (length s.known)) g h)
   deed_sound NewLone s t h e = subst (λ x. S x) (gives_is _ t e) (lone s ((names script v).mailed (IsSent s.messages) (length s.mails)) h)
-  deed_sound NewDraw s t h e = drawn_sound _ _ s t h e
   deed_sound (Learns n) s t h e = learnt_sound (read_name (names_of s) n) s t h e
 
   performed : (May : World → ℕ → Vat Name → Deed → Type 0) (Lawful : World → ℕ → ℕ → Vat Name → Note Name → Type 0) (w : World) (ds : List Deed) (s t : Vat Name) → S s → Performs script Hostile AnyNotice May Lawful w v ds s t → S t
@@ -100,14 +91,9 @@ module _ (script : Script) (Hostile : ℕ → Type 0) (v : ℕ) where
   performed May Lawful w (d ∷ ds) s t h p = performed May Lawful w ds p.0 t (deed_sound d s p.0 h p.2) p.3
 
   -- what a note that comes to a hostile vat makes known
-  came : (g : ℕ) (n : Name) (s t : Vat Name) → S s → (come (names script v) (IsAnswer v n) g >> done) s ≡ given t → S t
-  unfolding come ◌>>◌ and_then give
-  came g n s t h e = subst (λ x. S x) (gives_is _ t e) (known_added s ((names script v).made (IsAnswer v n) (length s.known)) g h)
-
   heard : (m : Name) (asks : Bool) (s t : Vat Name) → S s → hear_message script v m asks s ≡ given t → S t
   unfolding hear_message learn_message mail ◌>>=◌ ◌>>◌ and_then give
-  heard m true s t h e = came v ((names script v).mailed (IsCarried m) (length s.mails)) (record s { mails = s.mails ++ (names script v).mailed (IsCarried m) (length s.mails) ∷ [] }) t
-      (mail_added s ((names script v).mailed (IsCarried m) (length s.mails)) h) e
+  heard m true s t h e = let id : Name = (names script v).mailed (IsCarried m) (length s.mails) in deed_sound (Learns (answer_of v id)) (record s { mails = s.mails ++ id ∷ [] }) t (mail_added s id h) e
   heard m false s t h e = subst (λ x. S x) (gives_is _ t e) (mail_added s ((names script v).mailed (IsCarried m) (length s.mails)) h)
 
   note_heard : (n : Note Name) (s t : Vat Name) → S s → hear script v n s ≡ given t → S t

@@ -3,10 +3,11 @@ use Rattle.std.proofs.Common.{◌≡◌, ℕ, zero, List, [], ◌++◌, inl, inr
 use Rattle.def_run.specs.World.{Program, World}
 use Rattle.def_hostile.specs.Hostile as hostile
 use Rattle.def_hostile.specs.Hostile.{Play, Scene, Acted, Plays, Breaks, Doing, starts, opens_from, does_all}
+use Rattle.def_hostile.specs.Plays.{ComesTo}
 use Rattle.law_injected.specs.HostileRuns.{AnyDeed, NothingSaid, IsHostile, IsSpoken}
 use Rattle.law_injected.proofs.HostileReached.{Moves, all_reached, opens_reached}
 use Rattle.law_frozen.proofs.RunSound.{WorldSound, begins_sound, reach_in}
-use Rattle.law_hostile_frozen.specs.Plays.{ComesTo, ReachIsFrozenInPlays}
+use Rattle.law_hostile_frozen.specs.Plays.{ReachIsFrozenInPlays}
 use Rattle.law_hostile_frozen.proofs.Moves.{kept_sound}
 use Rattle.law_hostile_frozen.proofs.Passing.{spoken_passes}
 

@@ -1,21 +1,9 @@
--- The configurations to which a run with hostile vats comes, and what is reached from frozen objects in each of them.
-use Rattle.std.specs.Prelude.{◌≡◌, ℕ, zero, List, ◌++◌, ◌⊎◌}
-use Rattle.def_run.specs.World.{Program}
-use Rattle.def_hostile.specs.Hostile.{Play, Scene, Plays, Doing, starts, opens_from, does_all, acts}
+-- What is reached from frozen objects in each configuration to which a run with hostile vats comes.
+use Rattle.std.specs.Prelude.{ℕ}
+use Rattle.def_hostile.specs.Hostile.{Play, Scene}
+use Rattle.def_hostile.specs.Plays.{ComesTo}
 use Rattle.law_frozen.specs.Runs.{ReachIsFrozenIn}
 use Rattle.law_injected.specs.HostileRuns.{IsHostile}
-
--- after some of the opening turns
-abbrev pub Opens : Play → Scene → Type 0
-Opens play s = (ps : List Program) × (rest : List Program) × (play.script.vats ≡ ps ++ rest) × (opens_from play zero ps (starts play) ≡ Plays s)
-
--- after all of them, and some entries and injected frames
-abbrev pub Goes : Play → Scene → Type 0
-Goes play s = (opened : Scene) × (ds : List Doing) × (rest : List Doing) × (play.doings ≡ ds ++ rest) × (opens_from play zero play.script.vats (starts play) ≡ Plays opened) × (does_all play ds 1 opened ≡ Plays s)
-
--- the run comes to that configuration: so, or where it ends
-abbrev pub ComesTo : Play → Scene → Type 0
-ComesTo play s = Opens play s ⊎ (Goes play s ⊎ (acts play ≡ Plays s))
 
 abbrev pub ReachIsFrozenInPlays : Type 0
 ReachIsFrozenInPlays = (play : Play) (h : ℕ) → IsHostile play h → (s : Scene) → ComesTo play s → ReachIsFrozenIn play.script s.world

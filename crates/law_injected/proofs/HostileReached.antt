@@ -253,13 +253,23 @@ module _ (play : Play) (who : ℕ) (bad : IsHostile play who) (R : World → Typ
   injects_reached k h w bytes s t r true e = tells_reached _ s t r e
   injects_reached k h w bytes s t r false e = tells_reached _ _ t r e
 
+  tried_reached : (d : Doing) (k : ℕ) (s t : Scene) → R s.world → hostile.tries play d k s ≡ Plays t → R t.world
+  unfolding hostile.tries
+  tried_reached (Does (Turn v)) k s t r e = turn_reached k v s t r (is_hostile play v) refl e
+  tried_reached (Does (Carry v u)) k s t r e = does_carry_reached k v u s t r (is_hostile play v) refl e
+  tried_reached (Does (CutLink v u)) k s t r e = acted_reached _ _ t [] _ (λ y i. on s.world y r (Usual (Stepped (CutLink v u) k tt i))) e
+  tried_reached (Does (NoticeLink v u)) k s t r e = notice_reached k v u s t r (is_hostile play v) refl e
+  tried_reached (Injects h u bytes) k s t r e = injects_reached k h u bytes s t r (world.is_cut h u s.world.links) e
+
+  -- what does not stop
+  plays_on : (s t : Scene) (a : Acted) → hostile.or_leaves s a ≡ Plays t → a ≡ Plays t
+  unfolding hostile.or_leaves
+  plays_on s t (Plays x) e = e
+  plays_on s t (Breaks c k x) e = cc
+
   doing_reached : (d : Doing) (k : ℕ) (s t : Scene) → R s.world → hostile.does play d k s ≡ Plays t → R t.world
   unfolding hostile.does
-  doing_reached (Does (Turn v)) k s t r e = turn_reached k v s t r (is_hostile play v) refl e
-  doing_reached (Does (Carry v u)) k s t r e = does_carry_reached k v u s t r (is_hostile play v) refl e
-  doing_reached (Does (CutLink v u)) k s t r e = acted_reached _ _ t [] _ (λ y i. on s.world y r (Usual (Stepped (CutLink v u) k tt i))) e
-  doing_reached (Does (NoticeLink v u)) k s t r e = notice_reached k v u s t r (is_hostile play v) refl e
-  doing_reached (Injects h u bytes) k s t r e = injects_reached k h u bytes s t r (world.is_cut h u s.world.links) e
+  doing_reached d k s t r e = tried_reached d k s t r (plays_on s t (hostile.tries play d k s) e)
 
   then_reached : (t : Scene) (a : Acted) (f : Scene → Acted) → ((s : Scene) → a ≡ Plays s → R s.world) → ((s : Scene) → R s.world → f s ≡ Plays t → R t.world) → hostile.then_plays a f ≡ Plays t → R t.world
   unfolding hostile.then_plays

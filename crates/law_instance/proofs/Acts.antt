@@ -11,21 +11,22 @@ use Rattle.def_run.specs.World as world
 use Rattle.def_run.specs.World.{Script, Program, Entry, Turn, Carry, CutLink, NoticeLink, Event, Idle, Carried, Link, World, Run, Goes as Going, Stopped, names, names_of, read_note, readied, next_frame, with_link, with_notes, link_at}
 use Rattle.def_hostile.specs.Hostile as hostile
 use Rattle.def_hostile.specs.Hostile.{Play, Does, Line, Told, Scene, Acted, Plays, Breaks, starts}
-use Rattle.law_instance.specs.Honest.{honest, scene_of, IsStopOf, ComesTo, EndsIn, SameOutcome, NextAreReceived, StepsAlike}
+use Rattle.law_machine.specs.Halting.Halted.{LeavesOf}
+use Rattle.law_instance.specs.Honest.{honest, scene_of, ComesTo, EndsIn, SameOutcome, NextAreReceived, StepsAlike}
 
 -- ---- what a step makes of a run
 
 -- from that world on, in the step of that number
 abbrev pub GoesFrom : ℕ → World → Run → Type 0
 GoesFrom n x (Going y) = (es : List Event) × (y.history ≡ x.history ++ es)
-GoesFrom n x (Stopped c k y) = (k ≡ n) × IsStopOf y x
+GoesFrom n x (Stopped c k y) = (k ≡ n) × LeavesOf x y
 
 -- a step that stops told nothing, and drew nothing
-pub stop_history : (y x : World) → IsStopOf y x → y.history ≡ x.history
+pub stop_history : (y x : World) → LeavesOf x y → y.history ≡ x.history
 stop_history y x (inl e) = ap (λ (z : World). z.history) e
 stop_history y x (inr (v, u, l, n, ns, at, notes, e)) = ap (λ (z : World). z.history) e
 
-pub stop_drawn : (y x : World) → IsStopOf y x → y.drawn ≡ x.drawn
+pub stop_drawn : (y x : World) → LeavesOf x y → y.drawn ≡ x.drawn
 stop_drawn y x (inl e) = ap (λ (z : World). z.drawn) e
 stop_drawn y x (inr (v, u, l, n, ns, at, notes, e)) = ap (λ (z : World). z.drawn) e
 
@@ -79,12 +80,12 @@ module _ (script : Script) where
   unfolding world.idle
   idle_from n k x = (Idle k ∷ [], refl)
 
-  put_from : (v n : ℕ) (x y : World) (head : List Event) (d : Done Name (Unit {0})) → y.history ≡ x.history → IsStopOf y x → GoesFrom n x (world.put_back v y head n d)
+  put_from : (v n : ℕ) (x y : World) (head : List Event) (d : Done Name (Unit {0})) → y.history ≡ x.history → LeavesOf x y → GoesFrom n x (world.put_back v y head n d)
   unfolding world.put_back
   put_from v n x y head (Gives a t) e f = (head ++ world.events_of y.links v t.happened, ap (λ es. es ++ head ++ world.events_of y.links v t.happened) e ∙ append_assoc x.history head (world.events_of y.links v t.happened))
   put_from v n x y head other e f = (refl, f)
 
-  within_from : (v n : ℕ) (x y : World) (head : List Event) (m : Act Name (Unit {0})) (o : Option (Vat Name)) → y.history ≡ x.history → IsStopOf y x → GoesFrom n x (world.within v y head n m o)
+  within_from : (v n : ℕ) (x y : World) (head : List Event) (m : Act Name (Unit {0})) (o : Option (Vat Name)) → y.history ≡ x.history → LeavesOf x y → GoesFrom n x (world.within v y head n m o)
   unfolding world.within
   within_from v n x y head m None e f = (refl, f)
   within_from v n x y head m (Some s) e f = put_from v n x y head (m (readied y s)) e f
@@ -143,7 +144,7 @@ module _ (script : Script) where
 
   -- ---- a note comes
 
-  module _ (x : World) (k v u : ℕ) (n : Note Name) (ns : List (Note Name)) (s : Vat Name) (left : IsStopOf (record x { links = with_link (with_notes ns) v u x.links }) x) where
+  module _ (x : World) (k v u : ℕ) (n : Note Name) (ns : List (Note Name)) (s : Vat Name) (left : LeavesOf x (record x { links = with_link (with_notes ns) v u x.links })) where
     -- the world in which the note left its link
     abbrev Left : World
     Left = record x { links = with_link (with_notes ns) v u x.links }
@@ -173,7 +174,7 @@ module _ (script : Script) where
     received_so f = subst (λ j. ComesTo script (world.put_back u Left Head (world.step_number script k) (arrive (names script u) v (read_note (names_of s) n) (readied Left s))) (hostile.acted j (scene_of script x) [] (hostile.then_places play v u (world.put_back u Left Head zero (receive (names script u) (sight_by (names_of s) (connected_at u v x.connections).tables) v (read_note (names_of s) n) (readied x s))))))
         (sym (same_number k)) (same_so (world.step_number script k) _ _ f)
 
-  comes_so : (x : World) (k v u : ℕ) (n : Note Name) (ns : List (Note Name)) (s : Vat Name) (left : IsStopOf (record x { links = with_link (with_notes ns) v u x.links }) x) (o : Option (Vat Name)) → o ≡ Some s → Received x k v u n ns s left
+  comes_so : (x : World) (k v u : ℕ) (n : Note Name) (ns : List (Note Name)) (s : Vat Name) (left : LeavesOf x (record x { links = with_link (with_notes ns) v u x.links })) (o : Option (Vat Name)) → o ≡ Some s → Received x k v u n ns s left
       → ComesTo script (world.arrives script k v u (Left x k v u n ns s left) n o) (hostile.acted (hostile.step_of play k) (scene_of script x) [] (hostile.receives_at play k v u (Left x k v u n ns s left) n o))
   comes_so x k v u n ns s left None e f = cc
   comes_so x k v u n ns s left (Some t) e f = let same : s ≡ t = cc in subst (λ r. ComesTo script (world.arrives script k v u (Left x k v u n ns s left) n (Some r)) (hostile.acted (hostile.step_of play k) (scene_of script x) [] (hostile.receives_at play k v u (Left x k v u n ns s left) n (Some r)))) same (received_so x k v u n ns s left f)
@@ -221,12 +222,22 @@ module _ (script : Script) where
 
   -- ---- entries
 
+  tries_so : (x : World) → NextAreReceived script x → (e : Entry) (k : ℕ) → ComesTo script (world.step script e k x) (hostile.tries play (Does e) k (scene_of script x))
+  unfolding world.step hostile.tries hostile.does_turn hostile.does_carry hostile.does_notice hostile.is_hostile is_in
+  tries_so x h (Turn v) k = acted_step k x _ (turn_from k v x (slice_get x.vats v))
+  tries_so x h (Carry v u) k = link_so x h k v u (link_at v u x.links) refl
+  tries_so x h (CutLink v u) k = subst (λ rs. ComesTo script (world.cut script k v u x) (hostile.acted (hostile.step_of play k) (record (scene_of script x) { raws = rs }) [] (world.cut script k v u x))) (sym (none_cut v u)) (acted_step k x _ (cut_from (world.step_number script k) k v u x))
+  tries_so x h (NoticeLink v u) k = acted_step k x _ (within_from v (world.step_number script k) x x _ _ (slice_get x.vats v) refl (inl refl))
+
+  -- where it stops, what is left is the scene before it
+  before_so : (n : ℕ) (x : World) (r : Run) (a : Acted) → GoesFrom n x r → ComesTo script r a → ComesTo script r (hostile.or_leaves (scene_of script x) a)
+  unfolding hostile.or_leaves
+  before_so n x (Going y) a g h = ap (λ b. hostile.or_leaves (scene_of script x) b) h
+  before_so n x (Stopped c k y) a g h = (x, g.1, ap (λ b. hostile.or_leaves (scene_of script x) b) h.2)
+
   pub does_so : (x : World) → NextAreReceived script x → StepsAlike script x
-  unfolding world.step hostile.does hostile.does_turn hostile.does_carry hostile.does_notice hostile.is_hostile is_in
-  does_so x h (Turn v) k = acted_step k x _ (turn_from k v x (slice_get x.vats v))
-  does_so x h (Carry v u) k = link_so x h k v u (link_at v u x.links) refl
-  does_so x h (CutLink v u) k = subst (λ rs. ComesTo script (world.cut script k v u x) (hostile.acted (hostile.step_of play k) (record (scene_of script x) { raws = rs }) [] (world.cut script k v u x))) (sym (none_cut v u)) (acted_step k x _ (cut_from (world.step_number script k) k v u x))
-  does_so x h (NoticeLink v u) k = acted_step k x _ (within_from v (world.step_number script k) x x _ _ (slice_get x.vats v) refl (inl refl))
+  unfolding hostile.does
+  does_so x h e k = before_so (world.step_number script k) x (world.step script e k x) (hostile.tries play (Does e) k (scene_of script x)) (step_from e k x) (tries_so x h e k)
 
   -- ---- one after another
 

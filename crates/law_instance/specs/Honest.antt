@@ -7,10 +7,11 @@ use Rattle.def_machine.specs.Receive.{receive}
 use Rattle.def_run.specs.Entered.{sight_by}
 use Rattle.def_run.specs.Text as run
 use Rattle.def_run.specs.Wire.{connected_at}
-use Rattle.def_run.specs.World.{Script, Program, Entry, Link, World, Run, Goes, Stopped, begins, open_vat, open_from, step, steps_from, link_at, with_link, with_notes, names, names_of, read_note, readied}
+use Rattle.def_run.specs.World.{Script, Program, Entry, Link, World, Run, Goes, Stopped, begins, open_from, step, steps_from, link_at, names, names_of, read_note, readied}
 use Rattle.def_run.specs.World as world
 use Rattle.def_hostile.specs.Hostile.{Play, Does, Told, Scene, Acted, Plays, Breaks, starts, opens_from, does, does_all, acts}
 use Rattle.def_hostile.specs.HostileText as hostile
+use Rattle.law_machine.specs.Halting.Halted.{LeavesOf}
 use Rattle.law_fate.specs.Fates.WholeFateRuns.{KnowsVats}
 use Rattle.law_fate.specs.Name.Runs.{KnowsOnce}
 use Rattle.law_reference.specs.Reference.Cuts.{NoticesFollowCuts}
@@ -25,19 +26,15 @@ scene_of script w = record { world = w; raws = (starts (honest script)).raws; cl
 
 -- ---- outcomes
 
--- A step stopped at y that began at x: y is x, but that a note that was carried is off its link.
-abbrev pub IsStopOf : World → World → Type 0
-IsStopOf y x = (y ≡ x) ⊎ ((v u : ℕ) × (l : Link) × (n : Note Name) × (ns : List (Note Name)) × (link_at v u x.links ≡ Some l) × (l.notes ≡ n ∷ ns) × (y ≡ record x { links = with_link (with_notes ns) v u x.links }))
-
--- What is done goes where the run goes, to the scene of its world, or stops as it does: for the same reason, in the same step, with what there was before that step.
+-- What is done goes where the run goes, to the scene of its world, or stops as it does: for the same reason, in the same step. What the run leaves has the note that was carried off its link; the scene is that of the world before the step.
 abbrev pub ComesTo : Script → Run → Acted → Type 0
 ComesTo script (Goes y) a = a ≡ Plays (scene_of script y)
-ComesTo script (Stopped c n y) a = (x : World) × IsStopOf y x × (a ≡ Breaks c n (scene_of script x))
+ComesTo script (Stopped c n y) a = (x : World) × LeavesOf x y × (a ≡ Breaks c n (scene_of script x))
 
 -- The same of the end. The closing list stands in the lines; the run has it in its history, and the scene's world is that before it.
 abbrev pub EndsIn : Script → Run → Acted → Type 0
 EndsIn script (Goes y) a = (x : World) × (world.close script x ≡ Goes y) × (a ≡ Plays (record (scene_of script x) { lines = map Told y.history }))
-EndsIn script (Stopped c n y) a = (x : World) × IsStopOf y x × (a ≡ Breaks c n (scene_of script x))
+EndsIn script (Stopped c n y) a = (x : World) × LeavesOf x y × (a ≡ Breaks c n (scene_of script x))
 
 -- ---- steps
 

@@ -10,7 +10,7 @@ use Rattle.def_run.specs.Connections.{Connection, Heard}
 use Rattle.def_run.specs.Wire as wire
 use Rattle.def_run.specs.World as world
 use Rattle.def_run.specs.World.{Script, is_old, names, names_of, readied}
-use Rattle.def_run.specs.Deeds.{Deed, NewObject, NewPromise, NewMessage, NewLone, NewDraw, Learns, perform, perform_all}
+use Rattle.def_run.specs.Deeds.{Deed, NewObject, NewPromise, NewMessage, NewLone, Learns, perform, perform_all}
 use Rattle.def_hostile.specs.Hostile.{Play, makes_new, message_deed, message_deeds, names_value, names_passed, names_all, names_in_note, deeds_for, completed, name_in, newcomers, read_op}
 use Rattle.def_machine.specs.Maps as maps
 use Rattle.law_fate.specs.Name.Names.{Bit, AllOf, IsAmong, IsHad, IsKnownIn, ValueOk, PassedOk, PassedsOk, NoteOk, names_in}
@@ -20,7 +20,7 @@ use Rattle.law_fate.proofs.Name.Tracked.{known_among}
 use Rattle.law_lawful.proofs.Heard.{SaysOf, note_says}
 use Rattle.law_lawful.proofs.Tables.{any_op}
 use Rattle.law_lawful.specs.Lawful.{AnyWord, WhatIsSpokenIsKnown}
-use Rattle.law_lawful.proofs.Prepared.{DrawsNone, then_gives, whole, learns_draw_none}
+use Rattle.law_lawful.proofs.Prepared.{then_gives, whole}
 
 -- what is known and what was had stays so
 record Keeps (a b : Vat Name) : Type 0 where
@@ -83,19 +83,18 @@ module _ (script : Script) (v : ℕ) where
   unfolding perform names_of ◌>>◌ world.read_name
   learns n a b e = learnt n a b (is_old (names_in a.known) n) refl e
 
-  keeps : (d : Deed) (a b : Vat Name) → DrawsNone d → perform script v d a ≡ Gives tt b → Keeps a b
+  keeps : (d : Deed) (a b : Vat Name) → perform script v d a ≡ Gives tt b → Keeps a b
   unfolding perform names names_of ◌>>◌ and_then new_thing new_promise new_message new_lone_message give naming name_of mail_of answer_of
-  keeps NewObject a b k e = keeps_to a _ b (record { names = λ n i. i; mails = λ n i. i }) e
-  keeps NewPromise a b k e = keeps_to a _ b (record { names = λ n i. more_known a (begun (Promise v a.promises) a.number) n i; mails = λ n i. i }) e
-  keeps (NewMessage u) a b k e = let m : Msg = record { sender = v; number = a.messages } in keeps_to a _ b (record { names = λ n i. more_known a (begun (Answer u m) u) n i; mails = λ n i. among_more n a.mails (Sent m) i }) e
-  keeps NewLone a b k e = keeps_to a _ b (record { names = λ n i. i; mails = λ n i. among_more n a.mails (Sent (record { sender = v; number = a.messages })) i }) e
-  keeps NewDraw a b k e = absurd k
-  keeps (Learns n) a b k e = (learns n a b e).0
+  keeps NewObject a b e = keeps_to a _ b (record { names = λ n i. i; mails = λ n i. i }) e
+  keeps NewPromise a b e = keeps_to a _ b (record { names = λ n i. more_known a (begun (Promise v a.promises) a.number) n i; mails = λ n i. i }) e
+  keeps (NewMessage u) a b e = let m : Msg = record { sender = v; number = a.messages } in keeps_to a _ b (record { names = λ n i. more_known a (begun (Answer u m) u) n i; mails = λ n i. among_more n a.mails (Sent m) i }) e
+  keeps NewLone a b e = keeps_to a _ b (record { names = λ n i. i; mails = λ n i. among_more n a.mails (Sent (record { sender = v; number = a.messages })) i }) e
+  keeps (Learns n) a b e = (learns n a b e).0
 
-  all_keep : (ds : List Deed) (a b : Vat Name) → AllOf DrawsNone ds → perform_all script v ds a ≡ Gives tt b → Keeps a b
+  all_keep : (ds : List Deed) (a b : Vat Name) → perform_all script v ds a ≡ Gives tt b → Keeps a b
   unfolding perform_all ◌>>◌ give
-  all_keep [] a b k e = keeps_to a a b (keeps_all a) e
-  all_keep (d ∷ ds) a b k e = let r = then_gives (perform script v d a) (perform_all script v ds) b e in keeps_on a r.0 b (keeps d a r.0 k.0 r.1) (all_keep ds r.0 b k.1 r.2)
+  all_keep [] a b e = keeps_to a a b (keeps_all a) e
+  all_keep (d ∷ ds) a b e = let r = then_gives (perform script v d a) (perform_all script v ds) b e in keeps_on a r.0 b (keeps d a r.0 r.1) (all_keep ds r.0 b r.2)
 
   both : (d : Done Name (Unit {0})) (c z : Vat Name) (ds : List Deed) → d ≡ Gives (tt {0}) c → perform_all script v ds c ≡ Gives (tt {0}) z → and_then d (λ _. perform_all script v ds) ≡ Gives (tt {0}) z
   unfolding and_then
@@ -110,7 +109,7 @@ module _ (script : Script) (v : ℕ) where
   all_learnt : (ns : List Name) (a b : Vat Name) → perform_all script v (map Learns ns) a ≡ Gives tt b → AllOf (IsKnownIn (names_in b.known)) ns
   unfolding perform_all ◌>>◌ give
   all_learnt [] a b e = tt
-  all_learnt (n ∷ ns) a b e = let r = then_gives (perform script v (Learns n) a) (perform_all script v (map Learns ns)) b e in let k = learns n a r.0 r.1 in let later : Keeps r.0 b = all_keep (map Learns ns) r.0 b (learns_draw_none ns) r.2 in
+  all_learnt (n ∷ ns) a b e = let r = then_gives (perform script v (Learns n) a) (perform_all script v (map Learns ns)) b e in let k = learns n a r.0 r.1 in let later : Keeps r.0 b = all_keep (map Learns ns) r.0 b r.2 in
       (known_up (names_in r.0.known) (names_in b.known) later.names n k.1, all_learnt ns r.0 b r.2)
 
   -- the message of what is sent
@@ -174,7 +173,7 @@ module _ (script : Script) (v : ℕ) where
   pub deeds_had : (u : ℕ) (ks : List Bool) (n : Note Name) (a b : Vat Name) → perform_all script v (deeds_for u ks n) a ≡ Gives tt b → IsMail n (Sent (record { sender = v; number = a.messages })) → NoteOk (IsHad (names_in b.known) b.mails) n
   deeds_had u ks n a b e i = let p = parts (map makes_new ks) (message_deeds u n ++ map Learns (names_in_note n)) a b (subst (λ ds. perform_all script v ds a ≡ Gives tt b) (whole u ks n) e) in let q = parts (message_deeds u n) (map Learns (names_in_note n)) p.0 b p.2 in
       let same : p.0.messages ≡ a.messages = made_all ks a p.0 p.1 in
-      note_had (names_in b.known) b.mails n (all_learnt (names_in_note n) q.0 b q.2) (mail_of_deeds u n p.0 q.0 b q.1 (all_keep (map Learns (names_in_note n)) q.0 b (learns_draw_none (names_in_note n)) q.2) (subst (λ k. IsMail n (Sent (record { sender = v; number = k }))) (sym same) i))
+      note_had (names_in b.known) b.mails n (all_learnt (names_in_note n) q.0 b q.2) (mail_of_deeds u n p.0 q.0 b q.1 (all_keep (map Learns (names_in_note n)) q.0 b q.2) (subst (λ k. IsMail n (Sent (record { sender = v; number = k }))) (sym same) i))
 
 -- ---- what is spoken
 

@@ -13,3 +13,4 @@ pub mod Runs
 pub mod Logged
 pub mod Asked
 pub mod Thirds
+pub mod Stopped

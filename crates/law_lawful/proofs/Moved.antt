@@ -1,15 +1,15 @@
 -- Each move of a run in which frames are injected keeps what is so of its worlds.
 use Rattle.std.proofs.Common.{◌≡◌, ℕ, Bool, true, false, List, [], ◌∷◌, ◌++◌, Some, refl, sym, subst, ap, inl, inr, arith}
 use Rattle.std.specs.Prelude.{slice_get}
-use Rattle.def_machine.specs.Values.{Name, Root, naming, host_of, word_of, name_of, mail_of, IsAnswer}
-use Rattle.def_machine.specs.State.{Binding, Message, Note, Deliver, Vat, Gives, ◌>>=◌, ◌>>◌, and_then, give, come, mail, send_out}
+use Rattle.def_machine.specs.Values.{Name, Root, naming, host_of, word_of, mail_of, answer_of}
+use Rattle.def_machine.specs.State.{Binding, Message, Note, Deliver, Vat, Gives, ◌>>=◌, ◌>>◌, and_then, give, mail, send_out}
 use Rattle.def_machine.specs.Arrive as arrive
 use Rattle.def_machine.specs.Arrive.{New}
 use Rattle.def_machine.specs.Eval.{opening, taking}
 use Rattle.def_machine.proofs.Keys.{word_key}
 use Rattle.def_kernel.specs.declared.node.Node.{Node}
 use Rattle.def_run.specs.Draws.{draw_word}
-use Rattle.def_run.specs.Deeds.{hear, hear_message}
+use Rattle.def_run.specs.Deeds.{Learns, perform, hear, hear_message}
 use Rattle.def_run.specs.Entered.{entered}
 use Rattle.def_run.specs.Marks as marks
 use Rattle.def_run.specs.Wire.{Connected}
@@ -35,7 +35,7 @@ use Rattle.law_lawful.specs.Claims.{WasMade, IsMade}
 use Rattle.law_lawful.specs.Tables.{TablesFit}
 use Rattle.law_lawful.proofs.Arrives.{fine_note, fine_turn, fine_noticed, fine_open}
 use Rattle.law_lawful.proofs.Claimed.{claimed, is_made_up}
-use Rattle.law_lawful.proofs.Prepared.{Prepared}
+use Rattle.law_lawful.proofs.Prepared.{Prepared, on, learns}
 use Rattle.law_lawful.proofs.Steps.{MadeIn, NoteFits, LinkFits, VatFits, Fits, linked_fits, stepped_fits, ready_holds, note_free}
 use Rattle.law_lawful.proofs.Tables.{fit_up, hear_fits}
 
@@ -46,9 +46,10 @@ same : (a : Vat Name) → Prepared a a 0 0
 same a = record { promises = omega arith; messages = omega arith; drawn = refl; outbox = refl }
 
 module _ (script : Script) (v : ℕ) where
-  message_came : (m : Name) (a b : Vat Name) → (arrive.learn_message (names script v) (New m (host_of m)) >>= (λ id. come (names script v) (IsAnswer v id) v >> give (tt {0}))) a ≡ Gives (tt {0}) b → Prepared a b 0 0
-  unfolding ◌>>=◌ ◌>>◌ and_then give arrive.learn_message mail come names naming name_of mail_of
-  message_came m a b e = given a _ b (record { promises = omega arith; messages = omega arith; drawn = refl; outbox = refl }) e
+  -- its answer comes to be known, or is known
+  message_came : (m : Name) (a b : Vat Name) → (arrive.learn_message (names script v) (New m (host_of m)) >>= (λ id. perform script v (Learns (answer_of v id)))) a ≡ Gives (tt {0}) b → Prepared a b 0 0
+  unfolding ◌>>=◌ and_then arrive.learn_message mail names naming mail_of
+  message_came m a b e = on a _ b 0 0 0 0 (record { promises = omega arith; messages = omega arith; drawn = refl; outbox = refl }) (learns script v _ _ b e)
 
   lone_came : (m : Name) (a b : Vat Name) → (arrive.learn_message (names script v) (New m (host_of m)) >> give (tt {0})) a ≡ Gives (tt {0}) b → Prepared a b 0 0
   unfolding ◌>>◌ and_then give arrive.learn_message mail names naming mail_of

@@ -1,4 +1,4 @@
--- What the record of a hostile vat does so as to have names for a note counts its promises and messages on, and nothing else that matters to others.
+-- What the record of a hostile vat does so as to have names for a note counts its promises and messages on, and draws and puts nothing.
 use Rattle.std.proofs.Common.{◌≡◌, ℕ, ◌≤◌, ◌<◌, suc, ◌+◌, Bool, true, false, List, [], ◌∷◌, ◌++◌, refl, sym, ap, ◌∙◌, map, append_assoc, arith}
 use Rattle.def_machine.specs.Values.{Name, host_of, naming, name_of, mail_of, answer_of}
 use Rattle.def_machine.specs.State.{Note, Deliver, Open, Ask, SettledTo, Elsewhere, Shorten, Vat, Done, Gives, Throws, Ejects, Stops, Act, ◌>>◌, give, new_thing, new_promise, new_message, new_lone_message, come, and_then}
@@ -6,10 +6,8 @@ use Rattle.def_machine.specs.Arrive as arrive
 use Rattle.def_machine.specs.Arrive.{Old, New}
 use Rattle.def_run.specs.World as world
 use Rattle.def_run.specs.World.{Script, names, names_of}
-use Rattle.def_run.specs.Deeds.{Deed, NewObject, NewPromise, NewMessage, NewLone, NewDraw, Learns, perform, perform_all}
+use Rattle.def_run.specs.Deeds.{Deed, NewObject, NewPromise, NewMessage, NewLone, Learns, perform, perform_all}
 use Rattle.def_hostile.specs.Hostile.{makes_new, message_deed, message_deeds, names_in_note, deeds_for}
-use Rattle.law_fate.specs.Name.Names.{AllOf}
-use Rattle.law_fate.proofs.Name.Facts.{all_append}
 
 pub record Prepared (a b : Vat Name) (p m : ℕ) : Type 0 where
   pub promises : a.promises + p ≤ b.promises
@@ -29,11 +27,6 @@ messages_in (NewMessage h ∷ ds) = suc (messages_in ds)
 messages_in (NewLone ∷ ds) = suc (messages_in ds)
 messages_in (d ∷ ds) = messages_in ds
 
--- it draws no word
-abbrev pub DrawsNone : Deed → Type 0
-DrawsNone NewDraw = ⊥
-DrawsNone other = Unit {0}
-
 given : (a x b : Vat Name) (p m : ℕ) → Prepared a x p m → Gives (tt {0}) x ≡ Gives (tt {0}) b → Prepared a b p m
 given a x b p m h e = let same : x ≡ b = cc in rw same at h
 
@@ -44,7 +37,7 @@ then_gives (Throws p r) f t e = cc
 then_gives (Ejects i x r) f t e = cc
 then_gives (Stops c r) f t e = cc
 
-on : (a b c : Vat Name) (p m q k : ℕ) → Prepared a b p m → Prepared b c q k → Prepared a c (p + q) (m + k)
+pub on : (a b c : Vat Name) (p m q k : ℕ) → Prepared a b p m → Prepared b c q k → Prepared a c (p + q) (m + k)
 on a b c p m q k x y = let i : a.promises + p ≤ b.promises = x.promises in let j : b.promises + q ≤ c.promises = y.promises in let f : a.messages + m ≤ b.messages = x.messages in let g : b.messages + k ≤ c.messages = y.messages in
     record { promises = omega arith; messages = omega arith; drawn = y.drawn ∙ x.drawn; outbox = y.outbox ∙ x.outbox }
 
@@ -54,14 +47,17 @@ module _ (script : Script) (v : ℕ) where
   learnt n a b true e = given a a b 0 0 (record { promises = omega arith; messages = omega arith; drawn = refl; outbox = refl }) e
   learnt n a b false e = given a _ b 0 0 (record { promises = omega arith; messages = omega arith; drawn = refl; outbox = refl }) e
 
-  one : (d : Deed) (a b : Vat Name) → DrawsNone d → perform script v d a ≡ Gives tt b → Prepared a b (promises_in (d ∷ [])) (messages_in (d ∷ []))
-  unfolding perform names names_of ◌>>◌ world.read_name and_then new_thing new_promise new_message new_lone_message give naming name_of mail_of answer_of promises_in messages_in
-  one NewObject a b k e = given a _ b 0 0 (record { promises = omega arith; messages = omega arith; drawn = refl; outbox = refl }) e
-  one NewPromise a b k e = given a _ b 1 0 (record { promises = omega arith; messages = omega arith; drawn = refl; outbox = refl }) e
-  one (NewMessage u) a b k e = given a _ b 0 1 (record { promises = omega arith; messages = omega arith; drawn = refl; outbox = refl }) e
-  one NewLone a b k e = given a _ b 0 1 (record { promises = omega arith; messages = omega arith; drawn = refl; outbox = refl }) e
-  one NewDraw a b k e = absurd k
-  one (Learns n) a b k e = learnt n a b _ e
+  pub learns : (n : Name) (a b : Vat Name) → perform script v (Learns n) a ≡ Gives tt b → Prepared a b 0 0
+  unfolding perform names_of ◌>>◌ world.read_name
+  learns n a b e = learnt n a b _ e
+
+  one : (d : Deed) (a b : Vat Name) → perform script v d a ≡ Gives tt b → Prepared a b (promises_in (d ∷ [])) (messages_in (d ∷ []))
+  unfolding perform names ◌>>◌ and_then new_thing new_promise new_message new_lone_message give naming name_of mail_of answer_of promises_in messages_in
+  one NewObject a b e = given a _ b 0 0 (record { promises = omega arith; messages = omega arith; drawn = refl; outbox = refl }) e
+  one NewPromise a b e = given a _ b 1 0 (record { promises = omega arith; messages = omega arith; drawn = refl; outbox = refl }) e
+  one (NewMessage u) a b e = given a _ b 0 1 (record { promises = omega arith; messages = omega arith; drawn = refl; outbox = refl }) e
+  one NewLone a b e = given a _ b 0 1 (record { promises = omega arith; messages = omega arith; drawn = refl; outbox = refl }) e
+  one (Learns n) a b e = learns n a b e
 
   first_promises : (d : Deed) (ds : List Deed) → promises_in (d ∷ ds) ≡ promises_in (d ∷ []) + promises_in ds
   unfolding promises_in
@@ -69,7 +65,6 @@ module _ (script : Script) (v : ℕ) where
   first_promises NewObject ds = omega arith
   first_promises (NewMessage h) ds = omega arith
   first_promises NewLone ds = omega arith
-  first_promises NewDraw ds = omega arith
   first_promises (Learns n) ds = omega arith
 
   first_messages : (d : Deed) (ds : List Deed) → messages_in (d ∷ ds) ≡ messages_in (d ∷ []) + messages_in ds
@@ -78,14 +73,13 @@ module _ (script : Script) (v : ℕ) where
   first_messages NewObject ds = omega arith
   first_messages (NewMessage h) ds = omega arith
   first_messages NewLone ds = omega arith
-  first_messages NewDraw ds = omega arith
   first_messages (Learns n) ds = omega arith
 
-  pub prepared : (ds : List Deed) (a b : Vat Name) → AllOf DrawsNone ds → perform_all script v ds a ≡ Gives tt b → Prepared a b (promises_in ds) (messages_in ds)
+  pub prepared : (ds : List Deed) (a b : Vat Name) → perform_all script v ds a ≡ Gives tt b → Prepared a b (promises_in ds) (messages_in ds)
   unfolding perform_all ◌>>◌ give promises_in messages_in
-  prepared [] a b k e = given a a b 0 0 (record { promises = omega arith; messages = omega arith; drawn = refl; outbox = refl }) e
-  prepared (d ∷ ds) a b k e = let r = then_gives (perform script v d a) (perform_all script v ds) b e in let x : Prepared a r.0 (promises_in (d ∷ [])) (messages_in (d ∷ [])) = one d a r.0 k.0 r.1 in
-      rw (sym (first_promises d ds), sym (first_messages d ds)) at (on a r.0 b (promises_in (d ∷ [])) (messages_in (d ∷ [])) (promises_in ds) (messages_in ds) x (prepared ds r.0 b k.1 r.2))
+  prepared [] a b e = given a a b 0 0 (record { promises = omega arith; messages = omega arith; drawn = refl; outbox = refl }) e
+  prepared (d ∷ ds) a b e = let r = then_gives (perform script v d a) (perform_all script v ds) b e in let x : Prepared a r.0 (promises_in (d ∷ [])) (messages_in (d ∷ [])) = one d a r.0 r.1 in
+      rw (sym (first_promises d ds), sym (first_messages d ds)) at (on a r.0 b (promises_in (d ∷ [])) (messages_in (d ∷ [])) (promises_in ds) (messages_in ds) x (prepared ds r.0 b r.2))
 
 -- ---- the deeds for a note
 
@@ -94,37 +88,10 @@ promises_of_kinds [] = 0
 promises_of_kinds (true ∷ ks) = promises_of_kinds ks
 promises_of_kinds (false ∷ ks) = suc (promises_of_kinds ks)
 
-pub makes_draw_none : (ks : List Bool) → AllOf DrawsNone (map makes_new ks)
-unfolding makes_new
-makes_draw_none [] = tt
-makes_draw_none (true ∷ ks) = (tt, makes_draw_none ks)
-makes_draw_none (false ∷ ks) = (tt, makes_draw_none ks)
-
-pub learns_draw_none : (ns : List Name) → AllOf DrawsNone (map Learns ns)
-learns_draw_none [] = tt
-learns_draw_none (n ∷ ns) = (tt, learns_draw_none ns)
-
-message_draws_none : (u : ℕ) (b : Bool) → DrawsNone (message_deed u b)
-unfolding message_deed
-message_draws_none u true = tt
-message_draws_none u false = tt
-
-pub messages_draw_none : (u : ℕ) (n : Note Name) → AllOf DrawsNone (message_deeds u n)
-unfolding message_deeds
-messages_draw_none u (Deliver d n verb ys) = (message_draws_none u d.asks, tt)
-messages_draw_none u (Open i n) = tt
-messages_draw_none u (Ask p i n) = tt
-messages_draw_none u (SettledTo n y) = tt
-messages_draw_none u (Elsewhere n c) = tt
-messages_draw_none u (Shorten n c i) = tt
-
 -- the deeds in their order
 pub whole : (u : ℕ) (ks : List Bool) (n : Note Name) → deeds_for u ks n ≡ map makes_new ks ++ (message_deeds u n ++ map Learns (names_in_note n))
 unfolding deeds_for
 whole u ks n = append_assoc (map makes_new ks) (message_deeds u n) (map Learns (names_in_note n))
-
-pub deeds_draw_none : (u : ℕ) (ks : List Bool) (n : Note Name) → AllOf DrawsNone (deeds_for u ks n)
-deeds_draw_none u ks n = rw (whole u ks n) (all_append DrawsNone (map makes_new ks) _ (makes_draw_none ks) (all_append DrawsNone (message_deeds u n) _ (messages_draw_none u n) (learns_draw_none (names_in_note n))))
 
 promises_behind : (ks : List Bool) (ds : List Deed) → promises_of_kinds ks ≤ promises_in (map makes_new ks ++ ds)
 unfolding promises_in promises_of_kinds makes_new

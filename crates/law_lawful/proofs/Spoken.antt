@@ -23,7 +23,7 @@ use Rattle.law_lawful.specs.Lawful.{IsThird, Passing, CarriesThirds}
 use Rattle.law_lawful.proofs.Heard.{OpClaims, About, Sends, Provides, Accepts, Resolves, Shortens, SaysOf, note_says}
 use Rattle.law_lawful.proofs.Shapes.{IsTarget, IsSubject, IsShaped, accepted_shaped}
 use Rattle.law_lawful.proofs.Tables.{numbered_fits, connected_holds, nothing_fits}
-use Rattle.law_lawful.proofs.Prepared.{Prepared, prepared, deeds_draw_none, promises_in, messages_in, promises_of_kinds, promises_for, messages_for, HasMessage}
+use Rattle.law_lawful.proofs.Prepared.{Prepared, prepared, promises_in, messages_in, promises_of_kinds, promises_for, messages_for, HasMessage}
 
 -- the new names of a hostile vat are its own, and were made once its promises are counted so far
 new_fit : (Claim : ℕ → Type 0) (vats : List (Vat Name)) (draws : List ℕ) (h : ℕ) (ks : List Bool) (objects promises : ℕ) → promises + promises_of_kinds ks ≤ promises_of vats h → AllOf (IsOf (WasMade Claim vats draws) h) (new_names h objects promises ks)
@@ -154,7 +154,7 @@ module _ (play : Play) (Claim : ℕ → Type 0) (w : World) (h u : ℕ) (t : Vat
   Vats = put_at h t w.vats
 
   pub counts : Prepared (readied w x.record_of) t (promises_in (deeds_for u x.kinds n)) (messages_in (deeds_for u x.kinds n))
-  counts = prepared play.script h (deeds_for u x.kinds n) (readied w x.record_of) t (deeds_draw_none u x.kinds n) x.prepares
+  counts = prepared play.script h (deeds_for u x.kinds n) (readied w x.record_of) t x.prepares
 
   promises_now : promises_of Vats h ≡ t.promises
   promises_now = promises_at Vats h t (get_put w.vats h x.record_of t x.speaks)

@@ -1,3 +1,4 @@
 pub mod Claims
 pub mod Tables
 pub mod Lawful
+pub mod Halted

@@ -2,6 +2,7 @@
 //! They ask nothing of the script, and nothing of any frame.
 #![tactic(auto)]
 
+ghost use Rattle.law_lawful.specs.Halted.{NextStepsStop, StopsLeaveWhatWas};
 ghost use Rattle.law_lawful.specs.Lawful.{NamesWereMade, NotesNameTheirEnds, NotesNameWhatWasMade, QuestionsAreAsLogged, RunsAreLawful, TablesNameTheirEnds, ThirdsAreNeeded};
 ghost use Rattle.law_lawful.specs.Lawful.{WhatAnHonestVatHasIsItsOwn, WhatIsSpokenIsBetween, WhatIsSpokenIsKnown};
 
@@ -55,6 +56,14 @@ pub fn runs_are_lawful()
 /// order; so the number of a question is that of the note that asks it, be it put by an honest vat or in a frame.
 pub fn questions_are_as_logged()
     ensures { QuestionsAreAsLogged }
+{}
+
+/// A run that stops leaves a scene to which it came: after some of its opening turns, or after all of them and some entries and
+/// injected frames. Nothing of the step that stopped is left in it: the frame that it carried is on its link, no gift is claimed
+/// and no link cut. What `step` adds is that this step is the next one there, and that the number in the stop is its number.
+pub fn halted()
+    ensures left { StopsLeaveWhatWas }
+    ensures step { NextStepsStop }
 {}
 
 /// A gift of a third vat that is told twice in one frame passes the second time as a plain name of that vat, so names of the two

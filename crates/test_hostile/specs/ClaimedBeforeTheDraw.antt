@@ -1,5 +1,5 @@
 -- A run with hostile vats, and its text with its frames.
-use Rattle.std.specs.Prelude.{◌≡◌, List, [], ◌∷◌, codes, None}
+use Rattle.std.specs.Prelude.{◌≡◌, ℕ, List, [], ◌∷◌, codes, None}
 use Rattle.def_run.specs.World.{Carry, Turn, Script}
 use Rattle.def_hostile.specs.Hostile.{Play, Does, Injects, acts}
 use Rattle.def_hostile.specs.HostileText.{wire_text}
@@ -49,8 +49,9 @@ play = record {
   doings = Injects 3 0 (1 ∷ 0 ∷ 9 ∷ 0 ∷ 3 ∷ 112 ∷ 117 ∷ 116 ∷ 1 ∷ 13 ∷ 2 ∷ 3 ∷ 0 ∷ 0 ∷ 0 ∷ 0 ∷ 0 ∷ 0 ∷ 0 ∷ 0 ∷ 0 ∷ 0 ∷ 0 ∷ 0 ∷ 0 ∷ 0 ∷ 0 ∷ []) ∷ Does (Carry 3 0) ∷ Injects 3 2 (4 ∷ 0 ∷ 0 ∷ 118 ∷ 184 ∷ 224 ∷ 173 ∷ 160 ∷ 241 ∷ 61 ∷ 144 ∷ 64 ∷ 93 ∷ 106 ∷ 229 ∷ 83 ∷ 134 ∷ 189 ∷ 40 ∷ []) ∷ Does (Carry 3 2) ∷ Does (Carry 0 1) ∷ Does (Turn 0) ∷ Does (Turn 1) ∷ Does (Turn 2) ∷ Does (Turn 3) ∷ Does (Carry 0 1) ∷ Does (Carry 0 2) ∷ Does (Carry 0 3) ∷ Does (Carry 1 0) ∷ Does (Carry 1 2) ∷ Does (Carry 1 3) ∷ Does (Carry 2 0) ∷ Does (Carry 2 1) ∷ Does (Carry 2 3) ∷ Does (Carry 3 0) ∷ Does (Carry 3 1) ∷ Does (Carry 3 2) ∷ Does (Turn 0) ∷ Does (Turn 1) ∷ Does (Turn 2) ∷ Does (Turn 3) ∷ Does (Carry 0 1) ∷ Does (Carry 0 2) ∷ Does (Carry 0 3) ∷ Does (Carry 1 0) ∷ Does (Carry 1 2) ∷ Does (Carry 1 3) ∷ Does (Carry 2 0) ∷ Does (Carry 2 1) ∷ Does (Carry 2 3) ∷ Does (Carry 3 0) ∷ Does (Carry 3 1) ∷ Does (Carry 3 2) ∷ Does (Turn 0) ∷ Does (Turn 1) ∷ Does (Turn 2) ∷ Does (Turn 3) ∷ Does (Carry 0 1) ∷ Does (Carry 0 2) ∷ Does (Carry 0 3) ∷ Does (Carry 1 0) ∷ Does (Carry 1 2) ∷ Does (Carry 1 3) ∷ Does (Carry 2 0) ∷ Does (Carry 2 1) ∷ Does (Carry 2 3) ∷ Does (Carry 3 0) ∷ Does (Carry 3 1) ∷ Does (Carry 3 2) ∷ [];
 }
 
-abbrev pub Holds : Type 0
-Holds = wire_text play (acts play) ≡ lines (
+-- what is due of it
+abbrev pub due : List ℕ
+due = lines (
     codes "open a"
     ∷ codes "!0 done @c"
     ∷ codes "wait @a @c"
@@ -144,6 +145,9 @@ Holds = wire_text play (acts play) ≡ lines (
     ∷ codes "left link a h settled a?h/0 broken:\"no method\""
     ∷ codes "end"
     ∷ [])
+
+abbrev pub Holds : Type 0
+Holds = wire_text play (acts play) ≡ due
 
 unfoldable pub opened : Unit {0}
 unfolding tree_0 tree_1 tree_2 play

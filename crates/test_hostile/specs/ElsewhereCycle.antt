@@ -1,5 +1,5 @@
 -- A run with hostile vats, and its text.
-use Rattle.std.specs.Prelude.{◌≡◌, List, [], ◌∷◌, codes, None, pos}
+use Rattle.std.specs.Prelude.{◌≡◌, ℕ, List, [], ◌∷◌, codes, None, pos}
 use Rattle.def_run.specs.World.{Carry, Script}
 use Rattle.def_hostile.specs.Hostile.{Play, Does, Injects, acts}
 use Rattle.def_hostile.specs.HostileText.{text}
@@ -47,8 +47,9 @@ play = record {
   doings = Injects 1 0 (1 ∷ 0 ∷ 9 ∷ 0 ∷ 3 ∷ 112 ∷ 117 ∷ 116 ∷ 2 ∷ 13 ∷ 2 ∷ 118 ∷ 184 ∷ 224 ∷ 173 ∷ 160 ∷ 241 ∷ 61 ∷ 144 ∷ 64 ∷ 93 ∷ 106 ∷ 229 ∷ 83 ∷ 134 ∷ 189 ∷ 40 ∷ 12 ∷ 0 ∷ []) ∷ Does (Carry 1 0) ∷ Injects 1 0 (2 ∷ 12 ∷ 0 ∷ 15 ∷ 2 ∷ []) ∷ Does (Carry 1 0) ∷ [];
 }
 
-abbrev pub Holds : Type 0
-Holds = text play (acts play) ≡ lines (
+-- what is due of it
+abbrev pub due : List ℕ
+due = lines (
     codes "open a"
     ∷ codes "!0 made a.0 t"
     ∷ codes "!0 done 0"
@@ -67,6 +68,9 @@ Holds = text play (acts play) ≡ lines (
     ∷ codes "left link a c ask c^h:76b8e0ada0f13d90405d6ae55386bd28 h"
     ∷ codes "end"
     ∷ [])
+
+abbrev pub Holds : Type 0
+Holds = text play (acts play) ≡ due
 
 unfoldable pub opened : Unit {0}
 unfolding tree_0 tree_2 play

@@ -1,5 +1,5 @@
 -- A run with hostile vats, and its text with its frames.
-use Rattle.std.specs.Prelude.{◌≡◌, List, [], ◌∷◌, codes, None, pos}
+use Rattle.std.specs.Prelude.{◌≡◌, ℕ, List, [], ◌∷◌, codes, None, pos}
 use Rattle.def_run.specs.World.{Carry, Turn, Script}
 use Rattle.def_hostile.specs.Hostile.{Play, Does, Injects, acts}
 use Rattle.def_hostile.specs.HostileText.{wire_text}
@@ -38,8 +38,9 @@ play = record {
   doings = Injects 1 0 (1 ∷ 0 ∷ 9 ∷ 0 ∷ 3 ∷ 112 ∷ 117 ∷ 116 ∷ 1 ∷ 12 ∷ 0 ∷ []) ∷ Does (Carry 1 0) ∷ Does (Turn 0) ∷ Injects 1 0 (2 ∷ 12 ∷ 0 ∷ 15 ∷ 0 ∷ []) ∷ Does (Carry 1 0) ∷ Does (Carry 0 1) ∷ Does (Carry 0 1) ∷ Does (Carry 0 1) ∷ Injects 1 0 (3 ∷ 9 ∷ 0 ∷ 118 ∷ 184 ∷ 224 ∷ 173 ∷ 160 ∷ 241 ∷ 61 ∷ 144 ∷ 64 ∷ 93 ∷ 106 ∷ 229 ∷ 83 ∷ 134 ∷ 189 ∷ 40 ∷ []) ∷ Does (Carry 1 0) ∷ [];
 }
 
-abbrev pub Holds : Type 0
-Holds = wire_text play (acts play) ≡ lines (
+-- what is due of it
+abbrev pub due : List ℕ
+due = lines (
     codes "open a"
     ∷ codes "!0 made a.0 t"
     ∷ codes "!0 done 0"
@@ -68,6 +69,9 @@ Holds = wire_text play (acts play) ≡ lines (
     ∷ codes "settle h~0 0"
     ∷ codes "end"
     ∷ [])
+
+abbrev pub Holds : Type 0
+Holds = wire_text play (acts play) ≡ due
 
 unfoldable pub opened : Unit {0}
 unfolding tree_0 play

@@ -1,5 +1,5 @@
 -- A run with hostile vats, and its text with its frames.
-use Rattle.std.specs.Prelude.{◌≡◌, List, [], ◌∷◌, codes}
+use Rattle.std.specs.Prelude.{◌≡◌, ℕ, List, [], ◌∷◌, codes}
 use Rattle.def_run.specs.World.{Carry, CutLink, NoticeLink, Turn, Script}
 use Rattle.def_hostile.specs.Hostile.{Play, Does, Injects, acts}
 use Rattle.def_hostile.specs.HostileText.{wire_text}
@@ -35,8 +35,9 @@ play = record {
   doings = Injects 1 2 (255 ∷ 0 ∷ []) ∷ Injects 2 1 (0 ∷ []) ∷ Does (Carry 1 2) ∷ Does (Carry 2 1) ∷ Injects 1 2 (1 ∷ []) ∷ Does (CutLink 1 0) ∷ Does (NoticeLink 1 0) ∷ Does (Carry 0 1) ∷ Injects 1 0 (2 ∷ []) ∷ Does (Turn 1) ∷ Does (CutLink 1 2) ∷ Injects 2 1 (3 ∷ []) ∷ [];
 }
 
-abbrev pub Holds : Type 0
-Holds = wire_text play (acts play) ≡ lines (
+-- what is due of it
+abbrev pub due : List ℕ
+due = lines (
     codes "open a"
     ∷ codes "!0 list a%0"
     ∷ codes "!0 send a/0 @h hi -> h?a/0"
@@ -57,6 +58,9 @@ Holds = wire_text play (acts play) ≡ lines (
     ∷ codes "12 inject i h cut"
     ∷ codes "end"
     ∷ [])
+
+abbrev pub Holds : Type 0
+Holds = wire_text play (acts play) ≡ due
 
 unfoldable pub opened : Unit {0}
 unfolding tree_0 play

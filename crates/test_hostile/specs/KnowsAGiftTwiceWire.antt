@@ -1,5 +1,5 @@
 -- A run with hostile vats, and its text with its frames.
-use Rattle.std.specs.Prelude.{◌≡◌, List, [], ◌∷◌, codes, None, pos}
+use Rattle.std.specs.Prelude.{◌≡◌, ℕ, List, [], ◌∷◌, codes, None, pos}
 use Rattle.def_run.specs.World.{Carry, Turn, Script}
 use Rattle.def_hostile.specs.Hostile.{Play, Does, Injects, acts}
 use Rattle.def_hostile.specs.HostileText.{wire_text}
@@ -57,8 +57,9 @@ play = record {
   doings = Injects 3 1 (4 ∷ 0 ∷ 2 ∷ 0 ∷ 0 ∷ 0 ∷ 0 ∷ 0 ∷ 0 ∷ 0 ∷ 0 ∷ 0 ∷ 0 ∷ 0 ∷ 0 ∷ 0 ∷ 0 ∷ 0 ∷ 0 ∷ []) ∷ Does (Carry 3 1) ∷ Injects 3 1 (1 ∷ 1 ∷ 9 ∷ 0 ∷ 3 ∷ 102 ∷ 119 ∷ 100 ∷ 1 ∷ 10 ∷ 0 ∷ []) ∷ Does (Carry 3 1) ∷ Does (Turn 1) ∷ Does (Carry 1 0) ∷ Does (Carry 1 0) ∷ Does (Turn 0) ∷ Injects 2 0 (1 ∷ 0 ∷ 9 ∷ 0 ∷ 3 ∷ 112 ∷ 117 ∷ 116 ∷ 1 ∷ 13 ∷ 1 ∷ 0 ∷ 0 ∷ 0 ∷ 0 ∷ 0 ∷ 0 ∷ 0 ∷ 0 ∷ 0 ∷ 0 ∷ 0 ∷ 0 ∷ 0 ∷ 0 ∷ 0 ∷ 0 ∷ []) ∷ Does (Carry 2 0) ∷ Does (Turn 0) ∷ Injects 2 1 (3 ∷ 9 ∷ 0 ∷ 0 ∷ 0 ∷ 0 ∷ 0 ∷ 0 ∷ 0 ∷ 0 ∷ 0 ∷ 0 ∷ 0 ∷ 0 ∷ 0 ∷ 0 ∷ 0 ∷ 0 ∷ 0 ∷ []) ∷ Does (Carry 2 1) ∷ Does (Carry 0 1) ∷ Does (Carry 0 1) ∷ Does (Carry 0 1) ∷ Does (Carry 0 1) ∷ Does (Turn 0) ∷ Does (Turn 1) ∷ Does (Turn 2) ∷ Does (Turn 3) ∷ Does (Carry 0 1) ∷ Does (Carry 0 2) ∷ Does (Carry 0 3) ∷ Does (Carry 1 0) ∷ Does (Carry 1 2) ∷ Does (Carry 1 3) ∷ Does (Carry 2 0) ∷ Does (Carry 2 1) ∷ Does (Carry 2 3) ∷ Does (Carry 3 0) ∷ Does (Carry 3 1) ∷ Does (Carry 3 2) ∷ Does (Turn 0) ∷ Does (Turn 1) ∷ Does (Turn 2) ∷ Does (Turn 3) ∷ Does (Carry 0 1) ∷ Does (Carry 0 2) ∷ Does (Carry 0 3) ∷ Does (Carry 1 0) ∷ Does (Carry 1 2) ∷ Does (Carry 1 3) ∷ Does (Carry 2 0) ∷ Does (Carry 2 1) ∷ Does (Carry 2 3) ∷ Does (Carry 3 0) ∷ Does (Carry 3 1) ∷ Does (Carry 3 2) ∷ [];
 }
 
-abbrev pub Holds : Type 0
-Holds = wire_text play (acts play) ≡ lines (
+-- what is due of it
+abbrev pub due : List ℕ
+due = lines (
     codes "open a"
     ∷ codes "!0 made a.0 t"
     ∷ codes "!0 done a.0"
@@ -161,6 +162,9 @@ Holds = wire_text play (acts play) ≡ lines (
     ∷ codes "left link c a settled c?a/1 1"
     ∷ codes "end"
     ∷ [])
+
+abbrev pub Holds : Type 0
+Holds = wire_text play (acts play) ≡ due
 
 unfoldable pub opened : Unit {0}
 unfolding tree_0 tree_1 play

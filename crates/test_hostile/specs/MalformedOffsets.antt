@@ -1,5 +1,5 @@
 -- A run with hostile vats, and its text.
-use Rattle.std.specs.Prelude.{◌≡◌, List, [], ◌∷◌, codes, None}
+use Rattle.std.specs.Prelude.{◌≡◌, ℕ, List, [], ◌∷◌, codes, None}
 use Rattle.def_run.specs.World.{Carry, Script}
 use Rattle.def_hostile.specs.Hostile.{Play, Does, Injects, acts}
 use Rattle.def_hostile.specs.HostileText.{text}
@@ -49,8 +49,9 @@ play = record {
   doings = Injects 1 0 (7 ∷ []) ∷ Does (Carry 1 0) ∷ Injects 2 0 (1 ∷ 0 ∷ 10 ∷ 0 ∷ []) ∷ Does (Carry 2 0) ∷ Injects 3 0 (1 ∷ 0 ∷ 11 ∷ 0 ∷ []) ∷ Does (Carry 3 0) ∷ Injects 4 0 (1 ∷ 0 ∷ 9 ∷ 1 ∷ []) ∷ Does (Carry 4 0) ∷ Injects 5 0 (1 ∷ 0 ∷ 9 ∷ 0 ∷ 2 ∷ 97 ∷ []) ∷ Does (Carry 5 0) ∷ Injects 6 0 (1 ∷ 0 ∷ 9 ∷ 0 ∷ 1 ∷ 97 ∷ 128 ∷ 2 ∷ []) ∷ Does (Carry 6 0) ∷ Injects 7 0 (1 ∷ 0 ∷ 9 ∷ 0 ∷ 1 ∷ 97 ∷ 1 ∷ 129 ∷ 0 ∷ []) ∷ Does (Carry 7 0) ∷ Injects 8 0 (1 ∷ 0 ∷ 9 ∷ 0 ∷ 1 ∷ 97 ∷ 1 ∷ 11 ∷ 1 ∷ []) ∷ Does (Carry 8 0) ∷ Injects 9 0 (1 ∷ 0 ∷ 9 ∷ 0 ∷ 1 ∷ 97 ∷ 2 ∷ 11 ∷ 0 ∷ 12 ∷ 0 ∷ []) ∷ Does (Carry 9 0) ∷ Injects 10 0 (1 ∷ 0 ∷ 9 ∷ 0 ∷ 1 ∷ 97 ∷ 1 ∷ 13 ∷ 16 ∷ 0 ∷ 0 ∷ 0 ∷ 0 ∷ 0 ∷ 0 ∷ 0 ∷ 0 ∷ 0 ∷ 0 ∷ 0 ∷ 0 ∷ 0 ∷ 0 ∷ 0 ∷ 0 ∷ []) ∷ Does (Carry 10 0) ∷ Injects 11 0 (1 ∷ 0 ∷ 9 ∷ 0 ∷ 1 ∷ 97 ∷ 1 ∷ 13 ∷ 0 ∷ 0 ∷ 0 ∷ 0 ∷ 0 ∷ 0 ∷ 0 ∷ 0 ∷ 0 ∷ 0 ∷ 0 ∷ 0 ∷ 0 ∷ 0 ∷ 0 ∷ 0 ∷ 0 ∷ []) ∷ Does (Carry 11 0) ∷ Injects 12 0 (2 ∷ 12 ∷ 0 ∷ 13 ∷ 0 ∷ 0 ∷ 0 ∷ 0 ∷ 0 ∷ 0 ∷ 0 ∷ 0 ∷ 0 ∷ 0 ∷ 0 ∷ 0 ∷ 0 ∷ 0 ∷ 0 ∷ 0 ∷ 0 ∷ []) ∷ Does (Carry 12 0) ∷ Injects 13 0 (2 ∷ 12 ∷ 0 ∷ 0 ∷ 0 ∷ []) ∷ Does (Carry 13 0) ∷ Injects 14 0 (1 ∷ 0 ∷ 9 ∷ 0 ∷ 1 ∷ 97 ∷ 1 ∷ 3 ∷ 128 ∷ 0 ∷ []) ∷ Does (Carry 14 0) ∷ Injects 15 0 (1 ∷ 0 ∷ 9 ∷ 0 ∷ 1 ∷ 97 ∷ 1 ∷ 7 ∷ 20 ∷ []) ∷ Does (Carry 15 0) ∷ [];
 }
 
-abbrev pub Holds : Type 0
-Holds = text play (acts play) ≡ lines (
+-- what is due of it
+abbrev pub due : List ℕ
+due = lines (
     codes "open a"
     ∷ codes "!0 made a.0 t"
     ∷ codes "!0 done a.0"
@@ -87,6 +88,9 @@ Holds = text play (acts play) ≡ lines (
     ∷ codes "30 carry h14 a malformed 8"
     ∷ codes "end"
     ∷ [])
+
+abbrev pub Holds : Type 0
+Holds = text play (acts play) ≡ due
 
 unfoldable pub opened : Unit {0}
 unfolding tree_0 play

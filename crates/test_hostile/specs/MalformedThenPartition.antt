@@ -1,5 +1,5 @@
 -- A run with hostile vats, and its text.
-use Rattle.std.specs.Prelude.{◌≡◌, List, [], ◌∷◌, codes, None, pos}
+use Rattle.std.specs.Prelude.{◌≡◌, ℕ, List, [], ◌∷◌, codes, None, pos}
 use Rattle.def_run.specs.World.{Carry, Turn, Script}
 use Rattle.def_hostile.specs.Hostile.{Play, Does, Injects, acts}
 use Rattle.def_hostile.specs.HostileText.{text}
@@ -51,8 +51,9 @@ play = record {
   doings = Injects 1 0 (0 ∷ []) ∷ Does (Carry 0 1) ∷ Injects 1 0 (1 ∷ []) ∷ Does (Carry 1 0) ∷ Does (Turn 0) ∷ [];
 }
 
-abbrev pub Holds : Type 0
-Holds = text play (acts play) ≡ lines (
+-- what is due of it
+abbrev pub due : List ℕ
+due = lines (
     codes "open a"
     ∷ codes "!0 list a%0 1"
     ∷ codes "!0 send a/0 @h f 1 -> h?a/0"
@@ -73,6 +74,9 @@ Holds = text play (acts play) ≡ lines (
     ∷ codes "settle @a \"partition\""
     ∷ codes "end"
     ∷ [])
+
+abbrev pub Holds : Type 0
+Holds = text play (acts play) ≡ due
 
 unfoldable pub opened : Unit {0}
 unfolding tree_0 play

@@ -1,5 +1,5 @@
 -- A run with hostile vats, and its text.
-use Rattle.std.specs.Prelude.{◌≡◌, List, [], ◌∷◌, codes, None}
+use Rattle.std.specs.Prelude.{◌≡◌, ℕ, List, [], ◌∷◌, codes, None}
 use Rattle.def_run.specs.World.{Carry, Turn, Script}
 use Rattle.def_hostile.specs.Hostile.{Play, Does, Injects, acts}
 use Rattle.def_hostile.specs.HostileText.{text}
@@ -32,8 +32,9 @@ play = record {
   doings = Does (Carry 0 1) ∷ Injects 1 0 (1 ∷ 0 ∷ 9 ∷ 0 ∷ 3 ∷ 112 ∷ 117 ∷ 116 ∷ 1 ∷ 3 ∷ 5 ∷ []) ∷ Does (Carry 1 0) ∷ Does (Turn 0) ∷ [];
 }
 
-abbrev pub Holds : Type 0
-Holds = text play (acts play) ≡ lines (
+-- what is due of it
+abbrev pub due : List ℕ
+due = lines (
     codes "open a"
     ∷ codes "!0 made a.0 t"
     ∷ codes "!0 done a.0"
@@ -48,6 +49,9 @@ Holds = text play (acts play) ≡ lines (
     ∷ codes "left link a h settled a?h/0 5"
     ∷ codes "end"
     ∷ [])
+
+abbrev pub Holds : Type 0
+Holds = text play (acts play) ≡ due
 
 unfoldable pub opened : Unit {0}
 unfolding tree_0 play

@@ -1,5 +1,5 @@
 -- A run with hostile vats, and its text with its frames.
-use Rattle.std.specs.Prelude.{◌≡◌, List, [], ◌∷◌, codes, None}
+use Rattle.std.specs.Prelude.{◌≡◌, ℕ, List, [], ◌∷◌, codes, None}
 use Rattle.def_run.specs.World.{Carry, Turn, Script}
 use Rattle.def_hostile.specs.Hostile.{Play, Does, Injects, acts}
 use Rattle.def_hostile.specs.HostileText.{wire_text}
@@ -35,8 +35,9 @@ play = record {
   doings = Injects 1 0 (1 ∷ 0 ∷ 9 ∷ 0 ∷ 3 ∷ 112 ∷ 117 ∷ 116 ∷ 3 ∷ 11 ∷ 0 ∷ 12 ∷ 1 ∷ 11 ∷ 0 ∷ []) ∷ Does (Carry 1 0) ∷ Does (Turn 0) ∷ Injects 1 0 (2 ∷ 12 ∷ 1 ∷ 6 ∷ 2 ∷ 11 ∷ 2 ∷ 12 ∷ 3 ∷ []) ∷ Does (Carry 1 0) ∷ Injects 1 0 (2 ∷ 12 ∷ 1 ∷ 6 ∷ 2 ∷ 11 ∷ 4 ∷ 12 ∷ 5 ∷ []) ∷ Does (Carry 1 0) ∷ Injects 1 0 (2 ∷ 12 ∷ 3 ∷ 5 ∷ 1 ∷ 97 ∷ []) ∷ Does (Carry 1 0) ∷ [];
 }
 
-abbrev pub Holds : Type 0
-Holds = wire_text play (acts play) ≡ lines (
+-- what is due of it
+abbrev pub due : List ℕ
+due = lines (
     codes "open a"
     ∷ codes "!0 made a.0 t"
     ∷ codes "!0 done a.0"
@@ -67,6 +68,9 @@ Holds = wire_text play (acts play) ≡ lines (
     ∷ codes "left link a h settled a?h/0 [\"put\" [h.0 h~0 h.0]]"
     ∷ codes "end"
     ∷ [])
+
+abbrev pub Holds : Type 0
+Holds = wire_text play (acts play) ≡ due
 
 unfoldable pub opened : Unit {0}
 unfolding tree_0 play

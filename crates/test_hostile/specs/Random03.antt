@@ -1,5 +1,5 @@
 -- A run with hostile vats, and its text.
-use Rattle.std.specs.Prelude.{◌≡◌, List, [], ◌∷◌, codes, None, pos}
+use Rattle.std.specs.Prelude.{◌≡◌, ℕ, List, [], ◌∷◌, codes, None, pos}
 use Rattle.def_run.specs.World.{Carry, Script}
 use Rattle.def_hostile.specs.Hostile.{Play, Does, Injects, acts}
 use Rattle.def_hostile.specs.HostileText.{text}
@@ -50,8 +50,9 @@ play = record {
   doings = Injects 0 1 (1 ∷ 0 ∷ 10 ∷ 0 ∷ 7 ∷ 114 ∷ 101 ∷ 115 ∷ 111 ∷ 108 ∷ 118 ∷ 101 ∷ 1 ∷ 9 ∷ 0 ∷ []) ∷ Injects 0 1 (2 ∷ 14 ∷ 0 ∷ 15 ∷ 1 ∷ []) ∷ Does (Carry 1 0) ∷ Does (Carry 0 1) ∷ [];
 }
 
-abbrev pub Holds : Type 0
-Holds = text play (acts play) ≡ lines (
+-- what is due of it
+abbrev pub due : List ℕ
+due = lines (
     codes "open b"
     ∷ codes "!0 made b.0 _"
     ∷ codes "!0 call b.0 negate as !1"
@@ -65,6 +66,9 @@ Holds = text play (acts play) ≡ lines (
     ∷ codes "4 carry a b malformed 3"
     ∷ codes "end"
     ∷ [])
+
+abbrev pub Holds : Type 0
+Holds = text play (acts play) ≡ due
 
 unfoldable pub opened : Unit {0}
 unfolding tree_1 play

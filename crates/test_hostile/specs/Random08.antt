@@ -1,5 +1,5 @@
 -- A run with hostile vats, and its text.
-use Rattle.std.specs.Prelude.{◌≡◌, List, [], ◌∷◌, codes, None}
+use Rattle.std.specs.Prelude.{◌≡◌, ℕ, List, [], ◌∷◌, codes, None}
 use Rattle.def_run.specs.World.{Carry, Script}
 use Rattle.def_hostile.specs.Hostile.{Play, Does, Injects, acts}
 use Rattle.def_hostile.specs.HostileText.{text}
@@ -67,8 +67,9 @@ play = record {
   doings = Injects 0 2 (2 ∷ 12 ∷ 0 ∷ 15 ∷ 2 ∷ []) ∷ Does (Carry 2 0) ∷ Does (Carry 0 2) ∷ Does (Carry 2 0) ∷ Injects 1 0 (3 ∷ []) ∷ Does (Carry 1 0) ∷ [];
 }
 
-abbrev pub Holds : Type 0
-Holds = text play (acts play) ≡ lines (
+-- what is due of it
+abbrev pub due : List ℕ
+due = lines (
     codes "open c"
     ∷ codes "!0 made c.0 t caps c.0"
     ∷ codes "!0 done c.0"
@@ -82,6 +83,9 @@ Holds = text play (acts play) ≡ lines (
     ∷ codes "6 carry b a bytes 03"
     ∷ codes "end"
     ∷ [])
+
+abbrev pub Holds : Type 0
+Holds = text play (acts play) ≡ due
 
 unfoldable pub opened : Unit {0}
 unfolding tree_2 play

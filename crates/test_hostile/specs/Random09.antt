@@ -1,5 +1,5 @@
 -- A run with hostile vats, and its text with its frames.
-use Rattle.std.specs.Prelude.{◌≡◌, List, [], ◌∷◌, codes, None, Some, pos}
+use Rattle.std.specs.Prelude.{◌≡◌, ℕ, List, [], ◌∷◌, codes, None, Some, pos}
 use Rattle.def_run.specs.World.{Carry, Turn, Script}
 use Rattle.def_hostile.specs.Hostile.{Play, Does, Injects, acts}
 use Rattle.def_hostile.specs.HostileText.{wire_text}
@@ -57,8 +57,9 @@ play = record {
   doings = Injects 0 1 (3 ∷ 10 ∷ 0 ∷ 3 ∷ 0 ∷ 0 ∷ 0 ∷ 0 ∷ 0 ∷ 0 ∷ 0 ∷ 0 ∷ 0 ∷ 0 ∷ 0 ∷ 0 ∷ 0 ∷ 0 ∷ 0 ∷ []) ∷ Does (Carry 1 0) ∷ Does (Carry 0 1) ∷ Does (Turn 0) ∷ Does (Turn 1) ∷ Does (Carry 0 1) ∷ Does (Carry 1 0) ∷ Does (Turn 0) ∷ Does (Turn 1) ∷ Does (Carry 0 1) ∷ Does (Carry 1 0) ∷ [];
 }
 
-abbrev pub Holds : Type 0
-Holds = wire_text play (acts play) ≡ lines (
+-- what is due of it
+abbrev pub due : List ℕ
+due = lines (
     codes "open b"
     ∷ codes "!0 made b.0 v1 caps @a"
     ∷ codes "!0 call 8 negate"
@@ -81,6 +82,9 @@ Holds = wire_text play (acts play) ≡ lines (
     ∷ codes "11 idle"
     ∷ codes "end"
     ∷ [])
+
+abbrev pub Holds : Type 0
+Holds = wire_text play (acts play) ≡ due
 
 unfoldable pub opened : Unit {0}
 unfolding tree_1 play

@@ -1,5 +1,5 @@
 -- A run with hostile vats, and its text.
-use Rattle.std.specs.Prelude.{◌≡◌, List, [], ◌∷◌, codes, None, pos}
+use Rattle.std.specs.Prelude.{◌≡◌, ℕ, List, [], ◌∷◌, codes, None, pos}
 use Rattle.def_run.specs.World.{Carry, Script}
 use Rattle.def_hostile.specs.Hostile.{Play, Does, Injects, acts}
 use Rattle.def_hostile.specs.HostileText.{text}
@@ -85,8 +85,9 @@ play = record {
   doings = Does (Carry 1 0) ∷ [];
 }
 
-abbrev pub Holds : Type 0
-Holds = text play (acts play) ≡ lines (
+-- what is due of it
+abbrev pub due : List ℕ
+due = lines (
     codes "open b"
     ∷ codes "!0 list b%0 @a 3"
     ∷ codes "!0 sendonly b/0 @a g @a 3"
@@ -98,6 +99,9 @@ Holds = text play (acts play) ≡ lines (
     ∷ codes "1 carry b a deliveronly b/0 @a g @a 3"
     ∷ codes "end"
     ∷ [])
+
+abbrev pub Holds : Type 0
+Holds = text play (acts play) ≡ due
 
 unfoldable pub opened : Unit {0}
 unfolding tree_1 play

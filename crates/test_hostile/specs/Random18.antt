@@ -1,5 +1,5 @@
 -- A run with hostile vats, and its text with its frames.
-use Rattle.std.specs.Prelude.{◌≡◌, List, [], ◌∷◌, codes, None}
+use Rattle.std.specs.Prelude.{◌≡◌, ℕ, List, [], ◌∷◌, codes, None}
 use Rattle.def_run.specs.World.{Carry, Turn, Script}
 use Rattle.def_hostile.specs.Hostile.{Play, Does, Injects, acts}
 use Rattle.def_hostile.specs.HostileText.{wire_text}
@@ -77,8 +77,9 @@ play = record {
   doings = Does (Carry 0 2) ∷ Injects 2 0 (4 ∷ 0 ∷ 1 ∷ 118 ∷ 184 ∷ 224 ∷ 173 ∷ 160 ∷ 241 ∷ 61 ∷ 144 ∷ 64 ∷ 93 ∷ 106 ∷ 229 ∷ 83 ∷ 134 ∷ 189 ∷ 40 ∷ []) ∷ Does (Carry 2 0) ∷ Injects 2 0 (2 ∷ 12 ∷ 0 ∷ 15 ∷ 0 ∷ []) ∷ Does (Carry 2 0) ∷ Injects 2 0 (1 ∷ 0 ∷ 9 ∷ 0 ∷ 3 ∷ 112 ∷ 117 ∷ 116 ∷ 1 ∷ 12 ∷ 0 ∷ []) ∷ Does (Carry 2 0) ∷ Does (Turn 0) ∷ Does (Turn 0) ∷ Does (Turn 1) ∷ Does (Turn 2) ∷ Does (Carry 0 1) ∷ Does (Carry 0 2) ∷ Does (Carry 1 0) ∷ Does (Carry 1 2) ∷ Does (Carry 2 0) ∷ Does (Carry 2 1) ∷ Does (Turn 0) ∷ Does (Turn 1) ∷ Does (Turn 2) ∷ Does (Carry 0 1) ∷ Does (Carry 0 2) ∷ Does (Carry 1 0) ∷ Does (Carry 1 2) ∷ Does (Carry 2 0) ∷ Does (Carry 2 1) ∷ [];
 }
 
-abbrev pub Holds : Type 0
-Holds = wire_text play (acts play) ≡ lines (
+-- what is due of it
+abbrev pub due : List ℕ
+due = lines (
     codes "open a"
     ∷ codes "!0 made a.0 t caps a.0"
     ∷ codes "!0 done a.0"
@@ -124,6 +125,9 @@ Holds = wire_text play (acts play) ≡ lines (
     ∷ codes "26 idle"
     ∷ codes "end"
     ∷ [])
+
+abbrev pub Holds : Type 0
+Holds = wire_text play (acts play) ≡ due
 
 unfoldable pub opened : Unit {0}
 unfolding tree_0 tree_1 play

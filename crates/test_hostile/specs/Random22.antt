@@ -1,5 +1,5 @@
 -- A run with hostile vats, and its text.
-use Rattle.std.specs.Prelude.{◌≡◌, List, [], ◌∷◌, codes, None, Some, pos}
+use Rattle.std.specs.Prelude.{◌≡◌, ℕ, List, [], ◌∷◌, codes, None, Some, pos}
 use Rattle.def_run.specs.World.{Carry, Script}
 use Rattle.def_hostile.specs.Hostile.{Play, Does, Injects, acts}
 use Rattle.def_hostile.specs.HostileText.{text}
@@ -105,8 +105,9 @@ play = record {
   doings = Does (Carry 1 0) ∷ Does (Carry 1 0) ∷ Injects 0 1 (6 ∷ 9 ∷ 1 ∷ 1 ∷ 103 ∷ 2 ∷ 13 ∷ 1 ∷ 56 ∷ 138 ∷ 194 ∷ 115 ∷ 131 ∷ 242 ∷ 156 ∷ 56 ∷ 79 ∷ 37 ∷ 7 ∷ 67 ∷ 104 ∷ 140 ∷ 195 ∷ 137 ∷ 11 ∷ 1 ∷ []) ∷ Does (Carry 0 1) ∷ [];
 }
 
-abbrev pub Holds : Type 0
-Holds = text play (acts play) ≡ lines (
+-- what is due of it
+abbrev pub due : List ℕ
+due = lines (
     codes "open b"
     ∷ codes "!0 list b%0"
     ∷ codes "!0 slot b&0 b%0"
@@ -125,6 +126,9 @@ Holds = text play (acts play) ≡ lines (
     ∷ codes "settle @a broken:\"partition\""
     ∷ codes "end"
     ∷ [])
+
+abbrev pub Holds : Type 0
+Holds = text play (acts play) ≡ due
 
 unfoldable pub opened : Unit {0}
 unfolding tree_1 play

@@ -1,5 +1,5 @@
 -- A run with hostile vats, and its text.
-use Rattle.std.specs.Prelude.{◌≡◌, List, [], ◌∷◌, codes, None}
+use Rattle.std.specs.Prelude.{◌≡◌, ℕ, List, [], ◌∷◌, codes, None}
 use Rattle.def_run.specs.World.{Carry, Script}
 use Rattle.def_hostile.specs.Hostile.{Play, Does, Injects, acts}
 use Rattle.def_hostile.specs.HostileText.{text}
@@ -35,8 +35,9 @@ play = record {
   doings = Injects 1 0 (5 ∷ 9 ∷ 0 ∷ 0 ∷ 0 ∷ 0 ∷ 0 ∷ 0 ∷ 0 ∷ 0 ∷ 0 ∷ 0 ∷ 0 ∷ 0 ∷ 0 ∷ 0 ∷ 0 ∷ 0 ∷ 0 ∷ []) ∷ Does (Carry 1 0) ∷ [];
 }
 
-abbrev pub Holds : Type 0
-Holds = text play (acts play) ≡ lines (
+-- what is due of it
+abbrev pub due : List ℕ
+due = lines (
     codes "open a"
     ∷ codes "!0 made a.0 t"
     ∷ codes "!0 done a.0"
@@ -46,6 +47,9 @@ Holds = text play (acts play) ≡ lines (
     ∷ codes "left link a h settled @a a.0"
     ∷ codes "end"
     ∷ [])
+
+abbrev pub Holds : Type 0
+Holds = text play (acts play) ≡ due
 
 unfoldable pub opened : Unit {0}
 unfolding tree_0 play

@@ -1,5 +1,5 @@
 -- A run with hostile vats, and its text.
-use Rattle.std.specs.Prelude.{◌≡◌, List, [], ◌∷◌, codes, None}
+use Rattle.std.specs.Prelude.{◌≡◌, ℕ, List, [], ◌∷◌, codes, None}
 use Rattle.def_run.specs.World.{Carry, Turn, Script}
 use Rattle.def_hostile.specs.Hostile.{Play, Does, Injects, acts}
 use Rattle.def_hostile.specs.HostileText.{text}
@@ -36,8 +36,9 @@ play = record {
   doings = Injects 1 2 (255 ∷ []) ∷ Injects 2 0 (1 ∷ []) ∷ Does (Carry 1 2) ∷ Does (Turn 1) ∷ Injects 1 2 (0 ∷ []) ∷ [];
 }
 
-abbrev pub Holds : Type 0
-Holds = text play (acts play) ≡ lines (
+-- what is due of it
+abbrev pub due : List ℕ
+due = lines (
     codes "open a"
     ∷ codes "!0 made a.0 t"
     ∷ codes "!0 done a.0"
@@ -52,6 +53,9 @@ Holds = text play (acts play) ≡ lines (
     ∷ codes "left link i a bytes 01"
     ∷ codes "end"
     ∷ [])
+
+abbrev pub Holds : Type 0
+Holds = text play (acts play) ≡ due
 
 unfoldable pub opened : Unit {0}
 unfolding tree_0 play

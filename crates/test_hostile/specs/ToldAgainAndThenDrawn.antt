@@ -1,5 +1,5 @@
 -- A run with hostile vats, and its text with its frames.
-use Rattle.std.specs.Prelude.{◌≡◌, List, [], ◌∷◌, codes, None}
+use Rattle.std.specs.Prelude.{◌≡◌, ℕ, List, [], ◌∷◌, codes, None}
 use Rattle.def_run.specs.World.{Carry, Script}
 use Rattle.def_hostile.specs.Hostile.{Play, Does, Injects, acts}
 use Rattle.def_hostile.specs.HostileText.{wire_text}
@@ -39,8 +39,9 @@ play = record {
   doings = Injects 2 0 (2 ∷ 12 ∷ 0 ∷ 3 ∷ 5 ∷ []) ∷ Does (Carry 2 0) ∷ Injects 2 0 (2 ∷ 12 ∷ 0 ∷ 6 ∷ 1 ∷ 13 ∷ 1 ∷ 118 ∷ 184 ∷ 224 ∷ 173 ∷ 160 ∷ 241 ∷ 61 ∷ 144 ∷ 64 ∷ 93 ∷ 106 ∷ 229 ∷ 83 ∷ 134 ∷ 189 ∷ 40 ∷ []) ∷ Does (Carry 2 0) ∷ Injects 2 0 (2 ∷ 12 ∷ 1 ∷ 15 ∷ 1 ∷ []) ∷ Does (Carry 2 0) ∷ [];
 }
 
-abbrev pub Holds : Type 0
-Holds = wire_text play (acts play) ≡ lines (
+-- what is due of it
+abbrev pub due : List ℕ
+due = lines (
     codes "open a"
     ∷ codes "!0 made a.0 t"
     ∷ codes "!0 done a.0"
@@ -65,6 +66,9 @@ Holds = wire_text play (acts play) ≡ lines (
     ∷ codes "left link a h shorten h~0 c^0"
     ∷ codes "end"
     ∷ [])
+
+abbrev pub Holds : Type 0
+Holds = wire_text play (acts play) ≡ due
 
 unfoldable pub opened : Unit {0}
 unfolding tree_0 tree_1 play

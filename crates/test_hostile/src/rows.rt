@@ -72,6 +72,23 @@ ghost use Rattle.test_hostile.specs.OneWordForTwoGifts.{Holds as OneWordForTwoGi
 ghost use Rattle.test_hostile.specs.ShortenOfAnUnsettledName.{Holds as ShortenOfAnUnsettledNameHolds};
 ghost use Rattle.test_hostile.specs.ShortenToANoticedVat.{Holds as ShortenToANoticedVatHolds};
 ghost use Rattle.test_hostile.specs.ToldAgainAndThenDrawn.{Holds as ToldAgainAndThenDrawnHolds};
+ghost use Rattle.test_hostile.specs.Replayed.{Holds as ReplayedHolds};
+ghost use Rattle.test_hostile.specs.StopsInAFrame.{Holds as StopsInAFrameHolds, Told as StopsInAFrameTold};
+ghost use Rattle.test_hostile.specs.StopsInANotice.{Holds as StopsInANoticeHolds, Told as StopsInANoticeTold};
+ghost use Rattle.test_hostile.specs.AListThatLeadsBack.{Holds as AListThatLeadsBackHolds};
+ghost use Rattle.test_hostile.specs.EachGiftIsOpenedOnce.{Holds as EachGiftIsOpenedOnceHolds};
+ghost use Rattle.test_hostile.specs.AWordOfTwoProviders.{Holds as AWordOfTwoProvidersHolds};
+ghost use Rattle.test_hostile.specs.KnownTwiceByOneHostileVat.{Holds as KnownTwiceByOneHostileVatHolds};
+ghost use Rattle.test_hostile.specs.LeadsBackByAGuessedWord.{Holds as LeadsBackByAGuessedWordHolds};
+ghost use Rattle.test_hostile.specs.ListsOf100.{Holds as ListsOf100Holds};
+ghost use Rattle.test_hostile.specs.MalformedAndUnopenedGifts.{Holds as MalformedAndUnopenedGiftsHolds};
+ghost use Rattle.test_hostile.specs.OrderByAGuessedWord.{Holds as OrderByAGuessedWordHolds};
+ghost use Rattle.test_hostile.specs.OrderLostOnTheWay.{Holds as OrderLostOnTheWayHolds};
+ghost use Rattle.test_hostile.specs.OrderUnderWayAllSettled.{Holds as OrderUnderWayAllSettledHolds};
+ghost use Rattle.test_hostile.specs.OrderUnderWayLedOn.{Holds as OrderUnderWayLedOnHolds};
+ghost use Rattle.test_hostile.specs.OrderHandedOn.{Holds as OrderHandedOnHolds};
+ghost use Rattle.test_hostile.specs.AskedForByAGuessedWord.{Holds as AskedForByAGuessedWordHolds};
+ghost use Rattle.test_hostile.specs.AskedForAndNotOpened.{Holds as AskedForAndNotOpenedHolds};
 
 /// MessageOfAFrame
 #[tactic(auto, unfolding(def_hostile::specs::HostileText::opened_hostile_text, crate::specs::Lines::opened_more, crate::specs::MessageOfAFrame::opened))]
@@ -503,4 +520,109 @@ pub fn shortentoanoticedvat()
 #[tactic(auto, unfolding(def_hostile::specs::HostileText::opened_hostile_text, crate::specs::Lines::opened_more, crate::specs::ToldAgainAndThenDrawn::opened))]
 pub fn toldagainandthendrawn()
     ensures text { ToldAgainAndThenDrawnHolds }
+{}
+
+/// A hostile vat says again the swiss number that it was shown: two opens of one gift stand on the link, and the second does nothing.
+#[tactic(auto, unfolding(def_hostile::specs::HostileText::opened_hostile_text, crate::specs::Lines::opened_more, crate::specs::Replayed::opened))]
+pub fn replayed()
+    ensures text { ReplayedHolds }
+{}
+
+/// A lawful frame on whose note the fuel gives out: the scene after the stop is the one before, with the frame on its link, no new name of
+/// the hostile vat and no gift claimed. Its text ends at the entry before.
+#[tactic(auto, unfolding(def_hostile::specs::HostileText::opened_hostile_text, crate::specs::Lines::opened_more, crate::specs::StopsInAFrame::opened))]
+pub fn stops_in_a_frame()
+    ensures left { StopsInAFrameHolds }
+    ensures text { StopsInAFrameTold }
+{}
+
+/// A malformed frame whose notice the fuel does not suffice for: the link is whole after the stop, and the frame is on it.
+#[tactic(auto, unfolding(def_hostile::specs::HostileText::opened_hostile_text, crate::specs::Lines::opened_more, crate::specs::StopsInANotice::opened))]
+pub fn stops_in_a_notice()
+    ensures left { StopsInANoticeHolds }
+    ensures text { StopsInANoticeTold }
+{}
+
+/// A name that settles to a list in which it stands breaks with a cycle, and the list is there.
+#[tactic(auto, unfolding(def_hostile::specs::HostileText::opened_hostile_text, crate::specs::Lines::opened_more, crate::specs::AListThatLeadsBack::opened))]
+pub fn a_list_that_leads_back()
+    ensures text { AListThatLeadsBackHolds }
+{}
+
+/// Two opens of one gift stand on a link, the second since a hostile vat asked for it: a gift is opened once.
+#[tactic(auto, unfolding(def_hostile::specs::HostileText::opened_hostile_text, crate::specs::Lines::opened_more, crate::specs::EachGiftIsOpenedOnce::opened))]
+pub fn each_gift_is_opened_once()
+    ensures text { EachGiftIsOpenedOnceHolds }
+{}
+
+/// A word that an honest vat drew for its gift passes as one of a hostile provider too, twice in one frame and once more: another gift, which is asked for once.
+#[tactic(auto, unfolding(def_hostile::specs::HostileText::opened_hostile_text, crate::specs::Lines::opened_more, crate::specs::AWordOfTwoProviders::opened))]
+pub fn a_word_of_two_providers()
+    ensures text { AWordOfTwoProvidersHolds }
+{}
+
+/// A vat knows a gift by a position and as a gift, of one hostile provider; its host tells it once, and what was sent on the other entry stays unsettled.
+#[tactic(auto, unfolding(def_hostile::specs::HostileText::opened_hostile_text, crate::specs::Lines::opened_more, crate::specs::KnownTwiceByOneHostileVat::opened))]
+pub fn known_twice_by_one_hostile_vat()
+    ensures text { KnownTwiceByOneHostileVatHolds }
+{}
+
+/// A name is elsewhere under the word that would be drawn, and that gift is known: it breaks with a cycle, and nothing is shortened or asked for.
+#[tactic(auto, unfolding(def_hostile::specs::HostileText::opened_hostile_text, crate::specs::Lines::opened_more, crate::specs::LeadsBackByAGuessedWord::opened))]
+pub fn leads_back_by_a_guessed_word()
+    ensures text { LeadsBackByAGuessedWordHolds }
+{}
+
+/// Lists up to 100 high come in a frame; what would pass above the limit of height passes as broken.
+#[tactic(auto, unfolding(def_hostile::specs::HostileText::opened_hostile_text, crate::specs::Lines::opened_more, crate::specs::ListsOf100::opened))]
+pub fn lists_of100()
+    ensures text { ListsOf100Holds }
+{}
+
+/// A malformed frame cuts and is noticed at its receiver; a vat that was told of a gift by the hostile vat asks the receiver for it all the same.
+#[tactic(auto, unfolding(def_hostile::specs::HostileText::opened_hostile_text, crate::specs::Lines::opened_more, crate::specs::MalformedAndUnopenedGifts::opened))]
+pub fn malformed_and_unopened_gifts()
+    ensures text { MalformedAndUnopenedGiftsHolds }
+{}
+
+/// A hostile vat says the word of the next draw: that gift is opened for another name first, so a message goes before one that was sent earlier.
+#[tactic(auto, unfolding(def_hostile::specs::HostileText::opened_hostile_text, crate::specs::Lines::opened_more, crate::specs::OrderByAGuessedWord::opened))]
+pub fn order_by_a_guessed_word()
+    ensures text { OrderByAGuessedWordHolds }
+{}
+
+/// A message is lost on a link that is cut, while the hostile vat leads its reference elsewhere: a later one on it is taken.
+#[tactic(auto, unfolding(def_hostile::specs::HostileText::opened_hostile_text, crate::specs::Lines::opened_more, crate::specs::OrderLostOnTheWay::opened))]
+pub fn order_lost_on_the_way()
+    ensures text { OrderLostOnTheWayHolds }
+{}
+
+/// A message is under way, while the hostile vat leads its reference elsewhere and all of it settles: a later one on it is taken first.
+#[tactic(auto, unfolding(def_hostile::specs::HostileText::opened_hostile_text, crate::specs::Lines::opened_more, crate::specs::OrderUnderWayAllSettled::opened))]
+pub fn order_under_way_all_settled()
+    ensures text { OrderUnderWayAllSettledHolds }
+{}
+
+/// A message is under way, while the hostile vat leads its reference elsewhere: a later one on it goes there, and is taken first.
+#[tactic(auto, unfolding(def_hostile::specs::HostileText::opened_hostile_text, crate::specs::Lines::opened_more, crate::specs::OrderUnderWayLedOn::opened))]
+pub fn order_under_way_led_on()
+    ensures text { OrderUnderWayLedOnHolds }
+{}
+
+/// A reference that a hostile vat led elsewhere is handed on: what its receiver sends on it is taken before what was sent on it earlier.
+#[tactic(auto, unfolding(def_hostile::specs::HostileText::opened_hostile_text, crate::specs::Lines::opened_more, crate::specs::OrderHandedOn::opened))]
+pub fn order_handed_on()
+    ensures text { OrderHandedOnHolds }
+{}
+
+/// A hostile vat asks for an honest vat's gift under a word that it was not shown, and is told of it as the one to whom it was given.
+#[tactic(auto, unfolding(def_hostile::specs::HostileText::opened_hostile_text, crate::specs::Lines::opened_more, crate::specs::AskedForByAGuessedWord::opened))]
+pub fn asked_for_by_a_guessed_word()
+    ensures text { AskedForByAGuessedWordHolds }
+{}
+
+/// A hostile vat tells two vats of one gift that it did not open: both ask for it, and it stays unopened.
+#[tactic(auto, unfolding(def_hostile::specs::HostileText::opened_hostile_text, crate::specs::Lines::opened_more, crate::specs::AskedForAndNotOpened::opened))]
+pub fn asked_for_and_not_opened()
+    ensures text { AskedForAndNotOpenedHolds }
 {}

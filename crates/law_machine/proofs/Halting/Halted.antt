@@ -53,25 +53,27 @@ module _ (script : Script) where
   arrives_stops k v u x n (Some s) = within_stops u x _ _ _ _
 
   -- the note is off its link by then
-  notes_stop : (k v u : ℕ) (x : World) (ns : List (Note Name)) → StopsBy (LeavesOf x) (world.carry_notes script k v u x ns)
+  notes_stop : (k v u : ℕ) (x : World) (l : Link) → world.link_at v u x.links ≡ Some l → (ns : List (Note Name)) → l.notes ≡ ns → StopsBy (LeavesOf x) (world.carry_notes script k v u x ns)
   unfolding world.carry_notes world.idle
-  notes_stop k v u x [] = goes_on (LeavesOf x) _
-  notes_stop k v u x (n ∷ ns) = λ c j w e. inr (v, u, ns, arrives_stops k v u (record x { links = with_link (with_notes ns) v u x.links }) n (slice_get x.vats u) c j w e)
+  notes_stop k v u x l there [] holds = goes_on (LeavesOf x) _
+  notes_stop k v u x l there (n ∷ ns) holds =
+      λ c j w e. inr (v, u, l, n, ns, there, holds, arrives_stops k v u (record x { links = with_link (with_notes ns) v u x.links }) n (slice_get x.vats u) c j w e)
 
-  uncut_stops : (k v u : ℕ) (x : World) (l : Link) (b : Bool) → StopsBy (LeavesOf x) (elim b [ true ↦ world.idle script k x | false ↦ world.carry_notes script k v u x l.notes ])
+  uncut_stops : (k v u : ℕ) (x : World) (l : Link) → world.link_at v u x.links ≡ Some l → (b : Bool)
+      → StopsBy (LeavesOf x) (elim b [ true ↦ world.idle script k x | false ↦ world.carry_notes script k v u x l.notes ])
   unfolding world.idle
-  uncut_stops k v u x l true = goes_on (LeavesOf x) _
-  uncut_stops k v u x l false = notes_stop k v u x l.notes
+  uncut_stops k v u x l there true = goes_on (LeavesOf x) _
+  uncut_stops k v u x l there false = notes_stop k v u x l there l.notes refl
 
-  carry_stops : (k v u : ℕ) (x : World) (o : Option Link) → StopsBy (LeavesOf x) (world.carry_link script k v u x o)
+  carry_stops : (k v u : ℕ) (x : World) (o : Option Link) → world.link_at v u x.links ≡ o → StopsBy (LeavesOf x) (world.carry_link script k v u x o)
   unfolding world.carry_link world.idle
-  carry_stops k v u x None = goes_on (LeavesOf x) _
-  carry_stops k v u x (Some l) = uncut_stops k v u x l l.cut
+  carry_stops k v u x None there = goes_on (LeavesOf x) _
+  carry_stops k v u x (Some l) there = uncut_stops k v u x l there l.cut
 
   step_stops : (e : Entry) (k : ℕ) (x : World) → StopsBy (LeavesOf x) (world.step script e k x)
   unfolding world.step world.cut
   step_stops (Turn v) k x = same_leaves x _ (queue_stops k v x (slice_get x.vats v))
-  step_stops (Carry v u) k x = carry_stops k v u x (world.link_at v u x.links)
+  step_stops (Carry v u) k x = carry_stops k v u x (world.link_at v u x.links) refl
   step_stops (CutLink v u) k x = goes_on (LeavesOf x) _
   step_stops (NoticeLink v u) k x = same_leaves x _ (within_stops v x _ _ _ (slice_get x.vats v))
 

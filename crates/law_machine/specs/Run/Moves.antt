@@ -3,7 +3,7 @@ use Rattle.std.specs.Prelude.{◌≡◌, ℕ, zero, false, List, [], ◌∷◌, 
 use Rattle.def_machine.specs.Values.{Name, Root}
 use Rattle.def_machine.specs.State.{Message, Note, Vat, Gives, send_out}
 use Rattle.law_machine.specs.Machine.Steps.{Step, Opens as Starts, Takes, Receives, Notices, does}
-pub use Rattle.def_run.specs.Deeds.{Deed, NewObject, NewPromise, NewMessage, NewLone, NewDraw, Learns}
+pub use Rattle.def_run.specs.Deeds.{Deed, NewObject, NewPromise, NewMessage, NewLone, Learns}
 unfoldable pub use Rattle.def_run.specs.Deeds.{perform, hear_message, hear}
 use Rattle.def_run.specs.Wire.{Connected}
 use Rattle.def_run.specs.World.{Script, Program, Entry, Turn, Carry, CutLink, NoticeLink, Event, Carried, Link, World, Goes, with_link, with_notes, link_at, push_all, events_of, connections_after, next_frame, heard_by, put_at, readied, begins, names, names_of, read_note, given, tree_at, open_vat, open_from, step, steps_from}

@@ -166,7 +166,7 @@ module _ (script : Script) where
 
     leaves : (x w : World) → LeavesOf x w → Ordered x.history → Ordered w.history
     leaves x w (inl e) h = subst (λ (z : World). Ordered z.history) (sym e) h
-    leaves x w (inr (v, u, ns, e)) h = subst (λ (z : World). Ordered z.history) (sym e) h
+    leaves x w (inr (v, u, l, n, ns, there, holds, e)) h = subst (λ (z : World). Ordered z.history) (sym e) h
 
     stopped : (x : World) (r : Run) → OpeningStops script x r ⊎ EntryStops script x r → Ordered x.history
     stopped x r (inl (ps, rest, p, i, o, s)) = (opened_tells ps (p ∷ rest) x i o).ordered

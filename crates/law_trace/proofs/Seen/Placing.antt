@@ -2,7 +2,8 @@
 use Rattle.std.proofs.Common.{◌≡◌, ◌<◌, ◌≤◌, ℕ, zero, suc, List, Option, Some, None, option_map, take, refl, sym, ap, ◌∙◌, subst, ◌⊎◌, inl, inr, arith}
 use Rattle.std.specs.Prelude.{slice_get}
 use Rattle.def_event.specs.declared.event.Event.{Event}
-use Rattle.def_event.specs.declared.event.Event.TheVariants.{Open, Turn, Idle, Carry, Cut, Notice, Frame}
+use Rattle.def_event.specs.declared.event.Event.TheVariants.{Open, Turn, Idle, Carry, Cut, Notice, Frame, Raw}
+use Rattle.def_event.specs.declared.raw.RawLine.TheVariants.{Inject, InjectCut, Malformed, Bytes, LeftBytes}
 use Rattle.def_event.specs.Order.{vat_behind, vat_after, vat_at}
 use Rattle.law_trace.proofs.UsesSeen.Renaming.{Renaming, AreEvents, no_event, one_event, silent_event, event}
 
@@ -83,6 +84,11 @@ module _ (r : Renaming) where
   behind_same here (Notice k v w) = refl
   behind_same here (Idle k) = refl
   behind_same here (Cut k v w) = refl
+  behind_same here (Raw (Inject k v w bytes)) = refl
+  behind_same here (Raw (InjectCut k v w)) = refl
+  behind_same here (Raw (Malformed k v w place)) = refl
+  behind_same here (Raw (Bytes k v w bytes)) = refl
+  behind_same here (Raw (LeftBytes v w bytes)) = refl
   behind_same here other = refl
 
   after_same : {es fs : List Event} (a : AreEvents r es fs) (here : Option ℕ) (j : ℕ) → vat_after (option_map r.vat here) (take j fs) ≡ option_map r.vat (vat_after here (take (at a j) es))

@@ -2,11 +2,12 @@
 use Rattle.std.proofs.Common.{◌≡◌, ◌+◌, ℕ, zero, suc, List, [], ◌∷◌, ◌++◌, Option, Some, None, take, refl, sym, ap, ◌∙◌, arith}
 use Rattle.std.specs.Prelude.{slice_get}
 use Rattle.def_event.specs.declared.event.Event.{Event as ShownEvent}
-use Rattle.def_event.specs.declared.event.Event.TheVariants.{Open, Turn, Idle, Carry, Cut, Notice}
+use Rattle.def_event.specs.declared.event.Event.TheVariants.{Open, Turn, Idle, Carry, Cut, Notice, Raw}
+use Rattle.def_event.specs.declared.raw.RawLine.TheVariants.{Inject, InjectCut, Malformed, Bytes, LeftBytes}
 use Rattle.def_run.specs.World.{Here, run}
 use Rattle.def_run.specs.Text.{shown_events, history_of}
 use Rattle.def_event.specs.Order.{vat_behind, vat_after}
-use Rattle.def_event.specs.Uses.{Line, place_after, place_of, line_after, and_lines}
+use Rattle.def_event.specs.Uses.{Line, place_after, raw_place, place_of, line_after, and_lines}
 use Rattle.law_uses.proofs.Uses.Texts.{lines_stand}
 use Rattle.law_trace.specs.Told.Told.{LinesAreInPlace}
 
@@ -16,13 +17,18 @@ place None = 0
 place (Some v) = v + 1
 
 behind_same : (here : Option ℕ) (e : ShownEvent) → place_after (place here) e ≡ place (vat_behind here e)
-unfolding place_after
+unfolding place_after raw_place
 behind_same here (Open v) = refl
 behind_same here (Turn k v) = refl
 behind_same here (Carry k v w note) = refl
 behind_same here (Notice k v w) = refl
 behind_same here (Idle k) = refl
 behind_same here (Cut k v w) = refl
+behind_same here (Raw (Inject k v w bytes)) = refl
+behind_same here (Raw (InjectCut k v w)) = refl
+behind_same here (Raw (Malformed k v w offset)) = refl
+behind_same here (Raw (Bytes k v w bytes)) = refl
+behind_same here (Raw (LeftBytes v w bytes)) = refl
 behind_same here other = refl
 
 after_same : (here : Option ℕ) (past : List Line) (es : List ShownEvent) → place_of past ≡ place here → place_of (and_lines past es) ≡ place (vat_after here es)

@@ -4,8 +4,9 @@ use Rattle.ev_base.specs.declared.names.Name.{Name}
 use Rattle.def_event.specs.declared.shown.Shown.{Shown, Name as Named}
 use Rattle.def_event.specs.declared.event.Event.{Event}
 use Rattle.def_event.specs.declared.event.Called.{Called}
-use Rattle.def_event.specs.declared.event.Event.TheVariants.{Open, Turn, Idle, Carry, Cut, Notice, Take, Call, Back, Got, Read, List as ListMade, Arrived, Ejector, Audition as AuditionMade, Promise, Made as ObjectMade, Settle, View}
-use Rattle.def_event.specs.Uses.{Thing, AName, AList, Fact, Given, Made, Captured, Audition, Anew, Way, Listed, Settled, place_after, given, things, things_of, lists_of, name_of, gains, begun, begun_call, begins, captured, makes, led, leads, settles, views, running_call, runs}
+use Rattle.def_event.specs.declared.event.Event.TheVariants.{Open, Turn, Idle, Carry, Cut, Notice, Take, Call, Back, Got, Read, List as ListMade, Arrived, Ejector, Audition as AuditionMade, Promise, Made as ObjectMade, Settle, View, Raw}
+use Rattle.def_event.specs.declared.raw.RawLine.TheVariants.{Inject, InjectCut, Malformed, Bytes, LeftBytes}
+use Rattle.def_event.specs.Uses.{Thing, AName, AList, Fact, Given, Made, Captured, Audition, Anew, Way, Listed, Settled, place_after, raw_place, given, things, things_of, lists_of, name_of, gains, begun, begun_call, begins, captured, makes, led, leads, settles, views, running_call, runs}
 use Rattle.law_trace.proofs.UsesSeen.Same.{joined}
 use Rattle.law_trace.proofs.UsesSeen.Renaming.{Renaming, IsRenaming, values, called, event, thing, fact, anew, way, lead, given_for, running}
 
@@ -30,13 +31,18 @@ captured_by o caps = refl
 
 module _ (r : Renaming) (good : IsRenaming r) where
   pub place_same : (at : ℕ) (e : Event) → place_after (r.place at) (event r e) ≡ r.place (place_after at e)
-  unfolding place_after
+  unfolding place_after raw_place
   place_same at (Open v) = sym (good.a_place v)
   place_same at (Turn k v) = sym (good.a_place v)
   place_same at (Notice k v w) = sym (good.a_place v)
   place_same at (Carry k v w n) = sym (good.a_place w)
   place_same at (Idle k) = sym good.no_place
   place_same at (Cut k v w) = sym good.no_place
+  place_same at (Raw (Inject k v w bytes)) = sym good.no_place
+  place_same at (Raw (InjectCut k v w)) = sym good.no_place
+  place_same at (Raw (Malformed k v w place)) = sym (good.a_place w)
+  place_same at (Raw (Bytes k v w bytes)) = sym (good.a_place w)
+  place_same at (Raw (LeftBytes v w bytes)) = refl
   place_same at e = refl
 
   -- ---- facts

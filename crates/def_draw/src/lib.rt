@@ -1,0 +1,2 @@
+//! Histories as pictures: the text of a sequence diagram.
+#![tactic(auto)]

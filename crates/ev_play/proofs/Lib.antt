@@ -1,0 +1,5 @@
+pub mod DoneLemmas
+pub mod QuietLemmas
+pub mod StepLemmas
+pub mod HostileLemmas
+pub mod AdmittedPlay

@@ -1,0 +1,5 @@
+pub mod Doings
+pub mod Hostile
+pub mod Play
+pub mod Rules
+pub mod Quiet

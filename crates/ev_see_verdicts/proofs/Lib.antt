@@ -1,0 +1,2 @@
+pub mod Overtaken
+pub mod Lines

@@ -1,0 +1,4 @@
+pub mod Said
+pub mod Scenes
+pub mod Account
+pub mod Ends

@@ -1,0 +1,33 @@
+-- A cut of a link, and a frame that is malformed, in names and in numbers.
+use Rattle.std.specs.Prelude.{◌≡◌, ℕ, ◌<◌, false, List, [], Some, length, slice_get}
+use Rattle.def_machine.specs.State.{Vat}
+use Rattle.def_machine.specs.Values.{Name}
+use Rattle.def_run.specs.Vats.{Member}
+use Rattle.def_run.specs.Wire.{connected_at}
+use Rattle.def_run.specs.Numbers as run
+use Rattle.def_run.specs.World as world
+use Rattle.def_run.specs.World.{CutLink, NoticeLink}
+use Rattle.def_hostile.specs.Hostile as names
+use Rattle.def_hostile.specs.Hostile.{Play, Scene, Does, is_hostile, counts}
+use Rattle.def_hostile.specs.Judge.{Malformed, verdict}
+use Rattle.def_hostile.specs.Numbers as numbers
+use Rattle.def_hostile.specs.Numbers.{Cast}
+use Rattle.law_reference.specs.Reference.Tables.{table_of}
+use Rattle.law_machine.specs.Renamed.Stands.{IsTable}
+use Rattle.law_hostile_frame.specs.Mirrors.{SceneMirrors, ActsMirror}
+
+-- frames and notes of both directions are lost
+abbrev pub CutsMirror : Type 0
+CutsMirror = (play : Play) (v u k : ℕ) (s : Scene) (c : Cast) → SceneMirrors play s c → ActsMirror play (names.does play (Does (CutLink v u)) k s) (numbers.does play (Does (CutLink v u)) k c)
+
+-- A notice at an honest vat leads to what stands for one another.
+abbrev pub NoticesMirrorIn : Play → Type 0
+NoticesMirrorIn play = (v u k n : ℕ) (s : Scene) (c : Cast) → is_hostile play v ≡ false → SceneMirrors play s c
+    → ActsMirror play (names.acted n s [] (world.step play.script (NoticeLink v u) k s.world)) (numbers.acted n v c (run.step play.script (NoticeLink v u) k c.vats))
+
+-- Where notices do, and the table of the receiver tells things apart, an injected frame that is malformed in names is so in numbers: its line, the cut and the notice, in one entry.
+abbrev pub MalformedFramesMirror : Type 0
+MalformedFramesMirror = (play : Play) → NoticesMirrorIn play → (h u place k : ℕ) (bytes : List ℕ) (s : Scene) (c : Cast) (t : Vat Name) (m : Member) → is_hostile play u ≡ false → h < length c.vats.members → SceneMirrors play s c
+    → slice_get s.world.vats u ≡ Some t → slice_get c.vats.members u ≡ Some m → IsTable u (table_of s.world u t)
+    → verdict (length play.script.vats) u h (counts (connected_at u h s.world.connections).tables) bytes ≡ Malformed place
+    → ActsMirror play (names.frame_comes play false k h u bytes s) (numbers.frame_comes play false k h u bytes c)

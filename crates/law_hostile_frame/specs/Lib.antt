@@ -1,0 +1,5 @@
+pub mod Honest
+pub mod Counts
+pub mod Mirrors
+pub mod Steps
+pub mod Cuts

@@ -1,0 +1,2 @@
+pub mod Strayings
+pub mod Honest

@@ -1,0 +1,3 @@
+pub mod Agrees
+pub mod Introduction
+pub mod Stops
