@@ -1,6 +1,6 @@
 //! The names and the lines of a step.
 
-ghost use Rattle.std.specs.Prelude.{◌≡◌, ◌++◌, ℕ, List, OnOk, map};
+ghost use Rattle.std.specs.Prelude.{◌≡◌, ℕ, List, OnOk, map};
 ghost use Rattle.def_run.specs.Names.{Names, names_after};
 ghost use Rattle.def_run.specs.Names.{Told as TheirTold};
 ghost use Rattle.def_run.specs.Numbers.{Way, lines_of, link_of, name_at_vat};
@@ -13,12 +13,13 @@ ghost use Rattle.ev_resident.specs.Printing.{TellsCuts};
 ghost use Rattle.ev_resident.specs.NamesStanding.{Says, mails_of};
 ghost use Rattle.ev_resident.specs.OutcomeStanding.{IsAfter, NamesStand, ObjectsStand};
 ghost use Rattle.ev_room.specs.Reading.{World};
+ghost use Rattle.ev_step_text.specs.Accounts.{More};
 
 use crate::{Told, VatNames};
 use ev_arrive::Host;
 use ev_base::{Memory, Msg};
-use ev_event::History;
-use ev_step_lines::{Teller, push_lines};
+use ev_step_lines::Teller;
+use ev_step_text::Account;
 use std::alloc::Global;
 
 /// The names of a vat after a step that left it so. A note brought that message, if one, and told those numbers before.
@@ -37,17 +38,17 @@ pub fn name_step(
     Ok(())
 }
 
-/// Adds the lines of a step, behind the step's own, by the names after it and where those links are cut.
+/// Tells the lines of a step, behind the step's own, by the names after it and where those links are cut.
 pub fn tell_lines(
     alloc: Global,
     host: &Host,
     names: &VatNames,
     cut: &[bool],
-    history: &mut History,
+    account: &mut Account,
 ) -> Result<(), Memory>
     ensures { (w : World) (s : machine.Vat Local) (u : ℕ) (t : Names) (ms : List Member) (ways : List Way)
         → IsAfter w host.now s → NamesStand s.drawn u s t names.now → ObjectsStand ms u names.now.naming.objects → TellsCuts u (map link_of ways) cut.now
-        → OnOk result (history.new ≡ history.old ++ shown_events s.drawn (lines_of ways u (name_at_vat ms u t) s.happened)) }
+        → OnOk result (More account.old account.new (shown_events s.drawn (lines_of ways u (name_at_vat ms u t) s.happened))) }
 {
     let teller = Teller {
         alloc,
@@ -55,6 +56,6 @@ pub fn tell_lines(
         table: names.table(),
         cut,
     };
-    push_lines(&teller, &host.inside.micro.events, history)?;
+    account.tell(&teller, &host.inside.micro.events)?;
     Ok(())
 }

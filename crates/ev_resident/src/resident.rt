@@ -31,9 +31,9 @@ use crate::starting::first_names;
 use crate::telling::tell_step;
 use crate::{Told, VatNames};
 use ev_base::{Limits, Memory, Msg, VatId, Word};
-use ev_event::History;
 use ev_intro::Words;
 use ev_room::Program;
+use ev_step_text::Account;
 use ev_vat::{Arrival, Member, Sending, VatStop};
 use std::alloc::Global;
 
@@ -174,12 +174,12 @@ impl Resident {
         carried: Option<Msg>,
         told: Told,
         sendings: Vec<Sending>,
-        history: &mut History,
+        account: &mut Account,
     ) -> Result<Vec<Outgoing>, Memory>
         ensures told { (w : Vats) (u : ℕ) (m : Theirs) (b : Having) (s : machine.Vat Local) (messages : List Name) (brought : List TheirTold)
             → IsStepped b s sendings.items self.old.member → NamesStand s.drawn u m.vat m.names self.old.names → ObjectsStand w.members u self.old.names.naming.objects
             → mails_of (carried_mails carried) ≡ messages → Says self.old.member.vat.host.inside.words told brought → TellsCuts u (map link_of w.ways) cut.now
-            → IfOk result (λ ys. IsTold w u m.names s m.vat b.connections messages brought history.old history.new ys.items self.new.names) }
+            → IfOk result (λ ys. IsTold w u m.names s m.vat b.connections messages brought account.old account.new ys.items self.new.names) }
         ensures member { self.new.member ≡ self.old.member }
         ensures objects { OnOk result (self.new.names.naming.objects ≡ self.old.names.naming.objects) }
     {
@@ -192,7 +192,7 @@ impl Resident {
             carried,
             told,
             sendings,
-            history,
+            account,
         )?;
         Ok(outgoing)
     }

@@ -19,8 +19,8 @@ use crate::outgoing::{Outgoing, all_outgoing};
 use crate::{Noting, Told, VatNames, name_step, tell_lines};
 use ev_arrive::Host;
 use ev_base::{Memory, Msg};
-use ev_event::History;
 use ev_step_lines::Teller;
+use ev_step_text::Account;
 use ev_vat::Sending;
 use std::alloc::Global;
 
@@ -34,17 +34,17 @@ pub fn tell_step(
     carried: Option<Msg>,
     told: Told,
     sendings: Vec<Sending>,
-    history: &mut History,
+    account: &mut Account,
 ) -> Result<Vec<Outgoing>, Memory>
     ensures told { (v : World) (w : Vats) (u : ℕ) (t : Names) (s last : machine.Vat Local) (cs : List (Connection Local)) (messages : List Name) (brought : List TheirTold)
         → IsAfter v host.now s → NamesStand s.drawn u last t names.old → ObjectsStand w.members u names.old.naming.objects
         → mails_of (carried_mails carried) ≡ messages → Says host.now.inside.words told brought → TellsCuts u (map link_of w.ways) cut.now
         → ((f : Local → Name) → map sending_of sendings.items ≡ map spelled (frames_of s f s.outbox cs)) → ((f : Local → Name) → AreOps (frames_of s f s.outbox cs))
-        → IfOk result (λ ys. IsTold w u t s last cs messages brought history.old history.new ys.items names.new) }
+        → IfOk result (λ ys. IsTold w u t s last cs messages brought account.old account.new ys.items names.new) }
     ensures objects { OnOk result (names.new.naming.objects ≡ names.old.naming.objects) }
 {
     name_step(host, names, carried, told)?;
-    tell_lines(alloc, host, names, cut, history)?;
+    tell_lines(alloc, host, names, cut, account)?;
     let teller = Teller {
         alloc,
         heap: &host.inside.heap,

@@ -100,25 +100,25 @@ module _ (fuel : ℕ) (drawn : List ℕ) (m : Theirs) (q : Member) (found : IsFo
 
 module _ (fuel : ℕ) (drawn : List ℕ) (m : Theirs) (q c : Member) (found : IsFound fuel drawn m q) (v : ℕ) (bytes : List ℕ) (spelled : IfSome (decoded bytes) (λ (x : Operation × ℕ). IsOp x.0))
     (note : Noted) (news : News) (heard : code.frame_heard q.vat.host.inside (table_for v q.connections.items) q.learnt bytes ≡ Some (told note, news)) where
-  abbrev before : Member
+  abbrev pub before : Member
   before = kept fuel drawn m q found news.texts
 
-  abbrev old : Interior
+  abbrev pub old : Interior
   old = before.vat.host.inside
 
-  abbrev new : Interior
+  abbrev pub new : Interior
   new = c.vat.host.inside
 
-  before_found : IsFound fuel drawn m before
+  pub before_found : IsFound fuel drawn m before
   before_found = kept_found fuel drawn m q found news.texts
 
-  abbrev t : Table
+  abbrev pub t : Table
   t = table_for v q.connections.items
 
   abbrev pub h : HeardNote
   h = the_note fuel drawn m q found v bytes spelled note news heard
 
-  abbrev note_in : List Words → Note Name
+  abbrev pub note_in : List Words → Note Name
   note_in ts = heard_by ts (Mess 0) (New (Mess 0) q.vat.host.inside.refs.me) v v note
 
   -- what the vat does in each world
@@ -156,7 +156,7 @@ module _ (fuel : ℕ) (drawn : List ℕ) (m : Theirs) (q c : Member) (found : Is
   abbrev pub tables : List Table
   tables = slice_set q.connections.items v (taken news due t)
 
-  had_is : (s : machine.Vat Local) → map Prom (answers_in due) ≡ asked_by h.after.known s h.read → connections_of tables ≡ (having v m h s).connections
+  pub had_is : (s : machine.Vat Local) → map Prom (answers_in due) ≡ asked_by h.after.known s h.read → connections_of tables ≡ (having v m h s).connections
   unfolding heard_on
   had_is s answers =
       map_set connection_of q.connections.items v (taken news due t)
@@ -165,7 +165,7 @@ module _ (fuel : ℕ) (drawn : List ℕ) (m : Theirs) (q c : Member) (found : Is
       ∙ ap (λ (ns : List Local). record (connection_of t) { imports = h.after.imports; answers = map Prom t.answers ++ ns }) answers
       ∙ ap (λ (x : Connection Local). record x { imports = h.after.imports; answers = x.answers ++ asked_by h.after.known s h.read }) (sym (connection_here fuel drawn m q found v)))
 
-  learnt_is : c.learnt ≡ put_all news.gifts q.learnt → map learnt_of c.learnt ≡ h.after.learnt
+  pub learnt_is : c.learnt ≡ put_all news.gifts q.learnt → map learnt_of c.learnt ≡ h.after.learnt
   learnt_is e = ap (map learnt_of) (e ∙ (fits fuel drawn m q found v bytes spelled note news heard).1)
 
   imports_are : drop (length (connection_for v m).imports) h.after.imports ≡ map local_of news.imports
@@ -184,7 +184,7 @@ module _ (fuel : ℕ) (drawn : List ℕ) (m : Theirs) (q c : Member) (found : Is
       (record { imports = sym imports_are; gifts = sym gifts_are; known = refl })
 
   module _ (s : machine.Vat Local) (references : HasReferences new.heap.texts new.refs s) (answers : map Prom (answers_in due) ≡ asked_by h.after.known s h.read) (steady : IsSteadyHearing v m h s) where
-    tables_for : AreFor new.refs q.connections.items → AreFor new.refs tables
+    pub tables_for : AreFor new.refs q.connections.items → AreFor new.refs tables
     tables_for all =
         set_for new.refs q.connections.items v (taken news due t) all
         (taken_for new.heap.texts new.refs s references v t news due (table_is new.refs q.connections.items v all) (fits fuel drawn m q found v bytes spelled note news heard).2

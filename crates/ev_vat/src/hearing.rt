@@ -45,8 +45,8 @@ fn keep_texts(vat: &mut Vat, texts: &[Str]) -> Result<(), Memory>
     Ok(())
 }
 
-/// Keeps the texts that a frame brought.
-fn keep_news(vat: &mut Vat, news: &News) -> Result<(), Memory>
+/// Keeps the texts that a frame brought, which have the next numbers. After want of memory some are kept.
+pub fn keep_news(vat: &mut Vat, news: &News) -> Result<(), Memory>
     ensures { OnOk result (vat.new ≡ with_texts news.now.texts vat.old) }
 {
     keep_texts(vat, news.texts.as_slice())
@@ -69,7 +69,8 @@ fn come_in(vat: &mut Vat, from: VatId, note: Heard, news: &News) -> Result<(), V
 
 /// What a note asks the vat for.
 #[derive(Clone, Copy)]
-enum Asked {
+pub enum Asked {
+    /// It asks for nothing.
     Nothing,
     /// The answer of the message, the next name that the vat comes to know once the note was read.
     Next,
@@ -77,7 +78,8 @@ enum Asked {
     Gift(VatId, u128),
 }
 
-fn asked_of(note: &Heard) -> Asked
+/// What that is.
+pub fn asked_of(note: &Heard) -> Asked
     ensures { result ≡ asked_of note.now }
 {
     match note {
@@ -94,7 +96,7 @@ fn asked_of(note: &Heard) -> Asked
 }
 
 /// The promise that was asked for, once the note arrived that found so many names.
-fn answer_of(asked: Asked, known: u64, host: &Host) -> Option<PromId>
+pub fn answer_of(asked: Asked, known: u64, host: &Host) -> Option<PromId>
     ensures { result ≡ answer_of asked known host.now }
 {
     match asked {
@@ -137,8 +139,9 @@ fn take_news(
     answer_next(connection, answer)
 }
 
-/// The same for the peer at the vat's number.
-fn take_from(
+/// What a frame of that vat brought is taken in, and its next question is answered, if it asked for something. A vat without an open
+/// connection is answered as want of memory; after it the connections are of no use any more.
+pub fn take_from(
     connections: &mut Vec<Connection>,
     learnt: &mut LearntTable,
     from: VatId,
@@ -156,7 +159,7 @@ fn take_from(
 
 impl Member {
     /// What is heard of a frame of that vat, if it is not malformed. A vat without a connection is answered as want of memory.
-    fn heard(&self, from: VatId, frame: &[u8]) -> Result<Option<Hearing>, Memory>
+    pub fn heard(&self, from: VatId, frame: &[u8]) -> Result<Option<Hearing>, Memory>
         ensures { IfOk result (λ o. heard_view o ≡ code.frame_heard self.now.vat.host.inside (table_for from self.now.connections.items) self.now.learnt frame.now) }
     {
         match self.connections.get(from.0 as usize) {

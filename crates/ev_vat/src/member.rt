@@ -33,10 +33,11 @@ use std::alloc::Global;
 
 /// A vat with what it has for its peers. After a call that answered an error it is of no use any more.
 pub struct Member {
-    pub(crate) vat: Vat,
-    pub(crate) learnt: LearntTable,
+    pub vat: Vat,
+    /// The gifts that it learnt as gifts.
+    pub learnt: LearntTable,
     /// By the number of the peer; the vat's own is unused.
-    pub(crate) connections: Vec<Connection>,
+    pub connections: Vec<Connection>,
 }
 
 impl Drop for Member {
@@ -145,8 +146,8 @@ impl Member {
         }
     }
 
-    /// Writes what the step at hand put.
-    pub(crate) fn send(&mut self) -> Result<Vec<Sending>, VatStop>
+    /// Writes what the step at hand put: the frames to be sent, in order. After want of memory the connections are of no use any more.
+    pub fn send(&mut self) -> Result<Vec<Sending>, VatStop>
         ensures sends { IfOk result (λ xs. AreSent (all_written self.old.vat.host.inside self.old.vat.host.inside.post self.old.connections.items) xs.items) }
         ensures connections { OnOk result (self.new.connections.items ≡ put_all self.old.vat.host.inside self.old.vat.host.inside.post self.old.connections.items) }
         ensures vat { self.new.vat ≡ self.old.vat }

@@ -10,7 +10,7 @@ use Rattle.def_machine.specs.State as machine
 use Rattle.def_machine.specs.State.{Done, Gives}
 use Rattle.def_machine.specs.Values.{Local, numbering}
 use Rattle.def_run.specs.Draws.{draw_word, stream_word}
-use Rattle.def_run.specs.Text.{shown_events}
+use Rattle.def_run.specs.Text.{shown_events, vat_names}
 use Rattle.def_run.specs.World.{Event, Script}
 use Rattle.ev_base.specs.declared.names.Msg.{Msg}
 use Rattle.ev_intro.specs.Word.{Drawn, number_at, word}
@@ -28,6 +28,8 @@ use Rattle.ev_resident.specs.declared.resident.Resident.{Resident}
 use Rattle.ev_resident.specs.Vat.{IsReady, StopsWith}
 use Rattle.ev_resident.specs.declared.VatStop.{VatStop}
 use Rattle.ev_resident.specs.declared.VatStop.TheVariants.{Fuel, Deep, WordRepeated, Astray, Memory}
+use Rattle.ev_step_text.specs.Accounts.{IsAccount, More, Recounts}
+use Rattle.ev_step_text.specs.declared.account.Account.{Account}
 use Rattle.ev_ways.specs.Rows.{Lane}
 use Rattle.ev_ways.specs.Standing.{WaysStand}
 use Rattle.ev_ways.proofs.Cuts.{shown_join}
@@ -35,7 +37,7 @@ use Rattle.ev_world.specs.Exporting.{AreCounted}
 use Rattle.ev_world.specs.Midway.{IsActing, IsMidway, drawn_now, having_of}
 use Rattle.ev_world.specs.Standing.{Comes, CourseIs, HaltsAs, IsWorld, told_so}
 use Rattle.ev_world.specs.declared.world.World.{World}
-use Rattle.ev_world.proofs.Cuts.{told_behind}
+use Rattle.ev_world.proofs.Cuts.{says_behind}
 use Rattle.ev_world.proofs.Objects.{exports_are, is_within, same_or_not, set_other, set_there}
 use Rattle.ev_world.proofs.Pushes.{history_alike, ways_alike}
 use Rattle.ev_world.proofs.Telling.{only, stands}
@@ -58,8 +60,8 @@ stop_is m b read (WordRepeated i j) c d h = h
 stop_is m b read Astray c d h = h
 stop_is m b read Memory c d h = tt
 
-pub stop_halts : (e : VatStop) (w : Vats) (u : ℕ) (head : List Event) (k : ℕ) (m : Member) (f : machine.Vat Local → Brought) (d : Done Local (Unit {0})) (wire : Bool) (told : List ShownEvent) → StopsAs e d
-    → told ≡ told_so wire (shown_events w.drawn w.history) → HaltsAs e k wire (after_step w u head k m f d) told
+pub stop_halts : (e : VatStop) (w : Vats) (u : ℕ) (head : List Event) (k : ℕ) (m : Member) (f : machine.Vat Local → Brought) (d : Done Local (Unit {0})) (wire : Bool) (told : Account) → StopsAs e d
+    → Recounts told (told_so wire (shown_events w.drawn w.history)) → HaltsAs e k wire (after_step w u head k m f d) told
 unfolding after_step
 stop_halts Fuel w u head k m f d wire told h e = (w, (ap (λ (x : Done Local (Unit {0})). after_step w u head k m f x) h.1, e))
 stop_halts Deep w u head k m f d wire told h e = (w, (ap (λ (x : Done Local (Unit {0})). after_step w u head k m f x) h.1, e))
@@ -151,7 +153,7 @@ module _ (S : Script) (w : Vats) (u : ℕ) (m : Member) (b : Brought) (s : machi
 
   -- so is the state that has these ways and told those events
   pub midway_is : (ls : List Way) (head : List Event) → mails_of (carried_mails carried) ≡ b.carried → ((h : ℕ) → (get_or b.connections h unconnected).exports ≡ (connection_for h m).exports) → WaysStand s.drawn (length S.vats) ls e.ways
-      → e.history ≡ told_so e.wire (shown_events s.drawn (w.history ++ head)) → IsMidway S (record w { ways = ls }) u m head b s before xs carried told e
+      → IsAccount (vat_names S) e.history (told_so e.wire (shown_events s.drawn (w.history ++ head))) → IsMidway S (record w { ways = ls }) u m head b s before xs carried told e
   midway_is ls head mails same stand lines = record {
     here = here;
     own = λ x f. let a : IsActing S w u m b s xs told x = subst (λ (z : Resident). IsActing S w u m b s xs told z) (only here_now f) acts in
@@ -174,17 +176,17 @@ module _ (S : Script) (w : Vats) (u : ℕ) (m : Member) (b : Brought) (s : machi
 
 -- lines that are no frames, behind those before
 pub lines_behind : (S : Script) (w : Vats) (c e : World) (ds : List ℕ) (head : List Event) (lines : List ShownEvent) → IsWorld S w c → ShownAlike w.drawn ds w → e.wire ≡ c.wire → shown_events ds head ≡ lines → filter is_no_frame lines ≡ lines
-    → e.history ≡ c.history ++ lines → e.history ≡ told_so e.wire (shown_events ds (w.history ++ head))
+    → More c.history e.history lines → IsAccount (vat_names S) e.history (told_so e.wire (shown_events ds (w.history ++ head)))
 lines_behind S w c e ds head lines at alike wire is plain more =
-    more
-    ∙ told_behind c.wire c.history (shown_events ds w.history) lines (history_alike S w c ds alike at) plain
-    ∙ ap (told_so c.wire) (ap (λ (es : List ShownEvent). shown_events ds w.history ++ es) (sym is) ∙ sym (shown_join ds w.history head))
-    ∙ ap (λ (v : Bool). told_so v (shown_events ds (w.history ++ head))) (sym wire)
+    subst (λ (v : Bool). IsAccount (vat_names S) e.history (told_so v (shown_events ds (w.history ++ head)))) (sym wire)
+    (subst (λ (es : List ShownEvent). IsAccount (vat_names S) e.history (told_so c.wire es))
+    (ap (λ (es : List ShownEvent). shown_events ds w.history ++ es) (sym is) ∙ sym (shown_join ds w.history head))
+    (says_behind (vat_names S) c.wire c.history e.history (shown_events ds w.history) lines (history_alike S w c ds alike at) plain more))
 
 -- ---- steps that no note brought
 
 pub own_comes : (S : Script) (w : Vats) (u : ℕ) (m : Member) (head : List Event) (k : ℕ) (d : Done Local (Unit {0})) (course : Course) (before : List ℕ) (xs : List Sending) (c mid e : World) (r q : Resident) (lines : List ShownEvent) → IsWorld S w c → slice_get w.members u ≡ Some m
-    → Took u before c mid r q → mid.ways ≡ c.ways → mid.history ≡ c.history ++ lines → ((ds : List ℕ) → shown_events ds head ≡ lines) → filter is_no_frame lines ≡ lines
+    → Took u before c mid r q → mid.ways ≡ c.ways → More c.history mid.history lines → ((ds : List ℕ) → shown_events ds head ≡ lines) → filter is_no_frame lines ≡ lines
     → course ≡ after_step w u head k m (λ s. nothing_brought m) d → ((s : machine.Vat Local) → d ≡ Gives tt s → StepIsSteady m m.connections s) → ((y : Vats) → course ≡ Runs y → ShownAlike w.drawn y.drawn w)
     → (s : machine.Vat Local) × (IsDone s q.member d × (IsSteady m (own m) s → Leaves (own m) s xs q.member))
     → ((s : machine.Vat Local) → IsMidway S w u m head (nothing_brought m) s before xs None [] mid → IsWorld S (left_by w u head m (nothing_brought m) s) e) → Comes (λ (y : Vats). IsWorld S y e) course

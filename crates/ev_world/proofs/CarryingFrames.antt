@@ -34,6 +34,8 @@ use Rattle.ev_ways.specs.Rows.{Lane, behind, changed, next_at, next_from, next_t
 use Rattle.ev_ways.specs.Standing.{IsFrame, WaysStand, asks_in, named_message}
 use Rattle.ev_ways.specs.Statements.{Carries, IsCarried, IsTaken}
 use Rattle.ev_ways.specs.declared.frame.Frame.{Frame as Sent}
+use Rattle.ev_step_text.specs.Accounts.{IsAccount, More}
+use Rattle.ev_step_text.specs.declared.account.Account.{Account}
 use Rattle.ev_world.specs.Carrying.{TellsFrame, note_lines}
 use Rattle.ev_world.specs.Standing.{told_so}
 use Rattle.ev_world.proofs.Objects.{is_within}
@@ -149,7 +151,7 @@ told_joins true a b = refl
 told_joins false a b = sym (filter-append is_no_frame a b)
 
 -- more lines behind those before, frames where they are told
-pub lines_more : (ds : List ℕ) (wire : Bool) (h told lines : List ShownEvent) (before more : List Event) → h ≡ told_so wire (shown_events ds before) → shown_events ds more ≡ lines → told ≡ h ++ told_so wire lines
+lines_more : (ds : List ℕ) (wire : Bool) (h told lines : List ShownEvent) (before more : List Event) → h ≡ told_so wire (shown_events ds before) → shown_events ds more ≡ lines → told ≡ h ++ told_so wire lines
     → told ≡ told_so wire (shown_events ds (before ++ more))
 lines_more ds wire h told lines before more so_far shown is =
     is
@@ -157,6 +159,13 @@ lines_more ds wire h told lines before more so_far shown is =
     ∙ told_joins wire (shown_events ds before) lines
     ∙ ap (λ (es : List ShownEvent). told_so wire (shown_events ds before ++ es)) (sym shown)
     ∙ ap (told_so wire) (sym (shown_join ds before more))
+
+-- the same of an account
+pub account_more : (names : List (List ℕ)) (ds : List ℕ) (wire : Bool) (h told : Account) (lines : List ShownEvent) (before more : List Event) → IsAccount names h (told_so wire (shown_events ds before)) → shown_events ds more ≡ lines
+    → More h told (told_so wire lines) → IsAccount names told (told_so wire (shown_events ds (before ++ more)))
+account_more names ds wire h told lines before more so_far shown grew =
+    let first : List ShownEvent = told_so wire (shown_events ds before) in
+    subst (λ (es : List ShownEvent). IsAccount names told es) (lines_more ds wire first (first ++ told_so wire lines) lines before more refl shown refl) (grew names first so_far)
 
 -- ---- as the code answers
 

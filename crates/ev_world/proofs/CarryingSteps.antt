@@ -13,7 +13,7 @@ use Rattle.def_machine.specs.Values.{Local, Naming}
 use Rattle.def_op.specs.Frames.{spelling}
 use Rattle.def_run.specs.Connections.{Connection}
 use Rattle.def_run.specs.Shown.{shown_event}
-use Rattle.def_run.specs.Text.{shown_events}
+use Rattle.def_run.specs.Text.{shown_events, vat_names}
 use Rattle.def_run.specs.World.{Carried, Carry, Event, Idle, Script}
 use Rattle.ev_resident.specs.MemberHearing.{BringsSo, HeardNote, Hears, HearsSo, IsSteadyHearing, frame_heard, having}
 use Rattle.ev_resident.specs.MemberStanding.{IsFound, IsMember, with_draws}
@@ -40,6 +40,8 @@ use Rattle.ev_ways.specs.Standing.{WaysStand}
 use Rattle.ev_ways.specs.Statements.{Carries, IsCarried, IsIdle}
 use Rattle.ev_ways.specs.declared.frame.Frame.{Frame as Sent}
 use Rattle.ev_wire.specs.Putting.{table_for}
+use Rattle.ev_step_text.specs.Accounts.{IsAccount, More, Recounts}
+use Rattle.ev_step_text.specs.declared.account.Account.{Account}
 use Rattle.ev_world.specs.Carrying.{HeardFrom, HearsFrame, TellsFrame, note_lines}
 use Rattle.ev_world.specs.Midway.{IsMidway, having_of}
 use Rattle.ev_world.specs.Standing.{Comes, HaltsAs, IsWorld, told_so}
@@ -47,7 +49,7 @@ use Rattle.ev_world.specs.Steadily.{StepsSteadily}
 use Rattle.ev_world.specs.declared.carrying.Heard.{Heard}
 use Rattle.ev_world.specs.declared.world.World.{World}
 use Rattle.ev_world.proofs.Acting.{StopsAs, Took, midway_is, numbers_are, ready_is, receiver, stop_halts}
-use Rattle.ev_world.proofs.CarryingFrames.{carried, frame_alike, frame_is, heard_exports, hears_steadily, lines_more, mails_named, note_shown, sender_is, sender_other, ways_left_alike}
+use Rattle.ev_world.proofs.CarryingFrames.{account_more, carried, frame_alike, frame_is, heard_exports, hears_steadily, mails_named, note_shown, sender_is, sender_other, ways_left_alike}
 use Rattle.ev_world.proofs.Cuts.{moved}
 use Rattle.ev_world.proofs.Objects.{is_within, set_other, set_there, table_is}
 use Rattle.ev_world.proofs.Pushes.{history_alike, ways_alike}
@@ -67,17 +69,16 @@ nothing_carried S w v u k None i = refl
 nothing_carried S w v u k (Some l) (inl cut) = chosen l.cut (idle S k w) (carry_frames S k v u w l.frames) cut
 nothing_carried S w v u k (Some l) (inr none) = either l.cut (idle S k w) (carry_frames S k v u w l.frames) (ap (carry_frames S k v u w) none)
 
-pub carry_idles : (S : Script) (w : Vats) (v u k : ℕ) (c : World) (rows : List (List Lane)) (h : List ShownEvent) → IsWorld S w c → next_at v u c.ways ≡ None → rows ≡ changed behind v u c.ways → h ≡ c.history ++ line.Idle k ∷ []
+pub carry_idles : (S : Script) (w : Vats) (v u k : ℕ) (c : World) (rows : List (List Lane)) (h : Account) → IsWorld S w c → next_at v u c.ways ≡ None → rows ≡ changed behind v u c.ways → More c.history h (line.Idle k ∷ [])
     → Comes (λ (y : Vats). IsWorld S y (record c { ways = rows; history = h })) (step S (Carry v u) k w)
 unfolding step idle shown_events shown_event
 carry_idles S w v u k c rows h at none left more =
     let law : Carries w.drawn (length S.vats) v u w.ways (changed behind v u c.ways) None =
     subst (λ (o : Option Sent). Carries w.drawn (length S.vats) v u w.ways (changed behind v u c.ways) o) none (carry_stands w.drawn (length S.vats) v u w.ways c.ways at.ways) in
-    subst (λ (r : List (List Lane)). Comes (λ (y : Vats). IsWorld S y (record c { ways = r; history = h })) (step S (Carry v u) k w)) (sym left)
-    (subst (λ (es : List ShownEvent). Comes (λ (y : Vats). IsWorld S y (record c { ways = changed behind v u c.ways; history = es })) (step S (Carry v u) k w)) (sym more) (
+    subst (λ (r : List (List Lane)). Comes (λ (y : Vats). IsWorld S y (record c { ways = r; history = h })) (step S (Carry v u) k w)) (sym left) (
       record w { history = w.history ++ Idle k ∷ [] },
-      (nothing_carried S w v u k (way_at v u w.ways) law.0, moved S w c w.ways (Idle k ∷ []) (changed behind v u c.ways) (line.Idle k ∷ []) at law.1 refl refl),
-    ))
+      (nothing_carried S w v u k (way_at v u w.ways) law.0, moved S w c w.ways (Idle k ∷ []) (changed behind v u c.ways) (line.Idle k ∷ []) h at law.1 refl refl more),
+    )
 
 -- ---- what a call that hears answered
 
@@ -157,7 +158,7 @@ module _ (S : Script) (w : Vats) (v u k : ℕ) (m : Member) (c : World) (fr : Se
 
   -- ---- it stops, or the frame is malformed
 
-  halts_so : {A : Type 0} (read : A → List Sending) (e : VatStop) (before after : Ours) (wire : Bool) (told : List ShownEvent) (o : Option HeardNote) → told ≡ told_so wire (shown_events w.drawn w.history)
+  halts_so : {A : Type 0} (read : A → List Sending) (e : VatStop) (before after : Ours) (wire : Bool) (told : Account) (o : Option HeardNote) → Recounts told (told_so wire (shown_events w.drawn w.history))
       → Hears {A = A} (names_under c.words.key) c.fuel (words_by c.words.key c.words.count) v m read (Err e) before after o → HaltsAs e (step_number S k) wire (hears S k v u left x m o) told
   unfolding hears
   halts_so read Fuel before after wire told None f h = absurd h
@@ -169,18 +170,18 @@ module _ (S : Script) (w : Vats) (v u k : ℕ) (m : Member) (c : World) (fr : Se
       stop_halts e left u head (step_number S k) m (brings S left v u x n m) (arrive (numbers S) v n.read (ready left m.vat)) wire told
       (subst (StopsAs e) (arrives_at n (ready left m.vat) found_left) (hear_stops v m n read e after (arrive (names_under c.words.key) v n.read found) h)) f
 
-  pub hear_halts : {A : Type 0} (read : A → List Sending) (e : VatStop) (before after : Ours) (wire : Bool) (told : List ShownEvent) → told ≡ told_so wire (shown_events w.drawn w.history)
+  pub hear_halts : {A : Type 0} (read : A → List Sending) (e : VatStop) (before after : Ours) (wire : Bool) (told : Account) → Recounts told (told_so wire (shown_events w.drawn w.history))
       → Hears {A = A} (names_under c.words.key) c.fuel (words_by c.words.key c.words.count) v m read (Err e) before after (frame_heard v m fr.bytes) → HaltsAs e (step_number S k) wire (step S (Carry v u) k w) told
   hear_halts read e before after wire told f h =
       subst (λ (d : Course). HaltsAs e (step_number S k) wire d told) (sym course_is) (halts_so read e before after wire told (frame_heard v m fr.bytes) f h)
 
-  astray_so : {A : Type 0} (read : A → List Sending) (before after : Ours) (wire : Bool) (told : List ShownEvent) (o : Option HeardNote) → told ≡ told_so wire (shown_events w.drawn w.history)
+  astray_so : {A : Type 0} (read : A → List Sending) (before after : Ours) (wire : Bool) (told : Account) (o : Option HeardNote) → Recounts told (told_so wire (shown_events w.drawn w.history))
       → Hears {A = A} (names_under c.words.key) c.fuel (words_by c.words.key c.words.count) v m read (Ok None) before after o → HaltsAs Astray (step_number S k) wire (hears S k v u left x m o) told
   unfolding hears
   astray_so read before after wire told None f h = (left, (refl, f))
   astray_so read before after wire told (Some n) f h = absurd h
 
-  pub hear_astray : {A : Type 0} (read : A → List Sending) (before after : Ours) (wire : Bool) (told : List ShownEvent) → told ≡ told_so wire (shown_events w.drawn w.history)
+  pub hear_astray : {A : Type 0} (read : A → List Sending) (before after : Ours) (wire : Bool) (told : Account) → Recounts told (told_so wire (shown_events w.drawn w.history))
       → Hears {A = A} (names_under c.words.key) c.fuel (words_by c.words.key c.words.count) v m read (Ok None) before after (frame_heard v m fr.bytes) → HaltsAs Astray (step_number S k) wire (step S (Carry v u) k w) told
   hear_astray read before after wire told f h =
       subst (λ (d : Course). HaltsAs Astray (step_number S k) wire d told) (sym course_is) (astray_so read before after wire told (frame_heard v m fr.bytes) f h)
@@ -263,17 +264,17 @@ module _ (S : Script) (w : Vats) (v u k : ℕ) (m : Member) (c : World) (fr : Se
     abbrev then_carries : IsCarried s.drawn (length S.vats) v u w.ways (changed behind v u c.ways) fr
     then_carries = carried s.drawn (length S.vats) v u w.ways c.ways fr next (ways_alike S w c s.drawn alike at)
 
-    heard_midway : TellsFrame mid.residents.items v u first news fr told → mid.ways ≡ changed behind v u c.ways → mid.history ≡ c.history ++ told_so c.wire (note_lines k v u fr) → IsMidway S left u m head b s before xs fr.message told mid
+    heard_midway : TellsFrame mid.residents.items v u first news fr told → mid.ways ≡ changed behind v u c.ways → More c.history mid.history (told_so c.wire (note_lines k v u fr)) → IsMidway S left u m head b s before xs fr.message told mid
     unfolding brings
     heard_midway tells ways more = midway_is S w u m b s before xs fr.message told c mid r q at here took stepped alike (says tells)
         left.ways head (mails_named fr.message ∙ sym carries.taken.is_frame.named) (heard_exports m v one.note s)
         (subst (λ (rows : List (List Lane)). WaysStand s.drawn (length S.vats) left.ways rows) (sym ways)
         (ways_left_alike w.drawn s.drawn (length S.vats) v u w.ways (changed behind v u c.ways) fr carries.taken then_carries.taken))
-        (lines_more s.drawn c.wire c.history mid.history (note_lines k v u fr) w.history head (history_alike S w c s.drawn alike at)
-        (note_shown s.drawn k v u x fr (frame_alike w.drawn s.drawn (length S.vats) v u w.ways (changed behind v u c.ways) fr carries.taken then_carries.taken)) more
-        ∙ ap (λ (wire : Bool). told_so wire (shown_events s.drawn (w.history ++ head))) (sym took.wire))
+        (subst (λ (wire : Bool). IsAccount (vat_names S) mid.history (told_so wire (shown_events s.drawn (w.history ++ head)))) (sym took.wire)
+        (account_more (vat_names S) s.drawn c.wire c.history mid.history (note_lines k v u fr) w.history head (history_alike S w c s.drawn alike at)
+        (note_shown s.drawn k v u x fr (frame_alike w.drawn s.drawn (length S.vats) v u w.ways (changed behind v u c.ways) fr carries.taken then_carries.taken)) more))
 
-    pub hear_comes : (e : World) → TellsFrame mid.residents.items v u first news fr told → mid.ways ≡ changed behind v u c.ways → mid.history ≡ c.history ++ told_so c.wire (note_lines k v u fr)
+    pub hear_comes : (e : World) → TellsFrame mid.residents.items v u first news fr told → mid.ways ≡ changed behind v u c.ways → More c.history mid.history (told_so c.wire (note_lines k v u fr))
         → ((z : Vats) (y : Member) (h : List Event) (g : Brought) (t : machine.Vat Local) → IsMidway S z u y h g t before xs fr.message told mid → IsWorld S (left_by z u h y g t) e) → Comes (λ (y : Vats). IsWorld S y e) (step S (Carry v u) k w)
     hear_comes e tells ways more finished = (left_by left u head m b s, (runs, finished left m head b s (heard_midway tells ways more)))
 
@@ -303,13 +304,13 @@ module _ (S : Script) (w : Vats) (v u k : ℕ) (c : World) (fr : Sent) (r : Resi
         subst (λ (bs : List ℕ). Hears (names_under c.words.key) c.fuel (words_by c.words.key c.words.count) v receives.0 read result h.0 q (frame_heard v receives.0 bs)) same h.2,
       )
 
-  pub call_halts : {A : Type 0} (read : A → List Sending) (e : VatStop) (q : Ours) (bytes : List ℕ) (wire : Bool) (told : List ShownEvent) → bytes ≡ fr.bytes → CallHears c v read (Err e) r q bytes → told ≡ told_so wire (shown_events w.drawn w.history)
+  pub call_halts : {A : Type 0} (read : A → List Sending) (e : VatStop) (q : Ours) (bytes : List ℕ) (wire : Bool) (told : Account) → bytes ≡ fr.bytes → CallHears c v read (Err e) r q bytes → Recounts told (told_so wire (shown_events w.drawn w.history))
       → HaltsAs e (step_number S k) wire (step S (Carry v u) k w) told
   call_halts read e q bytes wire told same call f =
       let h = heard_by_call read (Err e) q bytes same call in
       hear_halts S w v u k receives.0 c fr at receives.1 next read e h.0 q wire told f h.1
 
-  pub call_astray : {A : Type 0} (read : A → List Sending) (q : Ours) (bytes : List ℕ) (wire : Bool) (told : List ShownEvent) → bytes ≡ fr.bytes → CallHears c v read (Ok None) r q bytes → told ≡ told_so wire (shown_events w.drawn w.history)
+  pub call_astray : {A : Type 0} (read : A → List Sending) (q : Ours) (bytes : List ℕ) (wire : Bool) (told : Account) → bytes ≡ fr.bytes → CallHears c v read (Ok None) r q bytes → Recounts told (told_so wire (shown_events w.drawn w.history))
       → HaltsAs Astray (step_number S k) wire (step S (Carry v u) k w) told
   call_astray read q bytes wire told same call f =
       let h = heard_by_call read (Ok None) q bytes same call in
@@ -317,7 +318,7 @@ module _ (S : Script) (w : Vats) (v u k : ℕ) (c : World) (fr : Sent) (r : Resi
 
   pub call_comes : {A : Type 0} (read : A → List Sending) (a : A) (bytes : List ℕ) (before : List ℕ) (first : ℕ) (news : News) (told : List Entry) (mid e : World) (q : Resident) → bytes ≡ fr.bytes → CallHears c v read (Ok (Some a)) r q.member bytes
       → CallBrings c v r news bytes → first ≡ length (table_for v r.member.connections.items).imports → Took u before c mid r q → StepsSteadily S (Carry v u) k w → TellsFrame mid.residents.items v u first news fr told → mid.ways ≡ changed behind v u c.ways
-      → mid.history ≡ c.history ++ told_so c.wire (note_lines k v u fr)
+      → More c.history mid.history (told_so c.wire (note_lines k v u fr))
       → ((z : Vats) (y : Member) (h : List Event) (g : Brought) (t : machine.Vat Local) → IsMidway S z u y h g t before (read a) fr.message told mid → IsWorld S (left_by z u h y g t) e) → Comes (λ (y : Vats). IsWorld S y e) (step S (Carry v u) k w)
   call_comes read a bytes before first news told mid e q same call brings_call stood took steady tells ways more finished =
       let h = heard_by_call read (Ok (Some a)) q.member bytes same call in

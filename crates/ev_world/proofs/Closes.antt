@@ -6,10 +6,12 @@ use Rattle.def_event.specs.declared.event.Event.TheVariants as line
 use Rattle.def_run.specs.Numbers.{Vats, close, left_members, left_ways}
 use Rattle.def_run.specs.Vats.{Member}
 use Rattle.def_run.specs.Shown.{shown_event}
-use Rattle.def_run.specs.Text.{shown_events}
+use Rattle.def_run.specs.Text.{shown_events, vat_names}
 use Rattle.def_run.specs.World.{Ends, Event, Script}
 use Rattle.ev_resident.specs.Standing.{IsResident}
 use Rattle.ev_resident.specs.declared.resident.Resident.{Resident}
+use Rattle.ev_step_text.specs.Accounts.{IsAccount}
+use Rattle.ev_step_text.specs.declared.account.Account.{Account}
 use Rattle.ev_ways.proofs.Closing.{left_stands}
 use Rattle.ev_ways.proofs.Cuts.{shown_join}
 use Rattle.ev_ways.specs.Rows.{Lane}
@@ -76,12 +78,15 @@ module _ (S : Script) (w : Vats) (c : World) (at : IsWorld S w c) where
       ∙ ap (λ (es : List ShownEvent). steps ++ vats ++ es ++ shown_events w.drawn (Ends ∷ [])) (left_stands S w.drawn (length S.vats) w.ways c.ways at.ways)
       ∙ ap (λ (es : List ShownEvent). steps ++ vats ++ ways ++ es) (ends_shown w.drawn)
 
-  -- the history once the vats, the ways and the end are told
-  pub closes : (first second last : List ShownEvent) → first ≡ c.history ++ vats → second ≡ first ++ ways → last ≡ second ++ line.End ∷ []
-      → Comes (λ (y : Vats). last ≡ told_so c.wire (shown_events y.drawn y.history)) (close S w)
+  -- the account once the vats, the ways and the end are told
+  pub closes : (last : Account) → ((names : List (List ℕ)) (es : List ShownEvent) → IsAccount names c.history es → IsAccount names last (((es ++ vats) ++ ways) ++ line.End ∷ []))
+      → Comes (λ (y : Vats). IsAccount (vat_names S) last (told_so c.wire (shown_events y.drawn y.history))) (close S w)
   unfolding close
-  closes first second last e f g =
-      let one : first ≡ told_so c.wire (steps ++ vats) = e ∙ told_behind c.wire c.history steps vats at.history (vats_plain c.residents.items) in
-      let two : second ≡ told_so c.wire (steps ++ vats ++ ways) = f ∙ told_behind c.wire first (steps ++ vats) ways one (rows_plain zero c.ways) in
-      let three : last ≡ told_so c.wire (steps ++ vats ++ ways ++ line.End ∷ []) = g ∙ told_behind c.wire second (steps ++ vats ++ ways) (line.End ∷ []) two refl in
-      (record w { history = whole }, (refl, three ∙ ap (told_so c.wire) (sym whole_shown)))
+  closes last told =
+      let first : List ShownEvent = told_so c.wire steps in
+      let one : first ++ vats ≡ told_so c.wire (steps ++ vats) = told_behind c.wire first steps vats refl (vats_plain c.residents.items) in
+      let two : (first ++ vats) ++ ways ≡ told_so c.wire (steps ++ vats ++ ways) = told_behind c.wire (first ++ vats) (steps ++ vats) ways one (rows_plain zero c.ways) in
+      let three : ((first ++ vats) ++ ways) ++ line.End ∷ [] ≡ told_so c.wire (steps ++ vats ++ ways ++ line.End ∷ []) = told_behind c.wire ((first ++ vats) ++ ways) (steps ++ vats ++ ways) (line.End ∷ []) two refl in (
+        record w { history = whole },
+        (refl, subst (λ (es : List ShownEvent). IsAccount (vat_names S) last es) (three ∙ ap (told_so c.wire) (sym whole_shown)) (told (vat_names S) first at.history)),
+      )

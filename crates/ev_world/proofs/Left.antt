@@ -8,7 +8,7 @@ use Rattle.def_run.specs.Numbers.{Brought, Vats, all_written, frames_of, left_by
 use Rattle.def_run.specs.Vats.{Member, connection_for, unconnected}
 use Rattle.def_machine.specs.State as machine
 use Rattle.def_machine.specs.Values.{Local, Name}
-use Rattle.def_run.specs.Text.{shown_events}
+use Rattle.def_run.specs.Text.{shown_events, vat_names}
 use Rattle.def_run.specs.World.{Event, Script}
 use Rattle.ev_base.specs.declared.names.Msg.{Msg}
 use Rattle.ev_intro.specs.Word.{Drawn}
@@ -29,12 +29,14 @@ use Rattle.ev_resident.specs.Vat.{IsReady}
 use Rattle.ev_ways.specs.Rows.{Lane}
 use Rattle.ev_ways.specs.Standing.{WaysStand}
 use Rattle.ev_ways.proofs.Cuts.{shown_join}
+use Rattle.ev_step_text.specs.Accounts.{IsAccount}
+use Rattle.ev_step_text.specs.declared.account.Account.{Account}
 use Rattle.ev_world.specs.Exporting.{AreTold, objects_for, told_by, with_imports}
 use Rattle.ev_world.specs.Midway.{IsActing, IsMidway, drawn_now, having_of}
 use Rattle.ev_world.specs.Pushing.{all_pushed}
 use Rattle.ev_world.specs.Standing.{IsWorld, told_so}
 use Rattle.ev_world.specs.declared.world.World.{World}
-use Rattle.ev_world.proofs.Cuts.{told_behind}
+use Rattle.ev_world.proofs.Cuts.{says_behind}
 use Rattle.ev_world.proofs.Exports.{Grows, exports_grow}
 use Rattle.ev_world.proofs.Objects.{Imported, imported, is_within, objects_stand, same_or_not, set_other, set_there}
 use Rattle.ev_world.proofs.Plain.{lines_plain}
@@ -63,7 +65,7 @@ module _ (S : Script) (w : Vats) (u : ℕ) (m : Member) (head : List Event) (b :
   member_now = record { vat = s; learnt = b.learnt; connections = all_written s s.outbox b.connections; names = names_now }
 
   -- r the vat before it told, p once it did, q once it gave back the words
-  module _ (r p q : Resident) (ys : List Outgoing) (lines : List ShownEvent) (fuel : ℕ) (after : Drawn) (found : slice_get c.residents.items u ≡ Some r) (same : p.member ≡ r.member) (objects : p.names.naming.objects ≡ r.names.naming.objects)
+  module _ (r p q : Resident) (ys : List Outgoing) (lines : Account) (fuel : ℕ) (after : Drawn) (found : slice_get c.residents.items u ≡ Some r) (same : p.member ≡ r.member) (objects : p.names.naming.objects ≡ r.names.naming.objects)
       (said : IsTold w u m.names s m.vat b.connections b.carried b.told c.history lines ys p.names) (rested : IsRested p q c.words fuel after) where
     abbrev acts : IsActing S w u m b s xs told r
     acts = mid.own r found
@@ -180,13 +182,12 @@ module _ (S : Script) (w : Vats) (u : ℕ) (m : Member) (head : List Event) (b :
         let os : List ℕ = drop (get_or before h zero) (objects_for h q.member) in
         ap (λ (t : Resident). length t.names.naming.objects) z.1.1 ∙ (imported u os z.0.names).room ∙ room_is h z.0 z.1.0
 
-    lines_are : lines ≡ told_so c.wire (shown_events s.drawn (left_by w u head m b s).history)
+    lines_are : IsAccount (vat_names S) lines (told_so c.wire (shown_events s.drawn (left_by w u head m b s).history))
     unfolding left_by
     lines_are =
         let more : List Event = lines_of w.ways u naming_now s.happened in
-        said.history
-        ∙ told_behind c.wire c.history (shown_events s.drawn (w.history ++ head)) (shown_events s.drawn more) mid.history (lines_plain s.drawn w.ways u naming_now s.happened)
-        ∙ ap (told_so c.wire) (sym (shown_join s.drawn (w.history ++ head) more))
+        subst (λ (es : List ShownEvent). IsAccount (vat_names S) lines (told_so c.wire es)) (sym (shown_join s.drawn (w.history ++ head) more))
+        (says_behind (vat_names S) c.wire c.history lines (shown_events s.drawn (w.history ++ head)) (shown_events s.drawn more) mid.history (lines_plain s.drawn w.ways u naming_now s.happened) said.history)
 
     -- The code's state after the step, by its parts.
     pub left_is : (e : World) (rs : List Resident) → rs ≡ rests → AreTold u q.member before (length rs) rs e.residents.items → e.fuel ≡ fuel → e.words ≡ after → e.limits.depth ≡ c.limits.depth → e.programs.items ≡ c.programs.items
@@ -204,5 +205,6 @@ module _ (S : Script) (w : Vats) (u : ℕ) (m : Member) (head : List Event) (b :
       programs = programs ∙ mid.programs;
       nouns = nouns ∙ mid.nouns;
       ways = subst (λ (rows : List (List Lane)). WaysStand s.drawn (length S.vats) (left_by w u head m b s).ways rows) (sym ways) (pushes_stand s.drawn (length S.vats) u (frames_of s naming_now s.outbox b.connections) ys w.ways c.ways said.outgoing mid.ways);
-      history = history ∙ lines_are ∙ ap (λ (v : Bool). told_so v (shown_events s.drawn (left_by w u head m b s).history)) (sym wire);
+      history = subst (λ (v : Bool). IsAccount (vat_names S) e.history (told_so v (shown_events s.drawn (left_by w u head m b s).history))) (sym wire)
+          (subst (λ (a : Account). IsAccount (vat_names S) a (told_so c.wire (shown_events s.drawn (left_by w u head m b s).history))) (sym history) lines_are);
     }

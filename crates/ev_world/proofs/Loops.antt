@@ -3,7 +3,7 @@ use Rattle.std.proofs.Common.{◌≡◌, ℕ, zero, suc, ◌+◌, ◌<◌, ◌�
 use Rattle.std.specs.Prelude.{get_or, pred, slice_get}
 use Rattle.std.proofs.lemmas.List.{length-append, length-map}
 use Rattle.std.proofs.lemmas.Option.{slice_get_read}
-use Rattle.def_event.specs.declared.event.Event.{Event as ShownEvent}
+use Rattle.ev_step_text.specs.declared.account.Account.{Account}
 use Rattle.def_run.specs.Numbers.{Course, Runs, Halts, Vats, begins, open_from, open_member, step, step_number, steps_from, then_runs}
 use Rattle.def_run.specs.World.{Entry, Program, Script}
 use Rattle.ev_script.specs.declared.script.Entry.{Entry as TheirEntry}
@@ -27,7 +27,7 @@ then_over (Runs w) f g h e = e w
 then_over (Halts c k w) f g h e = refl
 
 -- what halts halts whatever would come behind it
-pub halts_on : (e : VatStop) (k : ℕ) (wire : Bool) (c : Course) (f : Vats → Course) (told : List ShownEvent) → HaltsAs e k wire c told → HaltsAs e k wire (then_runs c f) told
+pub halts_on : (e : VatStop) (k : ℕ) (wire : Bool) (c : Course) (f : Vats → Course) (told : Account) → HaltsAs e k wire c told → HaltsAs e k wire (then_runs c f) told
 unfolding then_runs
 halts_on Fuel k wire c f told h = (h.0, (ap (λ (d : Course). then_runs d f) h.1.0, h.1.1))
 halts_on Deep k wire c f told h = (h.0, (ap (λ (d : Course). then_runs d f) h.1.0, h.1.1))
@@ -122,7 +122,7 @@ opened_next S At P k steady less opens o = opened_on S At P k steady less opens 
 pub all_opened : (S : Script) (P : Course → Type 0) (k : ℕ) → length S.vats ≤ k → OpenedBy S P k → P (open_from S zero S.vats (begins S))
 all_opened S P k most o = subst (λ (ps : List Program). P (open_from S zero ps (begins S))) (none_left S.vats o.before o.left k o.all o.many most) o.course
 
-pub opened_halts : (S : Script) (e : VatStop) (j k : ℕ) (wire : Bool) (told : List ShownEvent) → OpenedBy S (λ c. HaltsAs e j wire c told) k → HaltsAs e j wire (open_from S zero S.vats (begins S)) told
+pub opened_halts : (S : Script) (e : VatStop) (j k : ℕ) (wire : Bool) (told : Account) → OpenedBy S (λ c. HaltsAs e j wire c told) k → HaltsAs e j wire (open_from S zero S.vats (begins S)) told
 opened_halts S e j k wire told o =
     subst (λ (c : Course). HaltsAs e j wire c told) (sym (ap (λ (ps : List Program). open_from S zero ps (begins S)) o.all ∙ openings_joined S zero o.before o.left (begins S)))
     (halts_on e j wire (open_from S zero o.before (begins S)) (open_from S (0 + length o.before) o.left) told o.course)
@@ -190,7 +190,7 @@ stepped_next S from At P k steady opened less steps o = stepped_on S from At P k
 pub all_stepped : (S : Script) (from : Vats) (P : Course → Type 0) (k : ℕ) → length S.schedule ≤ k → SteppedBy S from P k → P (steps_from S S.schedule 1 from)
 all_stepped S from P k most o = subst (λ (es : List Entry). P (steps_from S es 1 from)) (none_left S.schedule o.before o.left k o.all o.many most) o.course
 
-pub stepped_halts : (S : Script) (from : Vats) (e : VatStop) (j k : ℕ) (wire : Bool) (told : List ShownEvent) → SteppedBy S from (λ c. HaltsAs e j wire c told) k → HaltsAs e j wire (steps_from S S.schedule 1 from) told
+pub stepped_halts : (S : Script) (from : Vats) (e : VatStop) (j k : ℕ) (wire : Bool) (told : Account) → SteppedBy S from (λ c. HaltsAs e j wire c told) k → HaltsAs e j wire (steps_from S S.schedule 1 from) told
 stepped_halts S from e j k wire told o =
     subst (λ (c : Course). HaltsAs e j wire c told) (sym (ap (λ (es : List Entry). steps_from S es 1 from) o.all ∙ steps_joined S 1 o.before o.left from))
     (halts_on e j wire (steps_from S o.before 1 from) (steps_from S o.left (1 + length o.before)) told o.course)

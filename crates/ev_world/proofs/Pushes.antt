@@ -1,10 +1,12 @@
 -- Frames that go out stand for those of the run in numbers, and what was told stays as it was told.
 use Rattle.std.proofs.Common.{◌≡◌, ℕ, List, [], ◌∷◌, ◌++◌, length, refl, sym, ap, subst, ◌∙◌}
 use Rattle.def_run.specs.Numbers.{Addressed, Vats, Way, pushed, push_all, with_way}
-use Rattle.def_run.specs.Text.{shown_events}
+use Rattle.def_event.specs.declared.event.Event.{Event as ShownEvent}
+use Rattle.def_run.specs.Text.{shown_events, vat_names}
 use Rattle.def_run.specs.World.{Script}
 use Rattle.ev_resident.specs.Framing.{AreOutgoing}
 use Rattle.ev_resident.specs.declared.outgoing.Outgoing.{Outgoing}
+use Rattle.ev_step_text.specs.Accounts.{IsAccount}
 use Rattle.ev_ways.specs.Rows.{Lane, changed, put}
 use Rattle.ev_ways.specs.Standing.{WaysStand}
 use Rattle.ev_ways.specs.declared.frame.Frame.{Frame}
@@ -50,8 +52,8 @@ pushes_stand ds n u (x ∷ xs) [] ls rows a s = absurd a
 pub ways_alike : (S : Script) (w : Vats) (c : World) (es : List ℕ) → ShownAlike w.drawn es w → IsWorld S w c → WaysStand es (length S.vats) w.ways c.ways
 ways_alike S w c es alike at = draws_stand w.drawn es (length S.vats) w.ways c.ways alike.frames at.ways
 
-pub history_alike : (S : Script) (w : Vats) (c : World) (es : List ℕ) → ShownAlike w.drawn es w → IsWorld S w c → c.history ≡ told_so c.wire (shown_events es w.history)
-history_alike S w c es alike at = at.history ∙ ap (told_so c.wire) (sym alike.history)
+pub history_alike : (S : Script) (w : Vats) (c : World) (es : List ℕ) → ShownAlike w.drawn es w → IsWorld S w c → IsAccount (vat_names S) c.history (told_so c.wire (shown_events es w.history))
+history_alike S w c es alike at = subst (λ (xs : List ShownEvent). IsAccount (vat_names S) c.history (told_so c.wire xs)) (sym alike.history) at.history
 
 -- the ways as a step leaves them
 pub ways_left : (S : Script) (w : Vats) (c : World) (es : List ℕ) (u : ℕ) (xs : List Addressed) (ys : List Outgoing) → ShownAlike w.drawn es w → IsWorld S w c → AreOutgoing es xs ys

@@ -12,7 +12,7 @@ use Rattle.def_run.specs.Numbers.{begins, fresh_from, fresh_member, fresh_vat, w
 use Rattle.def_run.specs.Vats.{Member}
 use Rattle.def_machine.specs.State.{is_in}
 use Rattle.def_machine.specs.Values.{Root}
-use Rattle.def_run.specs.Text.{shown_events}
+use Rattle.def_run.specs.Text.{shown_events, vat_names}
 use Rattle.def_run.specs.World.{Program, Script, knowers, name_at}
 use Rattle.ev_intro.specs.Word.{Drawn}
 use Rattle.ev_resident.specs.MemberStanding.{IsMember}
@@ -27,6 +27,7 @@ use Rattle.ev_script.specs.Rules.{IsAdmitted, KnowOthers, KnowsOthers}
 use Rattle.ev_script.specs.declared.script.Script.{Script as TheirScript}
 use Rattle.ev_script.specs.declared.script.VatScript.{VatScript}
 use Rattle.ev_resident.specs.Vat.{IsReady}
+use Rattle.ev_step_text.specs.Accounts.{IsAccount}
 use Rattle.ev_ways.specs.Rows.{Lane, fresh_rows}
 use Rattle.ev_ways.specs.Standing.{WaysStand}
 use Rattle.ev_ways.proofs.Starts.{start_stands}
@@ -155,7 +156,7 @@ module _ (script : TheirScript) (programs : List Scoped) (depth : ℕ) where
 
   pub begun : (c : World) → IsAdmitted script → length programs ≡ length script.vats → c.programs.items ≡ map (λ (p : Scoped). p.tree) programs → AreStarted script (length script.vats) c.residents.items
       → c.nouns.items ≡ map (λ (v : VatScript). map (name_at (bare script.vats)) v.knows) script.vats → c.ways ≡ fresh_rows (length script.vats) → c.words ≡ record { key = script.key; count = 0 }
-      → c.fuel ≡ script.fuel → c.limits.depth ≡ depth → c.history ≡ [] → IsWorld S (begins S) c
+      → c.fuel ≡ script.fuel → c.limits.depth ≡ depth → IsAccount (vat_names S) c.history [] → IsWorld S (begins S) c
   unfolding begins words_by shown_events
   begun c admitted many same started nouns ways words fuel deep history = record {
     fuel = fuel;
@@ -169,5 +170,5 @@ module _ (script : TheirScript) (programs : List Scoped) (depth : ℕ) where
     programs = same ∙ trees_are many;
     nouns = nouns ∙ nouns_alike (tree_in programs) script.vats zero script.vats;
     ways = subst (λ (rows : List (List Lane)). WaysStand [] (length S.vats) (ways_from S.vats zero S.vats) rows) (sym (ways ∙ ap fresh_rows count_is)) (start_stands [] S.vats);
-    history = history ∙ none_told c.wire;
+    history = subst (λ (es : List ShownEvent). IsAccount (vat_names S) c.history es) (none_told c.wire) history;
   }

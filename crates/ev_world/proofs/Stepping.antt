@@ -11,7 +11,7 @@ use Rattle.def_machine.specs.State as machine
 use Rattle.def_machine.specs.State.{Done, Message}
 use Rattle.def_machine.specs.Values.{Local, Prom, Words}
 use Rattle.def_run.specs.Shown.{shown_event}
-use Rattle.def_run.specs.Text.{shown_events}
+use Rattle.def_run.specs.Text.{shown_events, vat_names}
 use Rattle.def_run.specs.World.{Event, Idle, NoticeLink, NoticedAt, Opens, Program, Script, Turn, Turned}
 use Rattle.ev_room.specs.Reading.{roots_from}
 use Rattle.ev_resident.specs.MemberStanding.{IsFound, IsMember, with_draws}
@@ -23,6 +23,7 @@ use Rattle.ev_pass.specs.Reading.{names_under}
 use Rattle.ev_resident.specs.Standing.{IsResident}
 use Rattle.ev_resident.specs.declared.resident.Resident.{Resident}
 use Rattle.ev_resident.specs.declared.VatStop.{VatStop}
+use Rattle.ev_step_text.specs.Accounts.{More}
 use Rattle.ev_world.specs.Midway.{IsMidway}
 use Rattle.ev_world.specs.Standing.{Comes, HaltsAs, IsWorld}
 use Rattle.ev_world.specs.Steadily.{OpensSteadily, StepsSteadily}
@@ -65,16 +66,16 @@ module _ (S : Script) (w : Vats) (u : ℕ) (p : Program) (c : World) (r : Reside
       let m : Member = y.0 in
       let d : Done Local (Unit {0}) = opened S w u p m c x ns there at y.1 program nouns in
       subst (λ (o : Course). HaltsAs e u c.wire o c.history) (sym (opens S w u p m c x ns there at y.1 program nouns))
-      (stop_halts e w u (Opens u ∷ []) u m (λ s. nothing_brought m) d c.wire c.history (stop_is {A = A} m (own m) read e q d (opens_so (Err e) q m (answered S w u m c r (OpensSo {A = A} c t vs read (Err e) q) at y.1 found call))) at.history)
+      (stop_halts e w u (Opens u ∷ []) u m (λ s. nothing_brought m) d c.wire c.history (stop_is {A = A} m (own m) read e q d (opens_so (Err e) q m (answered S w u m c r (OpensSo {A = A} c t vs read (Err e) q) at y.1 found call))) (record { names = vat_names S; is = at.history }))
 
   pub open_comes : (k : ℕ) (a : A) (before : List ℕ) (mid e : World) (q : Resident) → k ≡ u → OpensSteadily S u p w → Took u before c mid r q → Answers c r (OpensSo {A = A} c t vs read (Ok a) q.member)
-      → mid.ways ≡ c.ways → mid.history ≡ c.history ++ line.Open k ∷ [] → Finishes S w k (Opens k ∷ []) before (read a) mid e → Comes (λ (y : Vats). IsWorld S y e) (open_member S u p w (slice_get w.members u))
+      → mid.ways ≡ c.ways → More c.history mid.history (line.Open k ∷ []) → Finishes S w k (Opens k ∷ []) before (read a) mid e → Comes (λ (y : Vats). IsWorld S y e) (open_member S u p w (slice_get w.members u))
   open_comes k a before mid e q same steady took call ways more finished =
       let y = receiver S w u c r at found in
       let m : Member = y.0 in
       let ended = opens_so (Ok a) q.member m (answered S w u m c r (OpensSo {A = A} c t vs read (Ok a) q.member) at y.1 found call) in
       own_comes S w u m (Opens u ∷ []) u (opened S w u p m c x ns there at y.1 program nouns) (open_member S u p w (slice_get w.members u)) before (read a) c mid e r q (line.Open u ∷ []) at y.1 took ways
-      (more ∙ ap (λ (j : ℕ). c.history ++ line.Open j ∷ []) same)
+      (subst (λ (j : ℕ). More c.history mid.history (line.Open j ∷ [])) same more)
       (λ ds. unfold shown_events in unfold shown_event in refl) refl
       (opens S w u p m c x ns there at y.1 program nouns) (opens_steady S w u p m c x ns there at y.1 program nouns steady) (λ z i. steady.shown z i)
       (ended.0, (ended.1, ended.2))
@@ -92,10 +93,10 @@ module _ (S : Script) (w : Vats) (u peer k : ℕ) (c : World) (r : Resident) (at
       let m : Member = y.0 in
       let d : Done Local (Unit {0}) = noticed S w u peer m c at y.1 in
       subst (λ (o : Course). HaltsAs e (step_number S k) c.wire o c.history) (sym (notices S w u peer m c at y.1 k))
-      (stop_halts e w u (NoticedAt k u peer ∷ []) (step_number S k) m (λ s. nothing_brought m) d c.wire c.history (stop_is {A = A} m (own m) read e q d (answered S w u m c r (NoticesSo {A = A} c peer read (Err e) q) at y.1 found call)) at.history)
+      (stop_halts e w u (NoticedAt k u peer ∷ []) (step_number S k) m (λ s. nothing_brought m) d c.wire c.history (stop_is {A = A} m (own m) read e q d (answered S w u m c r (NoticesSo {A = A} c peer read (Err e) q) at y.1 found call)) (record { names = vat_names S; is = at.history }))
 
   pub notice_comes : (a : A) (before : List ℕ) (mid e : World) (q : Resident) → StepsSteadily S (NoticeLink u peer) k w → Took u before c mid r q → Answers c r (NoticesSo {A = A} c peer read (Ok a) q.member)
-      → mid.ways ≡ c.ways → mid.history ≡ c.history ++ line.Notice k u peer ∷ [] → Finishes S w u (NoticedAt k u peer ∷ []) before (read a) mid e → Comes (λ (y : Vats). IsWorld S y e) (step S (NoticeLink u peer) k w)
+      → mid.ways ≡ c.ways → More c.history mid.history (line.Notice k u peer ∷ []) → Finishes S w u (NoticedAt k u peer ∷ []) before (read a) mid e → Comes (λ (y : Vats). IsWorld S y e) (step S (NoticeLink u peer) k w)
   notice_comes a before mid e q steady took call ways more finished =
       let y = receiver S w u c r at found in
       let m : Member = y.0 in
@@ -132,10 +133,10 @@ module _ (S : Script) (w : Vats) (u k : ℕ) (c : World) (r : Resident) (x : Lis
       let y = receiver S w u c r at found in
       let p = its_program in
       let z = turns_to (Err e) q y.0 y.1 call in
-      turn_halts S w u p.0 y.0 c x at program p.1 {A = A} k read e z.0 q c.wire c.history y.1 at.history z.2
+      turn_halts S w u p.0 y.0 c x at program p.1 {A = A} k read e z.0 q c.wire c.history y.1 (record { names = vat_names S; is = at.history }) z.2
 
   pub turn_comes : (a : A) (before : List ℕ) (mid e : World) (q : Resident) → StepsSteadily S (Turn u) k w → Took u before c mid r q → Answers c r (TurnsTo {A = A} c t read (Ok (Some a)) q.member)
-      → mid.ways ≡ c.ways → mid.history ≡ c.history ++ line.Turn k u ∷ [] → Finishes S w u (Turned k u ∷ []) before (read a) mid e → Comes (λ (y : Vats). IsWorld S y e) (step S (Turn u) k w)
+      → mid.ways ≡ c.ways → More c.history mid.history (line.Turn k u ∷ []) → Finishes S w u (Turned k u ∷ []) before (read a) mid e → Comes (λ (y : Vats). IsWorld S y e) (step S (Turn u) k w)
   turn_comes a before mid e q steady took call ways more finished =
       let y = receiver S w u c r at found in
       let m : Member = y.0 in
@@ -156,7 +157,7 @@ module _ (S : Script) (w : Vats) (u k : ℕ) (c : World) (r : Resident) (x : Lis
   -- the vat rested at once, as z
   pub turn_idles : (before : List ℕ) (mid e : World) (q z : Resident) → Took u before c mid r q → Answers c r (TurnsTo {A = A} c t read (Ok None) q.member) → IsRested q z mid.words e.fuel e.words
       → e.residents.items ≡ slice_set c.residents.items u z → e.limits.depth ≡ mid.limits.depth → e.programs.items ≡ mid.programs.items → e.nouns.items ≡ mid.nouns.items → e.wire ≡ mid.wire → e.ways ≡ c.ways
-      → e.history ≡ c.history ++ line.Idle k ∷ [] → Comes (λ (y : Vats). IsWorld S y e) (step S (Turn u) k w)
+      → More c.history e.history (line.Idle k ∷ []) → Comes (λ (y : Vats). IsWorld S y e) (step S (Turn u) k w)
   turn_idles before mid e q z took call rested residents limits programs nouns wire ways history =
       let y = receiver S w u c r at found in
       let m : Member = y.0 in

@@ -12,7 +12,7 @@ use Rattle.def_machine.specs.State as machine
 use Rattle.def_machine.specs.State.{Done, Gives, Message}
 use Rattle.def_machine.specs.Values.{Local, Naming}
 use Rattle.def_run.specs.Shown.{shown_event}
-use Rattle.def_run.specs.Text.{shown_events}
+use Rattle.def_run.specs.Text.{shown_events, vat_names}
 use Rattle.def_run.specs.World.{Idle, Program, Script, Turn, Turned, tree_at}
 use Rattle.ev_intro.specs.Word.{Drawn}
 use Rattle.ev_resident.specs.MemberStanding.{IsFound, IsMember, Sees, with_draws}
@@ -32,11 +32,13 @@ use Rattle.ev_ways.proofs.Cuts.{shown_join}
 use Rattle.ev_resident.specs.Names.{Named}
 use Rattle.ev_ways.specs.Rows.{Lane}
 use Rattle.ev_ways.specs.Standing.{WaysStand}
+use Rattle.ev_step_text.specs.Accounts.{IsAccount, More, Recounts}
+use Rattle.ev_step_text.specs.declared.account.Account.{Account}
 use Rattle.ev_world.specs.Standing.{HaltsAs, IsWorld, told_so}
 use Rattle.ev_world.specs.Steadily.{StepsSteadily}
 use Rattle.ev_world.specs.declared.world.World.{World}
 use Rattle.ev_world.proofs.Acting.{StopsAs, Took, numbers_are, ready_is, stop_halts}
-use Rattle.ev_world.proofs.Cuts.{told_behind}
+use Rattle.ev_world.proofs.Cuts.{says_behind}
 use Rattle.ev_world.proofs.Left.{IsRested}
 use Rattle.ev_world.proofs.Objects.{is_within, same_or_not, set_other, set_there}
 use Rattle.ev_world.proofs.Opening.{tree_is}
@@ -98,7 +100,7 @@ module _ (S : Script) (w : Vats) (u : ℕ) (p : Program) (m : Member) (c : World
       → takes q (record (with_draws c.fuel (words_by c.words.key c.words.count) m.vat) { queue = qs }) ≡ Gives tt s → StepIsSteady m m.connections s
   turns_steady k q qs here is steady s e = (subst (TurnIsSteady S w u m) is (steady.steady m here)) s (sym (takes_is q qs) ∙ e)
 
-  turn_halts_so : {A : Type 0} (k : ℕ) (read : A → List Sending) (e : VatStop) (before after : Ours) (wire : Bool) (told : List ShownEvent) (queue : List (Message Local)) → told ≡ told_so wire (shown_events w.drawn w.history)
+  turn_halts_so : {A : Type 0} (k : ℕ) (read : A → List Sending) (e : VatStop) (before after : Ours) (wire : Bool) (told : Account) (queue : List (Message Local)) → Recounts told (told_so wire (shown_events w.drawn w.history))
       → Turns {A = A} c.fuel (words_by c.words.key c.words.count) m read (Err e) before after takes queue → HaltsAs e (step_number S k) wire (turn_queue S k u w m queue) told
   unfolding turn_queue
   turn_halts_so k read Fuel before after wire told [] f h = absurd h
@@ -110,7 +112,7 @@ module _ (S : Script) (w : Vats) (u : ℕ) (p : Program) (m : Member) (c : World
       stop_halts e w u (Turned k u ∷ []) (step_number S k) m (λ s. nothing_brought m) (taking (numbers S) (tree_at S.vats u) S.depth q (record (ready w m.vat) { queue = qs })) wire told
       (subst (StopsAs e) (takes_is q qs) (turn_stops m read e after (takes q (record (with_draws c.fuel (words_by c.words.key c.words.count) m.vat) { queue = qs })) h)) f
 
-  pub turn_halts : {A : Type 0} (k : ℕ) (read : A → List Sending) (e : VatStop) (before after : Ours) (wire : Bool) (told : List ShownEvent) → slice_get w.members u ≡ Some m → told ≡ told_so wire (shown_events w.drawn w.history)
+  pub turn_halts : {A : Type 0} (k : ℕ) (read : A → List Sending) (e : VatStop) (before after : Ours) (wire : Bool) (told : Account) → slice_get w.members u ≡ Some m → Recounts told (told_so wire (shown_events w.drawn w.history))
       → Turns {A = A} c.fuel (words_by c.words.key c.words.count) m read (Err e) before after takes m.vat.queue → HaltsAs e (step_number S k) wire (step S (Turn u) k w) told
   unfolding step turn
   turn_halts k read e before after wire told here f h =
@@ -141,7 +143,7 @@ module _ (fuel : ℕ) (drawn : List ℕ) (m : Member) (c : Ours) (found : IsFoun
 
 -- An entry that finds no message: the vat has rested, and the run's words are back.
 pub idles : (S : Script) (w : Vats) (u k : ℕ) (m : Member) (before : List ℕ) (c mid e : World) (r q z : Resident) (found : Ours) → IsWorld S w c → slice_get w.members u ≡ Some m → Took u before c mid r q → IsFound c.fuel (words_by c.words.key c.words.count) m found → q.member ≡ found
-    → IsRested q z mid.words e.fuel e.words → e.residents.items ≡ slice_set mid.residents.items u z → e.limits.depth ≡ mid.limits.depth → e.programs.items ≡ mid.programs.items → e.nouns.items ≡ mid.nouns.items → e.wire ≡ mid.wire → e.ways ≡ c.ways → e.history ≡ c.history ++ line.Idle k ∷ []
+    → IsRested q z mid.words e.fuel e.words → e.residents.items ≡ slice_set mid.residents.items u z → e.limits.depth ≡ mid.limits.depth → e.programs.items ≡ mid.programs.items → e.nouns.items ≡ mid.nouns.items → e.wire ≡ mid.wire → e.ways ≡ c.ways → More c.history e.history (line.Idle k ∷ [])
     → IsWorld S (record w { history = w.history ++ Idle k ∷ [] }) e
 idles S w u k m before c mid e r q z found at here took is_found same rested residents limits programs nouns wire ways history = record {
   fuel = rested.fuel ∙ ap (λ (x : Ours). x.vat.host.inside.micro.fuel) same ∙ found_fuel c.fuel (words_by c.words.key c.words.count) m found is_found ∙ at.fuel;
@@ -156,10 +158,10 @@ idles S w u k m before c mid e r q z found at here took is_found same rested res
   nouns = nouns ∙ took.nouns ∙ at.nouns;
   ways = subst (λ (rows : List (List Lane)). WaysStand w.drawn (length S.vats) w.ways rows) (sym ways) at.ways;
   history =
-      history
-      ∙ told_behind c.wire c.history (shown_events w.drawn w.history) (line.Idle k ∷ []) at.history refl
-      ∙ ap (told_so c.wire) (ap (λ (es : List ShownEvent). shown_events w.drawn w.history ++ es) (sym shown) ∙ sym (shown_join w.drawn w.history (Idle k ∷ [])))
-      ∙ ap (λ (v : Bool). told_so v (shown_events w.drawn (w.history ++ Idle k ∷ []))) (sym (wire ∙ took.wire));
+      subst (λ (v : Bool). IsAccount (vat_names S) e.history (told_so v (shown_events w.drawn (w.history ++ Idle k ∷ [])))) (sym (wire ∙ took.wire))
+      (subst (λ (es : List ShownEvent). IsAccount (vat_names S) e.history (told_so c.wire es))
+      (ap (λ (es : List ShownEvent). shown_events w.drawn w.history ++ es) (sym shown) ∙ sym (shown_join w.drawn w.history (Idle k ∷ [])))
+      (says_behind (vat_names S) c.wire c.history e.history (shown_events w.drawn w.history) (line.Idle k ∷ []) at.history refl history));
 }
   where
     was : IsResident S w u m r

@@ -12,6 +12,8 @@ use Rattle.def_run.specs.Text.{shown_events, stop_line, vat_names}
 use Rattle.def_run.specs.World.{Entry, Program, Script}
 use Rattle.ev_resident.specs.declared.VatStop.{VatStop}
 use Rattle.ev_resident.specs.declared.VatStop.TheVariants.{Fuel, Deep, WordRepeated, Astray, Memory}
+use Rattle.ev_step_text.specs.Accounts.{IsAccount}
+use Rattle.ev_step_text.specs.declared.account.Account.{Account}
 use Rattle.ev_world.specs.Ends.{StoppedAs, Tells, course_of, line_of_stop}
 use Rattle.ev_world.specs.Running.{end_by, end_of, told_text}
 use Rattle.ev_world.specs.Standing.{Comes, IsWorld, told_so}
@@ -154,17 +156,21 @@ module _ (S : Script) (wire : Bool) where
       let whole : run S ≡ Runs (behind w z.0) = run_goes S w (behind w z.0) went z.2 in
       (sym (ap end_of whole), sym (text_goes S wire (behind w z.0) (told_so wire (shown_events (behind w z.0).drawn (behind w z.0).history)) whole refl) ∙ z.3)
 
-  pub left_written : (held mid after : Option (List ℕ)) (w : Vats) (c : World) (told : List ShownEvent) → course_of S ≡ Runs w → IsWritten S (vat_names S) wire held mid w c
-      → Comes (λ (y : Vats). told ≡ told_so wire (shown_events y.drawn y.history)) (close S (untold w)) → Appends mid after (render (vat_names S) told) → (end.Done ≡ end_of (run S)) × Appends held after (told_text wire S)
-  left_written held mid after w c told went at closes more =
-      let l = left_told held mid w c told went at closes in
-      (l.0, subst (λ (t : List ℕ). Appends held after t) (sym l.1) (Appends-trans held mid after (text_at (vat_names S) wire w) (render (vat_names S) told) at.written more))
+  pub left_written : (held mid after : Option (List ℕ)) (w : Vats) (c : World) (told : Account) → course_of S ≡ Runs w → IsWritten S (vat_names S) wire held mid w c
+      → Comes (λ (y : Vats). IsAccount (vat_names S) told (told_so wire (shown_events y.drawn y.history))) (close S (untold w)) → ((es : List ShownEvent) → IsAccount (vat_names S) told es → Appends mid after (render (vat_names S) es))
+      → (end.Done ≡ end_of (run S)) × Appends held after (told_text wire S)
+  left_written held mid after w c told went at (y, (closes, is)) written =
+      let es : List ShownEvent = told_so wire (shown_events y.drawn y.history) in
+      let l = left_told held mid w c es went at (y, (closes, refl)) in
+      (l.0, subst (λ (t : List ℕ). Appends held after t) (sym l.1) (Appends-trans held mid after (text_at (vat_names S) wire w) (render (vat_names S) es) at.written (written es is)))
 
-  pub left_cut : (held mid after : Option (List ℕ)) (w : Vats) (c : World) (told : List ShownEvent) → course_of S ≡ Runs w → IsWritten S (vat_names S) wire held mid w c
-      → Comes (λ (y : Vats). told ≡ told_so wire (shown_events y.drawn y.history)) (close S (untold w)) → AppendsFront mid after (render (vat_names S) told) → AppendsFront held after (told_text wire S)
-  left_cut held mid after w c told went at closes more =
-      let l = left_told held mid w c told went at closes in
-      front_behind held mid after (text_at (vat_names S) wire w) (render (vat_names S) told) (told_text wire S) at.written l.1 more
+  pub left_cut : (held mid after : Option (List ℕ)) (w : Vats) (c : World) (told : Account) → course_of S ≡ Runs w → IsWritten S (vat_names S) wire held mid w c
+      → Comes (λ (y : Vats). IsAccount (vat_names S) told (told_so wire (shown_events y.drawn y.history))) (close S (untold w)) → ((es : List ShownEvent) → IsAccount (vat_names S) told es → AppendsFront mid after (render (vat_names S) es))
+      → AppendsFront held after (told_text wire S)
+  left_cut held mid after w c told went at (y, (closes, is)) written =
+      let es : List ShownEvent = told_so wire (shown_events y.drawn y.history) in
+      let l = left_told held mid w c es went at (y, (closes, refl)) in
+      front_behind held mid after (text_at (vat_names S) wire w) (render (vat_names S) es) (told_text wire S) at.written l.1 (written es is)
 
   closed : (v : Vats) → (x : Vats) × (close S v ≡ Runs x)
   unfolding close

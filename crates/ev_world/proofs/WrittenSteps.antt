@@ -8,8 +8,10 @@ use Rattle.std.specs.Prelude.{slice_get}
 use Rattle.def_run.specs.Numbers.{Course, Runs, Halts, Vats, open_member, ready, step}
 use Rattle.def_machine.specs.State as machine
 use Rattle.def_machine.specs.Values.{Words}
-use Rattle.def_run.specs.Text.{shown_events}
+use Rattle.def_run.specs.Text.{shown_events, vat_names}
 use Rattle.def_run.specs.World.{Entry, Event, Program, Script, Turn, Carry, CutLink, NoticeLink}
+use Rattle.ev_step_text.specs.Accounts.{IsAccount}
+use Rattle.ev_step_text.specs.declared.account.Account.{Account}
 use Rattle.ev_ways.proofs.Cuts.{shown_join}
 use Rattle.ev_resident.specs.declared.VatStop.{VatStop}
 use Rattle.ev_resident.specs.declared.VatStop.TheVariants.{Fuel, Deep, WordRepeated, Astray, Memory}
@@ -85,7 +87,7 @@ none_told true ds = refl
 none_told false ds = refl
 
 -- the code holds the same once it let go of its lines
-still_world : (S : Script) (w x : Vats) (c : World) (left : List ShownEvent) → left ≡ [] → IsWorld S x c → IsWorld S (untold (behind w x)) (record c { history = left })
+still_world : (S : Script) (w x : Vats) (c : World) (left : Account) → IsAccount (vat_names S) left [] → IsWorld S x c → IsWorld S (untold (behind w x)) (record c { history = left })
 still_world S w x c left none at = record {
   fuel = at.fuel;
   key = at.key;
@@ -100,33 +102,42 @@ still_world S w x c left none at = record {
   programs = at.programs;
   nouns = at.nouns;
   ways = at.ways;
-  history = none ∙ none_told c.wire x.drawn;
+  history = subst (λ (es : List ShownEvent). IsAccount (vat_names S) left es) (none_told c.wire x.drawn) none;
 }
 
-module _ (S : Script) (names : List Words) (held mid : Option (List ℕ)) (w : Vats) (course alone : Course) (c : World) (before : Appends held mid (text_at names c.wire w)) (is : IsStep w course alone) where
+module _ (S : Script) (held mid : Option (List ℕ)) (w : Vats) (course alone : Course) (c : World) (before : Appends held mid (text_at (vat_names S) c.wire w)) (is : IsStep w course alone) where
+  abbrev names : List Words
+  names = vat_names S
+
   -- what it told was written
-  pub step_goes : (after : Option (List ℕ)) (left : List ShownEvent) → left ≡ [] → Comes (λ (x : Vats). IsWorld S x c) alone → Appends mid after (render names c.history)
+  pub step_goes : (after : Option (List ℕ)) (left : Account) → ((es : List ShownEvent) → IsAccount names c.history es → IsAccount names left []) → Comes (λ (x : Vats). IsWorld S x c) alone
+      → ((es : List ShownEvent) → IsAccount names c.history es → Appends mid after (render names es))
       → Comes (λ (y : Vats). IsWritten S names c.wire held after y (record c { history = left })) course
-  step_goes after left none (x, (runs, at)) more =
-      let went = went_on S names c.wire w course alone c.history is (x, (runs, at.history)) in
+  step_goes after left cleared (x, (runs, at)) written =
+      let said : List ShownEvent = told_so c.wire (shown_events x.drawn x.history) in
+      let none : IsAccount names left [] = cleared said at.history in
+      let more : Appends mid after (render names said) = written said at.history in
+      let went = went_on S names c.wire w course alone said is (x, (runs, refl)) in
       let same : went.0 ≡ x = runs_are went.0 x (sym went.1 ∙ runs) in
-      let text : text_at names c.wire (behind w x) ≡ text_at names c.wire w ++ render names c.history =
-      subst (λ (v : Vats). text_at names c.wire (behind w v) ≡ text_at names c.wire w ++ render names c.history) same went.3 in (
+      let text : text_at names c.wire (behind w x) ≡ text_at names c.wire w ++ render names said =
+      subst (λ (v : Vats). text_at names c.wire (behind w v) ≡ text_at names c.wire w ++ render names said) same went.3 in (
         behind w x,
         (
           subst (λ (v : Vats). course ≡ Runs (behind w v)) same went.2,
           record {
             world = still_world S w x c left none at;
-            written = subst (λ (t : List ℕ). Appends held after t) (sym text) (Appends-trans held mid after (text_at names c.wire w) (render names c.history) before more);
+            written = subst (λ (t : List ℕ). Appends held after t) (sym text) (Appends-trans held mid after (text_at names c.wire w) (render names said) before more);
           },
         ),
       )
 
   -- what it told was not written to its end
-  pub step_cut : (after : Option (List ℕ)) → Comes (λ (x : Vats). IsWorld S x c) alone → AppendsFront mid after (render names c.history) → AppendsFront held after (text_to names c.wire course)
-  step_cut after (x, (runs, at)) more =
-      let went = went_on S names c.wire w course alone c.history is (x, (runs, at.history)) in
-      front_behind held mid after (text_at names c.wire w) (render names c.history) (text_to names c.wire course) before (ap (text_to names c.wire) went.2 ∙ went.3) more
+  pub step_cut : (after : Option (List ℕ)) → Comes (λ (x : Vats). IsWorld S x c) alone → ((es : List ShownEvent) → IsAccount names c.history es → AppendsFront mid after (render names es)) → AppendsFront held after (text_to names c.wire course)
+  step_cut after (x, (runs, at)) written =
+      let said : List ShownEvent = told_so c.wire (shown_events x.drawn x.history) in
+      let more : AppendsFront mid after (render names said) = written said at.history in
+      let went = went_on S names c.wire w course alone said is (x, (runs, refl)) in
+      front_behind held mid after (text_at names c.wire w) (render names said) (text_to names c.wire course) before (ap (text_to names c.wire) went.2 ∙ went.3) more
 
   step_stopped : (s : machine.Stop) (k : ℕ) → HaltsWith s k c.wire alone c.history → StopsWith s k names c.wire held mid course
   step_stopped s k (x, (halts, said)) =

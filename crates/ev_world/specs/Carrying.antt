@@ -1,5 +1,5 @@
 -- The state of a run while a frame that was taken from its way arrives.
-use Rattle.std.specs.Prelude.{◌≡◌, ◌++◌, ℕ, List, [], ◌∷◌, Result, Ok, Err, Some, length, slice_get}
+use Rattle.std.specs.Prelude.{◌≡◌, ℕ, List, [], ◌∷◌, Result, Ok, Err, Some, length, slice_get}
 use Rattle.def_event.specs.declared.event.Event.{Event as ShownEvent}
 use Rattle.def_event.specs.declared.event.Event.TheVariants as line
 use Rattle.def_run.specs.Numbers.{Brought, Vats, brought, carried_in, left_by, step, step_number}
@@ -16,6 +16,8 @@ use Rattle.ev_resident.specs.OutcomeStanding.{NamesStand, ObjectsStand}
 use Rattle.ev_wire.specs.declared.news.News.{News}
 use Rattle.ev_resident.specs.declared.VatStop.{VatStop}
 use Rattle.ev_resident.specs.declared.resident.Resident.{Resident}
+use Rattle.ev_step_text.specs.Accounts.{More}
+use Rattle.ev_step_text.specs.declared.account.Account.{Account}
 use Rattle.ev_ways.specs.Rows.{Lane}
 use Rattle.ev_ways.specs.Standing.{asks_in}
 use Rattle.ev_ways.specs.declared.frame.Frame.{Frame}
@@ -54,7 +56,7 @@ note_lines k v u x = line.Carry k v u x.note ∷ line.Frame x.bytes ∷ []
 -- Vat u heard this frame of vat v in entry k: once that is told, and what is left to do in the step is done, the run is where the entry
 -- leads. Where the vat stopped, the entry stops so.
 abbrev pub HearsFrame : Script → Vats → ℕ → ℕ → ℕ → Frame → World → Result Heard VatStop → Type 0
-HearsFrame S w v u k fr c (Ok h) = (told : List ShownEvent) (e : World) → told ≡ c.history ++ told_so c.wire (note_lines k v u fr)
+HearsFrame S w v u k fr c (Ok h) = (told : Account) (e : World) → More c.history told (told_so c.wire (note_lines k v u fr))
     → ((z : Vats) (y : Member) (head : List Event) (g : Brought) (t : machine.Vat Local) → IsMidway S z u y head g t h.before.items h.sendings.items fr.message h.told (record c { history = told }) → IsWorld S (left_by z u head y g t) e)
     → Comes (λ (y : Vats). IsWorld S y e) (step S (Carry v u) k w)
 HearsFrame S w v u k fr c (Err stop) = CourseIs S (Err stop) (step_number S k) (step S (Carry v u) k w) c

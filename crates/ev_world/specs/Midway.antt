@@ -4,7 +4,7 @@ use Rattle.def_run.specs.Numbers.{Brought, Vats}
 use Rattle.def_run.specs.Vats.{Member, connection_for, unconnected}
 use Rattle.def_machine.specs.State as machine
 use Rattle.def_machine.specs.Values.{Local}
-use Rattle.def_run.specs.Text.{shown_events}
+use Rattle.def_run.specs.Text.{shown_events, vat_names}
 use Rattle.def_run.specs.World.{Event, Program, Script, name_at}
 use Rattle.ev_base.specs.declared.names.Msg.{Msg}
 use Rattle.ev_resident.specs.MemberSteps.{Having}
@@ -15,6 +15,7 @@ use Rattle.ev_resident.specs.OutcomeStanding.{NamesStand, ObjectsStand}
 use Rattle.ev_resident.specs.Standing.{IsResident, IsStepped}
 use Rattle.ev_resident.specs.declared.resident.Resident.{Resident}
 use Rattle.ev_resident.specs.Vat.{IsReady}
+use Rattle.ev_step_text.specs.Accounts.{IsAccount}
 use Rattle.ev_ways.specs.Standing.{WaysStand}
 use Rattle.ev_world.specs.Standing.{told_so}
 use Rattle.ev_world.specs.declared.world.World.{World}
@@ -54,4 +55,4 @@ pub record IsMidway (S : Script) (w : Vats) (u : ℕ) (m : Member) (head : List 
   pub programs : c.programs.items ≡ map (λ (p : Program). p.tree) S.vats
   pub nouns : c.nouns.items ≡ map (λ (p : Program). map (name_at S.vats) p.knows) S.vats
   pub ways : WaysStand s.drawn (length S.vats) w.ways c.ways
-  pub history : c.history ≡ told_so c.wire (shown_events s.drawn (w.history ++ head))
+  pub history : IsAccount (vat_names S) c.history (told_so c.wire (shown_events s.drawn (w.history ++ head)))

@@ -5,7 +5,7 @@ use Rattle.def_event.specs.declared.event.Event.{Event as ShownEvent}
 use Rattle.def_run.specs.Numbers.{Course, Runs, Halts, Vats}
 use Rattle.def_run.specs.Vats.{Member}
 use Rattle.def_machine.specs.State as machine
-use Rattle.def_run.specs.Text.{shown_events}
+use Rattle.def_run.specs.Text.{shown_events, vat_names}
 use Rattle.def_run.specs.World.{Program, Script, name_at}
 use Rattle.ev_pass.specs.Acts.{words_by}
 use Rattle.ev_resident.specs.Standing.{IsResident}
@@ -13,6 +13,8 @@ use Rattle.ev_resident.specs.declared.resident.Resident.{Resident}
 use Rattle.ev_resident.specs.Vat.{IsReady}
 use Rattle.ev_resident.specs.declared.VatStop.{VatStop}
 use Rattle.ev_resident.specs.declared.VatStop.TheVariants.{Fuel, Deep, WordRepeated, Astray, Memory}
+use Rattle.ev_step_text.specs.Accounts.{IsAccount, Recounts}
+use Rattle.ev_step_text.specs.declared.account.Account.{Account}
 use Rattle.ev_ways.specs.Standing.{WaysStand}
 use Rattle.ev_world.specs.declared.world.Halted.{Halted}
 use Rattle.ev_world.specs.declared.world.World.{World}
@@ -39,7 +41,7 @@ pub record IsWorld (S : Script) (w : Vats) (c : World) : Type 0 where
   pub programs : c.programs.items ≡ map (λ (p : Program). p.tree) S.vats
   pub nouns : c.nouns.items ≡ map (λ (p : Program). map (name_at S.vats) p.knows) S.vats
   pub ways : WaysStand w.drawn (length S.vats) w.ways c.ways
-  pub history : c.history ≡ told_so c.wire (shown_events w.drawn w.history)
+  pub history : IsAccount (vat_names S) c.history (told_so c.wire (shown_events w.drawn w.history))
 
 -- ---- what a step comes to
 
@@ -48,10 +50,10 @@ abbrev pub Comes : (Vats → Type 0) → Course → Type 0
 Comes At course = (w : Vats) × ((course ≡ Runs w) × At w)
 
 -- a step of that number stopped so, and the lines are those of the steps before
-abbrev pub HaltsWith : machine.Stop → ℕ → Bool → Course → List ShownEvent → Type 0
-HaltsWith c step wire course told = (w : Vats) × ((course ≡ Halts c step w) × (told ≡ told_so wire (shown_events w.drawn w.history)))
+abbrev pub HaltsWith : machine.Stop → ℕ → Bool → Course → Account → Type 0
+HaltsWith c step wire course told = (w : Vats) × ((course ≡ Halts c step w) × Recounts told (told_so wire (shown_events w.drawn w.history)))
 
-abbrev pub HaltsAs : VatStop → ℕ → Bool → Course → List ShownEvent → Type 0
+abbrev pub HaltsAs : VatStop → ℕ → Bool → Course → Account → Type 0
 HaltsAs Fuel step wire course told = HaltsWith machine.Fuel step wire course told
 HaltsAs Deep step wire course told = HaltsWith machine.Deep step wire course told
 HaltsAs (WordRepeated i j) step wire course told = HaltsWith (machine.Repeated i j) step wire course told

@@ -1,10 +1,11 @@
 //! A note arrives.
 
-ghost use Rattle.std.specs.Prelude.{◌≡◌, ◌++◌, ◌∷◌, [], ℕ, List, Some, IfOk, OnOk};
+ghost use Rattle.std.specs.Prelude.{◌≡◌, ◌∷◌, [], ℕ, List, Some, IfOk, OnOk};
 ghost use Rattle.def_event.specs.declared.event.Event.TheVariants as line;
 ghost use Rattle.def_run.specs.Numbers.{Vats, step, step_number};
 ghost use Rattle.def_run.specs.World as their;
 ghost use Rattle.def_run.specs.World.{Script as TheirScript};
+ghost use Rattle.ev_step_text.specs.Accounts.{More};
 ghost use Rattle.ev_ways.specs.Rows.{Lane, behind, changed, next_at};
 ghost use Rattle.ev_world.specs.Carrying.{HearsFrame, TellsFrame, with_ways};
 ghost use Rattle.ev_world.specs.Standing.{AreReady, CourseIs, IsWorld, told_so};
@@ -14,8 +15,8 @@ use crate::exporting::exports_of;
 use crate::world::World;
 use def_event::{Boxed, Event};
 use ev_base::{Memory, VatId};
-use ev_event::History;
 use ev_resident::{Arrival, Resident, Sending, Told, VatStop, told_of};
+use ev_step_text::Account;
 use ev_ways::Frame;
 use ev_wire::News;
 use std::alloc::Global;
@@ -62,7 +63,7 @@ fn told_for(
 
 /// A note was carried; its frame is told where frames are.
 fn tell_note(
-    history: &mut History,
+    history: &mut Account,
     alloc: Global,
     wire: bool,
     number: u64,
@@ -70,13 +71,13 @@ fn tell_note(
     to: VatId,
     frame: Frame,
 ) -> Result<(), Memory>
-    ensures { OnOk result (history.new ≡ history.old ++ told_so wire (line.Carry number from to frame.note ∷ line.Frame frame.bytes ∷ [])) }
+    ensures { OnOk result (More history.old history.new (told_so wire (line.Carry number from to frame.note ∷ line.Frame frame.bytes ∷ []))) }
 {
     let Frame { bytes, note, .. } = frame;
     let note = Boxed::new(alloc, note)?;
-    history.push(Event::Carry(number, from, to, note))?;
+    history.push(alloc, Event::Carry(number, from, to, note))?;
     if wire {
-        history.push(Event::Frame(bytes))?;
+        history.push(alloc, Event::Frame(bytes))?;
     }
     Ok(())
 }
@@ -97,7 +98,7 @@ impl World {
         ensures wire { self.new.wire ≡ self.old.wire }
     {
         let Some(frame) = self.ways.carry(from, to) else {
-            self.history.push(Event::Idle(number))?;
+            self.history.push(alloc, Event::Idle(number))?;
             return Ok(());
         };
         self.deliver(alloc, from, to, number, frame)

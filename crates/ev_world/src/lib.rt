@@ -7,6 +7,7 @@ pub mod events;
 mod exporting;
 mod finishing;
 mod going;
+mod losing;
 mod pushing;
 pub mod run;
 mod starting;

@@ -1,23 +1,25 @@
 //! The start of a run.
 
-ghost use Rattle.std.specs.Prelude.{◌≡◌, IfOk, length, map};
+ghost use Rattle.std.specs.Prelude.{◌≡◌, [], IfOk, length, map};
 ghost use Rattle.def_run.specs.Numbers.{begins};
+ghost use Rattle.def_run.specs.Text.{vat_names};
 ghost use Rattle.def_run.specs.World.{knowers, name_at};
 ghost use Rattle.ev_reader.specs.declared.accepted.Scoped.{Scoped as Tree};
 ghost use Rattle.ev_script.specs.Rules.{IsAdmitted};
 ghost use Rattle.ev_script.specs.declared.script.VatScript.{VatScript as Vat};
+ghost use Rattle.ev_step_text.specs.Accounts.{IsAccount};
 ghost use Rattle.ev_world.specs.Running.{script_of};
 ghost use Rattle.ev_world.specs.Standing.{AreReady, IsWorld};
 ghost use Rattle.ev_world.specs.Starting.{AreStarted, bare};
 
 use crate::world::World;
 use ev_base::{Limits, Memory, Seq, VatId, Word};
-use ev_event::History;
 use ev_intro::Words;
 use ev_reader::Scoped;
 use ev_resident::Resident;
 use ev_room::Program;
 use ev_script::{Script, VatScript};
+use ev_step_text::Account;
 use ev_ways::Ways;
 use std::alloc::Global;
 
@@ -106,17 +108,18 @@ fn programs_of(alloc: Global, mut trees: Vec<Scoped>) -> Result<Vec<Program>, Me
 }
 
 impl World {
-    /// The vats of a script at the start of its run, each with its program.
+    /// The vats of a script at the start of its run, each with its program, to be told in that account.
     pub(crate) fn start(
         alloc: Global,
         script: &Script,
         programs: Vec<Scoped>,
         limits: Limits,
         wire: bool,
+        history: Account,
     ) -> Result<World, Memory>
         requires admitted { IsAdmitted script.now }
         requires programs { length programs.items ≡ length script.now.vats }
-        ensures begun { IfOk result (λ c. IsWorld (script_of script.now programs.items limits.depth) (begins (script_of script.now programs.items limits.depth)) c) }
+        ensures begun { IfOk result (λ c. IsAccount (vat_names (script_of script.now programs.items limits.depth)) history [] → IsWorld (script_of script.now programs.items limits.depth) (begins (script_of script.now programs.items limits.depth)) c) }
         ensures ready { IfOk result (λ c. AreReady c.residents.items) }
         ensures wire { IfOk result (λ c. c.wire ≡ wire) }
     {
@@ -129,7 +132,6 @@ impl World {
         let nouns = all_nouns(alloc, vats)?;
         let ways = Ways::new(alloc, count)?;
         let words = Words::new(alloc, &script.key);
-        let history = History::new(alloc);
         Ok(World {
             residents,
             programs,

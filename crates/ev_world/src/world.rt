@@ -12,16 +12,16 @@ ghost use Rattle.def_run.specs.Steady.{RunsSteadily};
 ghost use Rattle.law_schedule.specs.Scripts.{machine_entry};
 
 use crate::exporting::exports_of;
+use crate::losing::tell_lost_to;
 use crate::starting::vat_at;
 use def_event::Event;
 use ev_base::{Limits, Memory, Seq, VatId, Word};
-use ev_event::History;
 use ev_intro::Words;
 use ev_resident::{Resident, Told, VatStop};
 use ev_room::Program;
 use ev_script::{Entry, Script};
+use ev_step_text::Account;
 use ev_ways::Ways;
-use ev_ways::telling::tell_lost;
 use std::alloc::Global;
 
 /// Why a run stopped, and the number of that step.
@@ -45,7 +45,7 @@ pub(crate) struct World {
     pub(crate) limits: Limits,
     /// Whether frames are told.
     pub(crate) wire: bool,
-    pub(crate) history: History,
+    pub(crate) history: Account,
 }
 
 impl World {
@@ -76,7 +76,7 @@ impl World {
             nouns.as_slice(),
             self.limits,
         )?;
-        self.history.push(Event::Open(me))?;
+        self.history.push(alloc, Event::Open(me))?;
         self.finish(
             alloc,
             me,
@@ -107,10 +107,10 @@ impl World {
         let before = exports_of(alloc, &resident.member, count)?;
         let Some(sendings) = resident.turn(self.fuel, &mut self.words, program, self.limits)? else {
             self.fuel = resident.rest(&mut self.words);
-            self.history.push(Event::Idle(number))?;
+            self.history.push(alloc, Event::Idle(number))?;
             return Ok(());
         };
-        self.history.push(Event::Turn(number, vat))?;
+        self.history.push(alloc, Event::Turn(number, vat))?;
         self.finish(
             alloc,
             vat,
@@ -130,11 +130,11 @@ impl World {
         ensures ready { OnOk result (AreReady self.new.residents.items) }
         ensures wire { self.new.wire ≡ self.old.wire }
     {
-        self.history.push(Event::Cut(number, from, to))?;
+        self.history.push(alloc, Event::Cut(number, from, to))?;
         let there = self.ways.cut(alloc, from, to);
-        tell_lost(&mut self.history, there)?;
+        tell_lost_to(alloc, there, &mut self.history)?;
         let back = self.ways.cut(alloc, to, from);
-        tell_lost(&mut self.history, back)?;
+        tell_lost_to(alloc, back, &mut self.history)?;
         Ok(())
     }
 
@@ -152,7 +152,7 @@ impl World {
         };
         let before = exports_of(alloc, &resident.member, count)?;
         let sendings = resident.notice(self.fuel, &mut self.words, peer)?;
-        self.history.push(Event::Notice(number, vat, peer))?;
+        self.history.push(alloc, Event::Notice(number, vat, peer))?;
         self.finish(
             alloc,
             vat,

@@ -2,7 +2,6 @@
 
 ghost use Rattle.std.specs.Prelude.{◌≡◌, ◌≤◌, Bool, Err, List, ℕ, Option, length};
 ghost use Rattle.def_run.specs.Numbers.{Runs, Vats, run};
-ghost use Rattle.def_machine.specs.Values.{Words};
 ghost use Rattle.def_run.specs.Text.{vat_names};
 ghost use Rattle.def_run.specs.World.{Script as TheirScript};
 ghost use Rattle.ev_io.specs.Causes.{Rose};
@@ -15,16 +14,17 @@ ghost use Rattle.def_run.specs.Steady.{RunsSteadily};
 use crate::going::go_on;
 use crate::run::{RunEnd, names_of, stopped};
 use crate::world::{Halted, World};
-use crate::writing::{Halt, Unfinished, write_lines, write_text};
-use ev_base::{Limits, Seq, Str};
+use crate::writing::{Halt, Unfinished, write_account, write_text};
+use ev_base::Limits;
 use ev_io::Sink;
 use ev_reader::Scoped;
 use ev_script::Script;
+use ev_step_text::Account;
 use std::alloc::Global;
 
 /// The line of a run that stopped.
 fn write_stop<K: Sink>(alloc: Global, halted: Halted, out: &mut K) -> Result<RunEnd, Unfinished>
-    ensures text { (S : TheirScript) (wire : Bool) (held : Option (List ℕ)) (names : List Words) → names ≡ vat_names S → StopsAs halted.stop halted.step names wire held (K.written out.old) (run S)
+    ensures text { (S : TheirScript) (wire : Bool) (held : Option (List ℕ)) → StopsAs halted.stop halted.step (vat_names S) wire held (K.written out.old) (run S)
         → WritesRun S wire held (K.written out.new) result }
     ensures later { K.faults out.old ≤ K.faults out.new }
     ensures fault { result ≡ Err Unfinished.WriteFault → Rose (K.faults out.old) (K.faults out.new) }
@@ -39,21 +39,16 @@ fn write_stop<K: Sink>(alloc: Global, halted: Halted, out: &mut K) -> Result<Run
 }
 
 /// The lines of what is left at the end of a run.
-fn write_left<K: Sink>(
-    alloc: Global,
-    names: &Seq<Str>,
-    world: World,
-    out: &mut K,
-) -> Result<RunEnd, Unfinished>
-    ensures text { (S : TheirScript) (w : Vats) (held : Option (List ℕ)) → names.now ≡ vat_names S → course_of S ≡ Runs w → IsWritten S names.now world.wire held (K.written out.old) w world
+fn write_left<K: Sink>(alloc: Global, world: World, out: &mut K) -> Result<RunEnd, Unfinished>
+    ensures text { (S : TheirScript) (w : Vats) (held : Option (List ℕ)) → course_of S ≡ Runs w → IsWritten S (vat_names S) world.wire held (K.written out.old) w world
         → WritesRun S world.wire held (K.written out.new) result }
     ensures later { K.faults out.old ≤ K.faults out.new }
     ensures fault { result ≡ Err Unfinished.WriteFault → Rose (K.faults out.old) (K.faults out.new) }
 {
-    let Ok(history) = world.close(alloc) else {
+    let Ok(account) = world.close(alloc) else {
         return Err(Unfinished::Memory);
     };
-    if let Err(why) = write_lines(alloc, names, &history, out) {
+    if let Err(why) = write_account(alloc, &account, out) {
         return Err(why);
     }
     Ok(RunEnd::Done)
@@ -83,18 +78,18 @@ pub fn write_run<K: Sink>(
     let Ok(names) = names_of(alloc, vats) else {
         return Err(Unfinished::Memory);
     };
-    let Ok(mut world) = World::start(alloc, script, programs, limits, wire) else {
+    let account = Account::of_text(alloc, names);
+    let Ok(mut world) = World::start(alloc, script, programs, limits, wire, account) else {
         return Err(Unfinished::Memory);
     };
     match go_on(
         alloc,
-        &names,
         &mut world,
         vats.len(),
         script.schedule.as_slice(),
         out,
     ) {
-        Ok(()) => write_left(alloc, &names, world, out),
+        Ok(()) => write_left(alloc, world, out),
         Err(Halt::Stopped(halted)) => write_stop(alloc, halted, out),
         Err(Halt::Unwritten(why)) => Err(why),
     }

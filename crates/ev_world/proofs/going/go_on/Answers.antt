@@ -1,12 +1,13 @@
 use Rattle.std.proofs.Common.{Bool, subst, sym}
 use Rattle.def_run.specs.Numbers.{steps_from}
+use Rattle.def_run.specs.Text.{vat_names}
 use Rattle.ev_world.specs.Writing.{GoesTo, IsWritten}
 use Rattle.ev_world.proofs.WrittenLoops.{goes_behind}
 use Rattle.ev_world.proofs.going.go_on.Goals as goal
 
 pub returns-clause-went : goal.returns-clause-went
 returns-clause-went g c = λ S many read steady is_at.
-    let names = c.args.names.now in
+    let names = vat_names S in
     let held = g.K.Sink.written c.args.out.now in
     let opened = c.in_default.ensures.opened S many steady is_at in
     let same = c.in_default.ensures.wire in

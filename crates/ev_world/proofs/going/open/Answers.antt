@@ -2,6 +2,7 @@ use Rattle.std.proofs.Common.{Bool, subst, sym}
 use Rattle.std.specs.Prelude.{slice_get}
 use Rattle.std.specs.Io.KnownBytes.{Appends}
 use Rattle.def_run.specs.Numbers.{Course, open_member}
+use Rattle.def_run.specs.Text.{vat_names}
 use Rattle.ev_world.specs.Writing.{IsCourse, text_at, untold}
 use Rattle.ev_world.proofs.WrittenLoops.{opens_so}
 use Rattle.ev_world.proofs.WrittenSteps.{untold_opens}
@@ -9,7 +10,7 @@ use Rattle.ev_world.proofs.going.open.Goals as goal
 
 pub returns-clause-step : goal.returns-clause-step
 returns-clause-step g c = λ S w p held there at fine.
-    let names = c.args.names.now in
+    let names = vat_names S in
     let u = c.args.vat in
     let course : Course = open_member S u p w (slice_get w.members u) in
     let alone : Course = open_member S u p (untold w) (slice_get w.members u) in

@@ -1,6 +1,7 @@
 use Rattle.std.proofs.Common.{ℕ, Bool, subst, sym}
 use Rattle.std.specs.Io.KnownBytes.{Appends}
 use Rattle.def_run.specs.Numbers.{Course, step}
+use Rattle.def_run.specs.Text.{vat_names}
 use Rattle.ev_world.specs.Standing.{CourseIs}
 use Rattle.ev_world.specs.Writing.{IsCourse, text_at, untold}
 use Rattle.ev_world.proofs.WrittenLoops.{steps_so}
@@ -10,7 +11,7 @@ use Rattle.ev_world.proofs.going.take.Goals as goal
 
 pub returns-clause-step : goal.returns-clause-step
 returns-clause-step g c = λ S w held numbered at fine.
-    let names = c.args.names.now in
+    let names = vat_names S in
     let e = machine_entry c.args.entry in
     let k = c.args.number in
     let course : Course = step S e k w in

@@ -38,8 +38,8 @@ returns-clause-finished c = λ S w m head b s mid.
     } in
     let same : slice_set rs c.vat.inside.0 q ≡ slice_set rs u q = ap (λ (k : ℕ). slice_set rs k q) c.vat.view_is in
     let here : slice_get (slice_set rs c.vat.inside.0 q) u ≡ Some q = ap (λ (ts : List Resident). slice_get ts u) same ∙ set_there rs u q (is_within rs u r there) in
-    let e : World = record was { residents = c.tell_exports.new.residents; ways = c.push_out.new.ways; words = c.rest-self.new.words; fuel = c.rest-self.result; history = c.finish.new.history } in
-    left_is S w u m head b s c.args.before.now c.args.sendings.items c.args.carried c.args.told was mid r p q c.in_ok-outgoing.outgoing.items c.finish.new.history c.rest-self.result c.rest-self.new.words
+    let e : World = record was { residents = c.tell_exports.new.residents; ways = c.push_out.new.ways; words = c.rest-self.new.words; fuel = c.rest-self.result; history = c.finish.new.account } in
+    left_is S w u m head b s c.args.before.now c.args.sendings.items c.args.carried c.args.told was mid r p q c.in_ok-outgoing.outgoing.items c.finish.new.account c.rest-self.result c.rest-self.new.words
     there c.in_ok-outgoing.ensures.member c.in_ok-outgoing.ensures.objects
     (c.in_ok-outgoing.ensures.told w u m (having_of b) s b.carried b.told acts.stepped acts.names acts.objects mid.mails acts.says cuts) rested
     e (slice_set rs c.vat.inside.0 q) same (c.in_ok-tell_exports.ensures q here) refl refl refl refl refl refl c.in_ok-push_out.ensures refl

@@ -3,6 +3,7 @@ use Rattle.std.proofs.lemmas.Bool.{ltb-true}
 use Rattle.std.proofs.lemmas.Option.{slice_get_read}
 use Rattle.std.specs.Prelude.{IfSome}
 use Rattle.std.specs.Vec.{with_item}
+use Rattle.def_run.specs.Text.{vat_names}
 use Rattle.ev_resident.specs.MemberHearing.{BringsSo, frame_heard}
 use Rattle.ev_resident.specs.declared.Arrival.{Arrival}
 use Rattle.ev_resident.specs.declared.resident.Resident.{Resident}
@@ -28,7 +29,7 @@ returns-in_err-arrival-clause-step c = λ S w rows k at next left steady.
     hears_stops S w c.args.from c.args.to k c.args.frame.now
     (record c.args.self.now { residents = with_item c.args.self.now.residents c.to.inside.0 c.hear.new.self; words = c.hear.new.words }) c.from_residual-in_err-arrival.result c.in_err-arrival.field-0.0 c.from_residual-in_err-arrival.ensures
     (call_halts S w c.args.from c.args.to k (with_ways rows c.args.self.now) c.args.frame.now c.in-Some.receiver.now at next there (λ (a : Arrival). a.sendings.items) c.in_err-arrival.field-0.0 c.hear.new.self.member c.as_slice.result.now
-    c.args.self.now.wire c.args.self.now.history c.as_slice.ensures c.in_err-arrival.ensures.step at.history)
+    c.args.self.now.wire c.args.self.now.history c.as_slice.ensures c.in_err-arrival.ensures.step (record { names = vat_names S; is = at.history }))
 
 pub returns-in_default-2-clause-step : goal.returns-in_default-2-clause-step
 returns-in_default-2-clause-step c = λ S w rows k at next left steady.
@@ -38,7 +39,7 @@ returns-in_default-2-clause-step c = λ S w rows k at next left steady.
     subst (λ (i : ℕ). slice_get rs i ≡ Some r) c.to.view_is
     (slice_get_read rs (length rs) c.to.inside.0 r refl (ltb-true c.to.inside.0 (length rs) (sym c.in-Some.ensures.item.0)) c.in-Some.ensures.item.1) in
     call_astray S w c.args.from c.args.to k (with_ways rows c.args.self.now) c.args.frame.now r at next there (λ (a : Arrival). a.sendings.items) c.hear.new.self.member c.as_slice.result.now c.args.self.now.wire c.args.self.now.history c.as_slice.ensures
-    (subst (λ (o : Option Arrival). CallHears (with_ways rows c.args.self.now) c.args.from (λ (a : Arrival). a.sendings.items) (Ok o) r c.hear.new.self.member c.as_slice.result.now) c.in_default-2.is c.in_ok-arrival.ensures.step) at.history
+    (subst (λ (o : Option Arrival). CallHears (with_ways rows c.args.self.now) c.args.from (λ (a : Arrival). a.sendings.items) (Ok o) r c.hear.new.self.member c.as_slice.result.now) c.in_default-2.is c.in_ok-arrival.ensures.step) (record { names = vat_names S; is = at.history })
 
 pub returns-clause-step : goal.returns-clause-step
 returns-clause-step c = λ S w rows k at next left steady lines e tells finished.

@@ -60,7 +60,7 @@ returns-clause-step c = λ S w is_at steady.
       wire = refl;
     } in
     notice_comes S w u c.args.peer c.args.number was r is_at found {A = Vec Sending Global} (λ (xs : Vec Sending Global). xs.items) c.in_ok-sendings.sendings before mid c.finish.new.self q
-    steady took (λ m same is. c.in_ok-sendings.ensures.step m same is) refl c.in_ok-push.ensures.ok
+    steady took (λ m same is. c.in_ok-sendings.ensures.step m same is) refl c.in_ok-push.ensures
     (λ m s midway. c.in_ok-finish.ensures.finished S w m (NoticedAt c.args.number u c.args.peer ∷ []) (nothing_brought m) s
     (subst (λ (es : List Entry). IsMidway S w u m (NoticedAt c.args.number u c.args.peer ∷ []) (nothing_brought m) s before c.in_ok-sendings.sendings.items None es mid) (sym c.new.ensures) midway))
 

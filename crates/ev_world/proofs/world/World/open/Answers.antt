@@ -74,7 +74,7 @@ returns-clause-step c = λ S w p there is_at steady.
       wire = refl;
     } in
     open_comes S w u p was r x ns x c.as_slice.result.now there is_at found program nouns refl c.as_slice.ensures {A = Vec Sending Global} (λ (xs : Vec Sending Global). xs.items) c.in_ok-me.me c.in_ok-sendings.sendings before mid c.finish.new.self q
-    c.in_ok-me.ensures steady took (λ m same is. c.in_ok-sendings.ensures.step m same is) refl c.in_ok-push.ensures.ok
+    c.in_ok-me.ensures steady took (λ m same is. c.in_ok-sendings.ensures.step m same is) refl c.in_ok-push.ensures
     (λ m s midway. c.in_ok-finish.ensures.finished S w m (Opens c.in_ok-me.me ∷ []) (nothing_brought m) s
     (subst (λ (es : List Entry). IsMidway S w c.in_ok-me.me m (Opens c.in_ok-me.me ∷ []) (nothing_brought m) s before c.in_ok-sendings.sendings.items None es mid) (sym c.new.ensures) midway))
 

@@ -83,7 +83,7 @@ returns-in_default-2-clause-step c = λ S w is_at steady.
     } in
     turn_idles S w u c.args.number was r x x is_at found program refl {A = Vec Sending Global} (λ (xs : Vec Sending Global). xs.items) before mid e q z took
     (λ m same is. subst (λ (o : Option (Vec Sending Global)). TurnsTo {A = Vec Sending Global} was x (λ (xs : Vec Sending Global). xs.items) (Ok o) q.member m) c.in_default-2.is (c.in_ok-sendings.ensures.step m same is))
-    rested (ap (λ (i : ℕ). slice_set rs i z) c.vat.view_is) refl refl refl refl refl c.in_ok-push.ensures.ok
+    rested (ap (λ (i : ℕ). slice_set rs i z) c.vat.view_is) refl refl refl refl refl c.in_ok-push.ensures
 
 pub returns-in_default-2-clause-ready : goal.returns-in_default-2-clause-ready
 returns-in_default-2-clause-ready c = set_ready c.args.self.now.residents.items c.vat.inside.0 c.rest-self.new.self c.requires.ready (c.rest-self.ensures.ready c.in_ok-sendings.ensures.ready)
@@ -121,7 +121,7 @@ returns-clause-step c = λ S w is_at steady.
     } in
     turn_comes S w u c.args.number was r x x is_at found program refl {A = Vec Sending Global} (λ (xs : Vec Sending Global). xs.items) sendings before mid c.finish.new.self q steady took
     (λ m same is. subst (λ (o : Option (Vec Sending Global)). TurnsTo {A = Vec Sending Global} was x (λ (xs : Vec Sending Global). xs.items) (Ok o) q.member m) c.in-Some-2.is (c.in_ok-sendings.ensures.step m same is))
-    refl c.in_ok-push-2.ensures.ok
+    refl c.in_ok-push-2.ensures
     (λ m s midway. c.in_ok-finish.ensures.finished S w m (Turned c.args.number u ∷ []) (nothing_brought m) s
     (subst (λ (es : List Entry). IsMidway S w u m (Turned c.args.number u ∷ []) (nothing_brought m) s before sendings.items None es mid) (sym c.new.ensures) midway))
 
