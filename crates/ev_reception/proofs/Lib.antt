@@ -1,0 +1,4 @@
+pub mod Asked
+pub mod Judged
+pub mod Nothing
+pub mod Received
