@@ -1,0 +1,5 @@
+pub mod Same
+pub mod Sets
+pub mod Keeping
+pub mod Showing
+pub mod Unclaimed

@@ -1,0 +1,3 @@
+pub mod Gifts
+pub mod Telling
+pub mod Statements

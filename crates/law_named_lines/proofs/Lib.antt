@@ -1,0 +1,4 @@
+pub mod Rekeyed
+pub mod Alike
+pub mod Keeping
+pub mod Shown
