@@ -1,5 +1,5 @@
 -- In every scene of a run with hostile vats places, takes, losses and arrivals at hostile vats of a message are no more than its sends and the times that frames brought it, and of these there is one at most.
-use Rattle.std.proofs.Common.{◌≡◌, ℕ, ◌+◌, ◌≤◌, Bool, true, false, List, [], ◌∷◌, ◌++◌, Option, Some, None, refl, sym, ◌∙◌, ap, subst, arith}
+use Rattle.std.proofs.Common.{◌≡◌, ℕ, ◌+◌, ◌≤◌, Bool, true, false, List, [], ◌∷◌, ◌++◌, Option, Some, None, refl, sym, ◌∙◌, ap, subst, length, arith}
 use Rattle.std.specs.Prelude.{slice_get, ◌&&◌, not}
 use Rattle.def_machine.specs.Values.{Value, Ref, Name, Root}
 use Rattle.def_machine.specs.State as state
@@ -26,8 +26,9 @@ use Rattle.law_hostile.specs.Entering.{HoldsOfEntries}
 use Rattle.law_hostile.proofs.Comes.{Coming, Passes, Lands, comes}
 use Rattle.law_injected.specs.HostileRuns.{IsHostile}
 use Rattle.law_hostile_fate.specs.Brought.{where_so, brought_by, arrives_by, brought, arrivals}
-use Rattle.law_hostile_fate.proofs.Said.{hear_inert, Speaks, speaks}
-use Rattle.law_hostile_fate.proofs.Scenes.{IsQuiet, IsOwn, Swallowing, Receiving, Saying, Unheard, put_went, said_history}
+use Rattle.law_scenes.proofs.Said.{hear_inert, Speaks, speaks}
+use Rattle.law_scenes.specs.Doings.{IsQuiet, IsOwn, Swallowing, Receiving, Saying, Unheard}
+use Rattle.law_scenes.proofs.Scenes.{IsKept, put_went, said_history}
 
 -- ---- links of hostile vats
 
@@ -146,7 +147,7 @@ module _ (x : Name) where
   none_here f g h ls v (Posted w m) = none_posted f m (h m) (world.is_cut v w ls)
   none_here f g h ls v e = let i = g v e in omega (arith, i)
 
-  none_told : (f : Event → ℕ) → ((v : ℕ) (e : Happened Name) → f (Here v e) ≡ 0) → ((m : Name) → f (LostCut m) ≡ 0) → (ls : List Link) (v : ℕ) (es : List (Happened Name)) → total f (world.events_of ls v es) ≡ 0
+  pub none_told : (f : Event → ℕ) → ((v : ℕ) (e : Happened Name) → f (Here v e) ≡ 0) → ((m : Name) → f (LostCut m) ≡ 0) → (ls : List Link) (v : ℕ) (es : List (Happened Name)) → total f (world.events_of ls v es) ≡ 0
   unfolding world.events_of total
   none_told f g h ls v [] = refl
   none_told f g h ls v (e ∷ es) = let a = total_append f (world.event_of ls v e) (world.events_of ls v es) in let b = none_here f g h ls v e in let c = none_told f g h ls v es in omega (arith, a, b, c)
@@ -255,7 +256,7 @@ module _ (play : Play) (x : Name) where
   unfolding total
   quiet_line e w a b c d f g h = line_added 0 0 0 w (e ∷ []) (no_hand 0 w h) (omega (arith, a)) (omega (arith, b)) (omega (arith, c)) (omega (arith, d)) (omega (arith, f)) (omega (arith, g))
 
-  pub happening : (e : Event) (w : World) → IsQuiet e → Fated w → Fated (record w { history = w.history ++ e ∷ [] })
+  happening : (e : Event) (w : World) → IsQuiet e → Fated w → Fated (record w { history = w.history ++ e ∷ [] })
   unfolding sent_by took_by lost_by left_by brought_by arrives_by
   happening (Idle k) w q h = quiet_line (Idle k) w refl refl refl refl refl refl h
   happening (NoticedAt k v u) w q h = quiet_line (NoticedAt k v u) w refl refl refl refl refl refl h
@@ -315,7 +316,7 @@ module _ (play : Play) (x : Name) where
   opening_at v p w y None o e i h = cc
   opening_at v p w y (Some s) o e i h = alone v w y (Opens v ∷ []) v (Starts p.tree script.depth (Root v) (world.given script.vats p.knows)) s s o e (in_place 0 0 v w s e h) refl (plain_one 0 0 (Opens v) refl refl refl refl refl refl) i
 
-  pub opened : (v : ℕ) (p : Program) (w y : World) → (IsHostile play v → ⊥) → world.open_vat script v p w ≡ Goes y → Fated w → Fated y
+  opened : (v : ℕ) (p : Program) (w y : World) → (IsHostile play v → ⊥) → world.open_vat script v p w ≡ Goes y → Fated w → Fated y
   unfolding world.open_vat
   opened v p w y o i h = opening_at v p w y (slice_get w.vats v) o refl i h
 
@@ -362,7 +363,7 @@ module _ (play : Play) (x : Name) where
       (cut_hand v to w h) (no_cut_line x script v to k w.links (sent_by x) refl (λ m. refl)) (no_cut_line x script v to k w.links (took_by x) refl (λ m. refl)) (omega arith) (no_cut_line x script v to k w.links (left_by x) refl (λ m. refl))
       (no_cut_line x script v to k w.links (brought_by hs x) refl (λ m. refl)) (no_cut_line x script v to k w.links (arrives_by hs x) refl (λ m. refl)))
 
-  pub entered : (entry : Entry) (k : ℕ) (w y : World) → IsOwn play entry → world.step script entry k w ≡ Goes y → Fated w → Fated y
+  entered : (entry : Entry) (k : ℕ) (w y : World) → IsOwn play entry → world.step script entry k w ≡ Goes y → Fated w → Fated y
   unfolding world.step
   entered (Turn v) k w y o i h = turn_fated k v w y (slice_get w.vats v) o refl i h
   entered (Carry v to) k w y o i h = absurd o
@@ -395,7 +396,7 @@ module _ (play : Play) (x : Name) where
   unfolding world.push_all
   empty_silent u ls h = h
 
-  pub swallowed : (k v u : ℕ) (w y : World) (l : Link) (n : Note Name) (ns : List (Note Name)) → world.link_at v u w.links ≡ Some l → l.notes ≡ n ∷ ns → Swallowing play k v u w y n ns → Fated w → Fated y
+  swallowed : (k v u : ℕ) (w y : World) (l : Link) (n : Note Name) (ns : List (Note Name)) → world.link_at v u w.links ≡ Some l → l.notes ≡ n ∷ ns → Swallowing play k v u w y n ns → Fated w → Fated y
   swallowed k v u w y l n ns i j s h = let z : World = without v u ns w in let hand = from_link v u w l n ns i j h in let q = hear_inert script u x n (readied w s.before) s.after s.hears in
       let none = ready_empty w s.before s.after q.put q.happened in let there = without_there v u ns w u s.before s.there in
       subst (λ z. Fated z) (sym s.is) (stepped u z (Carried k v u n (world.next_frame v u w.connections) ∷ []) (of_note x n) 0 0 (of_note x n) 0 s.before s.before s.after there (in_place (of_note x n) 0 u z s.before there hand) refl
@@ -496,7 +497,7 @@ module _ (play : Play) (x : Name) where
       (carried_plain c k v u m _ i (not_true (is_in u hs) o)) (omega (arith, less, b)) (omega (arith, b)) d.2 (pushed_silent hs u o t.outbox z.links h.silent) in
       subst (λ a. Fated a) (sym r.is) (placed_fated v u _ next)
 
-  pub received : (k v u : ℕ) (w y : World) (l : Link) (n : Note Name) (ns : List (Note Name)) → world.link_at v u w.links ≡ Some l → l.notes ≡ n ∷ ns → Receiving play k v u w y n ns → Fated w → Fated y
+  received : (k v u : ℕ) (w y : World) (l : Link) (n : Note Name) (ns : List (Note Name)) → world.link_at v u w.links ≡ Some l → l.notes ≡ n ∷ ns → Receiving play k v u w y n ns → Fated w → Fated y
   received k v u w y l n ns i j r h = arrived false k v u 0 w y n ns (first_false (is_in v hs) (is_in u hs) (not_true (is_in v hs) (sender_honest v u w l n ns i j h))) (sym (where_false false (of_note x n) refl)) r (from_link v u w l n ns i j h)
 
   -- ---- a hostile vat says a note in a frame
@@ -644,7 +645,7 @@ module _ (play : Play) (x : Name) where
       on_links None e = ap (total (on_link x)) (with_link_absent (world.pushed n) h u A e)
       on_links (Some k) e = let a = with_link_changes x (world.pushed n) h u A k e in let b = pushed_cut k (cut_there k e k.cut refl) in omega (arith, a, b)
 
-      pub unheard_fated : Fated y
+      unheard_fated : Fated y
       unfolding places sent takes losses leavings brought arrivals
       unheard_fated = let k = g.kept in let f = g.fresh in let i = g.unlisted in let a = at_vats in let b = ap (total (on_link x)) links_are in let c = on_links (world.link_at h u A) refl in let m = more_numbered in
           let s1 = sums_same (sent_by x) in let s2 = sums_same (took_by x) in let s3 = sums_same (lost_by x) in let s4 = sums_same (left_by x) in let s5 = sums_same (brought_by hs x) in let s6 = sums_same (arrives_by hs x) in
@@ -691,5 +692,17 @@ module _ (play : Play) (x : Name) where
             silent = subst (λ ls. AllSilent hs (world.with_link (world.with_notes ns) h u ls)) (sym links_are) (subst (λ ms. AllSilent hs (world.with_link (world.with_notes ms) h u B)) (sym rest_is) (taken_silent hs n h u A g.silent));
           }
 
-      pub heard_fated : (k : ℕ) (z : World) → Receiving play k h u y z m ns → Fated z
+      heard_fated : (k : ℕ) (z : World) → Receiving play k h u y z m ns → Fated z
       heard_fated k z r = arrived true k h u (of_note x m) y z m ns (and_not (is_in h hs) (is_in u hs) (hostile_in h s.bad) (not_true (is_in u hs) (honest_in u r.honest))) (sym (where_true true (of_note x m) refl)) r in_hand
+
+-- what each doing keeps
+pub fated_kept : (play : Play) (x : Name) → IsKept play (Fated play x)
+fated_kept play x = record {
+  opening = λ front rest p w y o i e g. opened play x (length front) p w y o e g;
+  entering = entered play x;
+  happening = happening play x;
+  swallowing = λ k v u w y l n ns i c j s g. swallowed play x k v u w y l n ns i j s g;
+  receiving = λ k v u w y l n ns i c j r g. received play x k v u w y l n ns i j r g;
+  unheard = λ h u w y s e g. unheard_fated play x h u w y s g e;
+  heard = λ k h u w y z l n ns s i c j r g. heard_fated play x h u w y s g l n ns i c j k z r;
+}

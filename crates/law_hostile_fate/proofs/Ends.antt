@@ -16,9 +16,9 @@ use Rattle.law_injected.specs.HostileRuns.{IsHostile}
 use Rattle.def_hostile.specs.Plays.{Opens, Goes}
 use Rattle.law_hostile_fate.specs.Brought.{told, brought_by, arrives_by, brought, arrivals}
 use Rattle.law_hostile_fate.specs.Fates.{OneFate, Ended, NoFrameDoubles, OneFateAtMostWithFrames}
-use Rattle.law_hostile_fate.proofs.Scenes as scenes
-use Rattle.law_hostile_fate.proofs.Scenes.{Tells, told_append, told_map}
-use Rattle.law_hostile_fate.proofs.Account.{AllSilent, Fated, opened, entered, happening, swallowed, received, unheard_fated, heard_fated}
+use Rattle.law_scenes.proofs.Scenes as scenes
+use Rattle.law_scenes.proofs.Scenes.{Tells, told_append, told_map}
+use Rattle.law_hostile_fate.proofs.Account.{AllSilent, Fated, fated_kept}
 
 -- ---- the start
 
@@ -59,7 +59,7 @@ links_total play script f rs (l ∷ ls) =
     let d = total_append f (told notes) (told frames) in let e = ap (total f) (told_left l.from l.to l.notes) in let g : total f (told frames) ≡ 0 = ap (total f) (no_frames l.from l.to (hostile.frames_at l.from l.to rs)) in
     let h = total_append f (map (λ n. LeftLink l.from l.to n) l.notes) (world.left_links script ls) in let rest = links_total play script f rs ls in omega arith
 
-lines_total : (play : Play) (script : Script) (f : Event → ℕ) (ls : List Line) (vats : List Event) (rs : List Raw) (links : List Link) → f Ends ≡ 0 → total f (told (ls ++ map Told vats ++ hostile.left_links play rs links ++ Told Ends ∷ [])) ≡ total f (told ls) + total f vats + total f (world.left_links script links)
+pub lines_total : (play : Play) (script : Script) (f : Event → ℕ) (ls : List Line) (vats : List Event) (rs : List Raw) (links : List Link) → f Ends ≡ 0 → total f (told (ls ++ map Told vats ++ hostile.left_links play rs links ++ Told Ends ∷ [])) ≡ total f (told ls) + total f vats + total f (world.left_links script links)
 unfolding told total
 lines_total play script f ls vats rs links z =
     let a1 = ap (total f) (told_append (ls ++ map Told vats ++ hostile.left_links play rs links) (Told Ends ∷ [])) in let a2 = total_append f (told (ls ++ map Told vats ++ hostile.left_links play rs links)) (Ends ∷ []) in
@@ -76,20 +76,11 @@ module _ (play : Play) (who : ℕ) (bad : IsHostile play who) (x : Name) where
   J s = Fated play x s.world × Tells s.lines s.world.history
 
   abbrev Ok : Acted → Type 0
-  Ok a = scenes.Ok play who bad (Fated play x) (opened play x) (entered play x) (happening play x) (swallowed play x) (received play x) (λ h u w y s e g. unheard_fated play x h u w y s g e) (λ k h u w y z l n ns s i c j r g. heard_fated play x h u w y s g l n ns i c j k z r) a
+  Ok a = scenes.Ok play who bad (Fated play x) (fated_kept play x) a
 
   started : J (starts play)
   unfolding hostile.starts world.begins told
   started = (begun play x, λ f a b. refl)
-
-  opens : (ps : List Program) → Ok (opens_from play zero ps (starts play))
-  opens ps = scenes.opens_ok play who bad (Fated play x) (opened play x) (entered play x) (happening play x) (swallowed play x) (received play x) (λ h u w y s e g. unheard_fated play x h u w y s g e) (λ k h u w y z l n ns s i c j r g. heard_fated play x h u w y s g l n ns i c j k z r) zero ps (starts play) started
-
-  does : (ds : List Doing) (s : Scene) → J s → Ok (does_all play ds 1 s)
-  does ds s g = scenes.doings_ok play who bad (Fated play x) (opened play x) (entered play x) (happening play x) (swallowed play x) (received play x) (λ h u w y s e g. unheard_fated play x h u w y s g e) (λ k h u w y z l n ns s i c j r g. heard_fated play x h u w y s g l n ns i c j k z r) ds 1 s g
-
-  plays_ok : (a : Acted) (s : Scene) → a ≡ Plays s → Ok a → J s
-  plays_ok a s e h = scenes.plays_ok play who bad (Fated play x) (opened play x) (entered play x) (happening play x) (swallowed play x) (received play x) (λ h u w y s e g. unheard_fated play x h u w y s g e) (λ k h u w y z l n ns s i c j r g. heard_fated play x h u w y s g l n ns i c j k z r) a s e h
 
   -- of lines that tell what the history of such a world tells, with its places or fewer
   one_fate : (held : ℕ) (ls : List Line) (w : World) → held ≤ places x w → Fated play x w → Tells ls w.history → OneFate hs x held (told ls)
@@ -128,13 +119,13 @@ module _ (play : Play) (who : ℕ) (bad : IsHostile play who) (x : Name) where
 
   ends : E (hostile.acts play)
   unfolding hostile.acts
-  ends = then_ends (opens_from play zero play.script.vats (starts play)) (λ s. hostile.then_plays (does_all play play.doings 1 s) (hostile.closes play)) (opens play.script.vats) (λ s g. then_ends (does_all play play.doings 1 s) (hostile.closes play) (does play.doings s g) closes)
+  ends = then_ends (opens_from play zero play.script.vats (starts play)) (λ s. hostile.then_plays (does_all play play.doings 1 s) (hostile.closes play)) (scenes.opened_so play who bad (Fated play x) (fated_kept play x) started) (λ s g. then_ends (does_all play play.doings 1 s) (hostile.closes play) (scenes.doings_ok play who bad (Fated play x) (fated_kept play x) play.doings 1 s g) closes)
 
   opened_scene : (s : Scene) → Opens play s → J s
-  opened_scene s c = plays_ok _ s c.3 (opens c.0)
+  opened_scene s c = scenes.opened_scene play who bad (Fated play x) (fated_kept play x) started s c
 
   gone_scene : (s : Scene) → Goes play s → J s
-  gone_scene s c = plays_ok _ s c.5 (does c.1 c.0 (plays_ok _ c.0 c.4 (opens play.script.vats)))
+  gone_scene s c = scenes.gone_scene play who bad (Fated play x) (fated_kept play x) started s c
 
 pub no_frame_doubles : NoFrameDoubles
 no_frame_doubles play h bad x = (λ s c. in_scene play h bad x s (opened_scene play h bad x s c), λ s c. in_scene play h bad x s (gone_scene play h bad x s c))

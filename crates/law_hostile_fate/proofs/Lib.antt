@@ -1,4 +1,2 @@
-pub mod Said
-pub mod Scenes
 pub mod Account
 pub mod Ends

@@ -1,16 +1,10 @@
 -- Messages that frames bring, and messages that come to hostile vats: no line sends the first, and no line takes the second.
-use Rattle.std.specs.Prelude.{ℕ, Bool, true, false, List, [], ◌∷◌, ◌&&◌, not}
+use Rattle.std.specs.Prelude.{ℕ, Bool, true, false, List, ◌&&◌, not}
 use Rattle.def_machine.specs.Values.{Name}
 use Rattle.def_machine.specs.State.{is_in}
 use Rattle.def_run.specs.World.{Event, Carried}
-use Rattle.def_hostile.specs.Hostile.{Line, Told}
 use Rattle.law_fate.specs.Fates.Fate.{total, of_note, opened_fate}
-
--- the events among the lines of a scene
-unfoldable pub told : List Line → List Event
-told [] = []
-told (Told e ∷ ls) = e ∷ told ls
-told (l ∷ ls) = told ls
+unfoldable pub use Rattle.law_scenes.specs.Doings.{told}
 
 -- so many where it is so, else zero
 unfoldable pub where_so : Bool → ℕ → ℕ

@@ -1,14 +1,13 @@
 -- What each doing of a run with hostile vats keeps of worlds holds in each scene, whose lines tell what the history of its world tells: an honest vat goes on as in every run, a note arrives, or a hostile vat says a note in a frame, which arrives at once.
-use Rattle.std.proofs.Common.{◌≡◌, ℕ, zero, suc, ◌+◌, Bool, true, false, List, [], ◌∷◌, ◌++◌, Option, Some, None, map, refl, sym, ◌∙◌, ap, subst, length, append_assoc, append-nil, arith}
+use Rattle.std.proofs.Common.{◌≡◌, ℕ, zero, suc, Bool, true, false, List, [], ◌∷◌, ◌++◌, Option, Some, None, map, refl, sym, ◌∙◌, ap, subst, length, append_assoc, append-nil, inl, inr, arith}
 use Rattle.std.specs.Prelude.{slice_get, drop, ◌&&◌}
 use Rattle.def_op.specs.Frames.{Operation}
 use Rattle.def_machine.specs.Values.{Name, Sent}
 use Rattle.def_machine.specs.State as state
 use Rattle.def_machine.specs.State.{Note, Deliver, Open, Ask, SettledTo, Elsewhere, Shorten, Vat, Done, Gives, Throws, Ejects, Stops, Act, send_out, ◌>>◌, is_in}
 use Rattle.def_machine.specs.Arrive.{Incoming}
-use Rattle.def_machine.specs.Receive.{receive}
 use Rattle.def_run.specs.Connections.{Heard}
-use Rattle.def_run.specs.Deeds.{perform_all, hear}
+use Rattle.def_run.specs.Deeds.{perform_all}
 use Rattle.def_run.specs.Wire.{connected_at}
 use Rattle.def_run.specs.World as world
 use Rattle.def_run.specs.World.{Program, Opens, Entry, Turn, Carry, CutLink, NoticeLink, Event, Turned, Carried, Idle, CutAt, NoticedAt, Link, World, Run, Goes as Going, Stopped, names, names_of, read_note, readied}
@@ -18,12 +17,14 @@ use Rattle.def_hostile.specs.Judge.{Verdict, verdict}
 use Rattle.def_hostile.specs.Hostile as hostile
 use Rattle.def_hostile.specs.Hostile.{Play, Scene, Acted, Plays, Breaks, Doing, Does, Injects, Line, Told, Injected, NotInjected, Refused, Unread, LeftFrame, is_hostile, new_names, counts}
 use Rattle.law_machine.specs.Run.Moves.{went, without}
-use Rattle.law_adversary.specs.Moves.{entered_at, sight_at, framed_on, placed_from}
+use Rattle.law_adversary.specs.Moves.{entered_at, framed_on, placed_from}
 use Rattle.law_fate.specs.Fates.Fate.{total, of_note, in_note}
 use Rattle.law_fate.proofs.Fates.RunCounts.{total_append}
 use Rattle.law_injected.specs.HostileRuns.{IsHostile, IsSpoken}
-use Rattle.law_hostile_fate.specs.Brought.{told}
-use Rattle.law_hostile_fate.proofs.Said.{speaks}
+use Rattle.def_hostile.specs.Plays as come
+use Rattle.def_hostile.specs.Plays.{ComesTo}
+use Rattle.law_scenes.specs.Doings.{told, IsQuiet, IsOwn, Swallowing, Receiving, Saying, Unheard}
+use Rattle.law_scenes.proofs.Said.{speaks}
 
 -- ---- lines
 
@@ -113,67 +114,22 @@ pub no_lines : (h : ℕ) (w : World) (t : Vat Name) → t.happened ≡ [] → (w
 unfolding world.events_of
 no_lines h w t e = went_history h w [] t ∙ ap (λ es. w.history ++ world.events_of w.links h es) e ∙ append-nil w.history
 
--- a line that tells of no message, as entries of hostile vats and notes that tell again make them
-abbrev pub IsQuiet : Event → Type 0
-IsQuiet (Idle k) = Unit {0}
-IsQuiet (NoticedAt k v w) = Unit {0}
-IsQuiet (Carried k v w n bytes) = (x : Name) → of_note x n ≡ 0
-IsQuiet other = ⊥
-
--- an entry of an honest vat without a note, or a cut
-abbrev pub IsOwn : Play → Entry → Type 0
-IsOwn play (Turn v) = IsHostile play v → ⊥
-IsOwn play (Carry v w) = ⊥
-IsOwn play (CutLink v w) = Unit {0}
-IsOwn play (NoticeLink v w) = IsHostile play v → ⊥
-
 module _ (play : Play) where
-  -- the first note from v to u comes to be known to u, a hostile vat
-  pub record Swallowing (k v u : ℕ) (w y : World) (n : Note Name) (ns : List (Note Name)) : Type 0 where
-    pub bad : IsHostile play u
-    pub before : Vat Name
-    pub after : Vat Name
-    pub there : slice_get w.vats u ≡ Some before
-    pub hears : hear play.script u n (readied w before) ≡ Gives tt after
-    pub is : y ≡ went u (without v u ns w) (Carried k v u n (world.next_frame v u w.connections) ∷ []) after
-
-  -- it comes to u, an honest vat, which receives it by its entries
-  pub record Receiving (k v u : ℕ) (w y : World) (n : Note Name) (ns : List (Note Name)) : Type 0 where
-    pub honest : IsHostile play u → ⊥
-    pub before : Vat Name
-    pub after : Vat Name
-    pub there : slice_get w.vats u ≡ Some before
-    pub receives : receive (names play.script u) (sight_at w v u before) v (read_note (names_of before) (entered_at w v u before n)) (readied w before) ≡ Gives tt after
-    pub is : y ≡ placed_from v u (went u (without v u ns w) (Carried k v u (entered_at w v u before n) (world.next_frame v u w.connections) ∷ []) after)
-
-  -- hostile vat h says a note to u, an honest one, in a frame
-  pub record Saying (h u : ℕ) (w y : World) : Type 0 where
-    pub note : Note Name
-    pub op : Operation
-    pub new : List Name
-    pub ready : Vat Name
-    pub after : Vat Name
-    pub bad : IsHostile play h
-    pub spoken : IsSpoken play w h u ready note op new
-    pub sends : send_out u note ready ≡ Gives tt after
-    pub quiet : after.happened ≡ []
-    pub is : y ≡ framed_on w h u op note new (went h w [] after)
-
-  pub said_history : (h u : ℕ) (w y : World) → Saying h u w y → y.history ≡ w.history
+  pub said_history : (h u : ℕ) (w y : World) → Saying play h u w y → y.history ≡ w.history
   said_history h u w y s = ap (λ (z : World). z.history) s.is ∙ no_lines h w s.after s.quiet
 
--- no note is on the link, or it is cut
-abbrev pub Unheard : ℕ → ℕ → World → Type 0
-Unheard v u w = (l : Link) → world.link_at v u w.links ≡ Some l → l.cut ≡ false → l.notes ≡ []
+-- what each doing keeps of worlds
+pub record IsKept (play : Play) (P : World → Type 0) : Type 0 where
+  pub opening : (front rest : List Program) (p : Program) (w y : World) → (IsHostile play (length front) → ⊥) → play.script.vats ≡ front ++ p ∷ rest → world.open_vat play.script (length front) p w ≡ Going y → P w → P y
+  pub entering : (entry : Entry) (k : ℕ) (w y : World) → IsOwn play entry → world.step play.script entry k w ≡ Going y → P w → P y
+  pub happening : (e : Event) (w : World) → IsQuiet e → P w → P (record w { history = w.history ++ e ∷ [] })
+  pub swallowing : (k v u : ℕ) (w y : World) (l : Link) (n : Note Name) (ns : List (Note Name)) → world.link_at v u w.links ≡ Some l → l.cut ≡ false → l.notes ≡ n ∷ ns → Swallowing play k v u w y n ns → P w → P y
+  pub receiving : (k v u : ℕ) (w y : World) (l : Link) (n : Note Name) (ns : List (Note Name)) → world.link_at v u w.links ≡ Some l → l.cut ≡ false → l.notes ≡ n ∷ ns → Receiving play k v u w y n ns → P w → P y
+  -- what is said and not heard, and what is heard at once
+  pub unheard : (h u : ℕ) (w y : World) → Saying play h u w y → Unheard h u y → P w → P y
+  pub heard : (k h u : ℕ) (w y z : World) (l : Link) (n : Note Name) (ns : List (Note Name)) → Saying play h u w y → world.link_at h u y.links ≡ Some l → l.cut ≡ false → l.notes ≡ n ∷ ns → Receiving play k h u y z n ns → P w → P z
 
-module _ (play : Play) (who : ℕ) (bad : IsHostile play who) (P : World → Type 0)
-    (opening : (v : ℕ) (p : Program) (w y : World) → (IsHostile play v → ⊥) → world.open_vat play.script v p w ≡ Going y → P w → P y)
-    (entering : (entry : Entry) (k : ℕ) (w y : World) → IsOwn play entry → world.step play.script entry k w ≡ Going y → P w → P y)
-    (happening : (e : Event) (w : World) → IsQuiet e → P w → P (record w { history = w.history ++ e ∷ [] }))
-    (swallowing : (k v u : ℕ) (w y : World) (l : Link) (n : Note Name) (ns : List (Note Name)) → world.link_at v u w.links ≡ Some l → l.notes ≡ n ∷ ns → Swallowing play k v u w y n ns → P w → P y)
-    (receiving : (k v u : ℕ) (w y : World) (l : Link) (n : Note Name) (ns : List (Note Name)) → world.link_at v u w.links ≡ Some l → l.notes ≡ n ∷ ns → Receiving play k v u w y n ns → P w → P y)
-    (unheard : (h u : ℕ) (w y : World) → Saying play h u w y → Unheard h u y → P w → P y)
-    (heard : (k h u : ℕ) (w y z : World) (l : Link) (n : Note Name) (ns : List (Note Name)) → Saying play h u w y → world.link_at h u y.links ≡ Some l → l.cut ≡ false → l.notes ≡ n ∷ ns → Receiving play k h u y z n ns → P w → P z) where
+module _ (play : Play) (who : ℕ) (bad : IsHostile play who) (P : World → Type 0) (law : IsKept play P) where
   -- of a scene
   abbrev pub J : Scene → Type 0
   J s = P s.world × Tells s.lines s.world.history
@@ -199,7 +155,7 @@ module _ (play : Play) (who : ℕ) (bad : IsHostile play who) (P : World → Typ
 
   happens_ok : (e : Event) (s : Scene) → IsQuiet e → J s → Ok (hostile.happens e s)
   unfolding hostile.happens told
-  happens_ok e s q h = (happening e s.world q h.0, tells_more s.lines (Told e ∷ []) s.world.history (e ∷ []) refl h.1)
+  happens_ok e s q h = (law.happening e s.world q h.0, tells_more s.lines (Told e ∷ []) s.world.history (e ∷ []) refl h.1)
 
   acted_ok : (n : ℕ) (s : Scene) (run : Run) → L s → Tells s.lines s.world.history → ((y : World) → run ≡ Going y → P y × Extends s.world y) → Ok (hostile.acted n s [] run)
   unfolding hostile.acted
@@ -260,10 +216,10 @@ module _ (play : Play) (who : ℕ) (bad : IsHostile play who) (P : World → Typ
   received_extends : (k v u : ℕ) (w y : World) (n : Note Name) (ns : List (Note Name)) → Receiving play k v u w y n ns → Extends w y
   received_extends k v u w y n ns s = subst (λ z. Extends w z) (sym s.is) (came_extends u v ns w _ s.after)
 
-  comes_ok : (k v u : ℕ) (w y : World) (l : Link) (n : Note Name) (ns : List (Note Name)) → world.link_at v u w.links ≡ Some l → l.notes ≡ n ∷ ns → P w → (b : Bool) → is_hostile play u ≡ b → hostile.comes play b k v u (without v u ns w) n ≡ Going y → P y × Extends w y
+  comes_ok : (k v u : ℕ) (w y : World) (l : Link) (n : Note Name) (ns : List (Note Name)) → world.link_at v u w.links ≡ Some l → l.cut ≡ false → l.notes ≡ n ∷ ns → P w → (b : Bool) → is_hostile play u ≡ b → hostile.comes play b k v u (without v u ns w) n ≡ Going y → P y × Extends w y
   unfolding hostile.comes without
-  comes_ok k v u w y l n ns i j h true b e = let s = swallows_is k v u w y n ns b (slice_get w.vats u) refl e in (swallowing k v u w y l n ns i j s h, swallowed_extends k v u w y n ns s)
-  comes_ok k v u w y l n ns i j h false b e = let r = receives_at_is k v u w y n ns (honest_is (is_hostile play u) b) (slice_get w.vats u) refl e in (receiving k v u w y l n ns i j r h, received_extends k v u w y n ns r)
+  comes_ok k v u w y l n ns i c j h true b e = let s = swallows_is k v u w y n ns b (slice_get w.vats u) refl e in (law.swallowing k v u w y l n ns i c j s h, swallowed_extends k v u w y n ns s)
+  comes_ok k v u w y l n ns i c j h false b e = let r = receives_at_is k v u w y n ns (honest_is (is_hostile play u) b) (slice_get w.vats u) refl e in (law.receiving k v u w y l n ns i c j r h, received_extends k v u w y n ns r)
 
   -- what comes over a link, from a scene whose world is one of those, or one in which a frame was said
   module _ (k v u : ℕ) (s : Scene) (l : L s) (tells : Tells s.lines s.world.history) (idle : Unheard v u s.world → P s.world)
@@ -295,7 +251,7 @@ module _ (play : Play) (who : ℕ) (bad : IsHostile play who) (P : World → Typ
     link_ok (Some a) i = cut_ok a i a.cut refl
 
   carry_link_ok : (k v u : ℕ) (s : Scene) → J s → Ok (hostile.carry_link play k v u s (world.link_at v u s.world.links))
-  carry_link_ok k v u s h = link_ok k v u s (stop s h) h.1 (λ _. h.0) (λ y l n ns i c j g. comes_ok k v u s.world y l n ns i j h.0 (is_hostile play u) refl g) _ refl
+  carry_link_ok k v u s h = link_ok k v u s (stop s h) h.1 (λ _. h.0) (λ y l n ns i c j g. comes_ok k v u s.world y l n ns i c j h.0 (is_hostile play u) refl g) _ refl
 
   -- ---- a malformed frame
 
@@ -326,7 +282,7 @@ module _ (play : Play) (who : ℕ) (bad : IsHostile play who) (P : World → Typ
   severed_ok : (k h u place : ℕ) (s : Scene) (y : World) (run : Run) → world.step script (CutLink h u) k s.world ≡ Going y → world.step script (NoticeLink u h) k y ≡ run → (IsHostile play u → ⊥) → J s → Ok (hostile.severed_by play k h u place s (Going y) run)
   unfolding hostile.severed_by hostile.lines_behind
   severed_ok k h u place s y (Going z) i j o g = let a = cut_extends k h u s.world y i in let b = notice_extends k u h y z j in
-      (entering (NoticeLink u h) k y z o j (entering (CutLink h u) k s.world y tt i g.0), severed_tells s.lines k h u place s.world y z a.0 b.0 a.1 b.1 g.1)
+      (law.entering (NoticeLink u h) k y z o j (law.entering (CutLink h u) k s.world y tt i g.0), severed_tells s.lines k h u place s.world y z a.0 b.0 a.1 b.1 g.1)
   severed_ok k h u place s y (Stopped c n z) i j o g = stop s g
 
   malformed_ok : (k h u place : ℕ) (s : Scene) → (IsHostile play u → ⊥) → J s → Ok (hostile.malformed play k h u place s)
@@ -377,8 +333,8 @@ module _ (play : Play) (who : ℕ) (bad : IsHostile play who) (P : World → Typ
   carries_ok : (k h u : ℕ) (s : Scene) (run : Run) → J s → ((y : World) → run ≡ Going y → Saying play h u s.world y) → Ok (hostile.carries_said play k h u s run)
   unfolding hostile.carries_said
   carries_ok k h u s (Going y) g f = let a = f y refl in let o = (a.spoken).honest in
-      link_ok k h u (record s { world = y }) (stop s g) (subst (λ es. Tells s.lines es) (sym (said_history play h u s.world y a)) g.1) (λ e. unheard h u s.world y a e g.0)
-      (λ z l n ns i c j e. let r = heard_comes k h u y z n ns o (is_hostile play u) refl e in (heard k h u s.world y z l n ns a i c j r g.0, received_extends k h u y z n ns r)) (world.link_at h u y.links) refl
+      link_ok k h u (record s { world = y }) (stop s g) (subst (λ es. Tells s.lines es) (sym (said_history play h u s.world y a)) g.1) (λ e. law.unheard h u s.world y a e g.0)
+      (λ z l n ns i c j e. let r = heard_comes k h u y z n ns o (is_hostile play u) refl e in (law.heard k h u s.world y z l n ns a i c j r g.0, received_extends k h u y z n ns r)) (world.link_at h u y.links) refl
   carries_ok k h u s (Stopped c n y) g f = stop s g
 
   again_resolves : (t : Vat Name) (u : ℕ) (n : Note Name) (b : Bool) → hostile.tells_again play t u n ≡ b → b ≡ true → hostile.is_resolve n ≡ true
@@ -460,12 +416,12 @@ module _ (play : Play) (who : ℕ) (bad : IsHostile play who) (P : World → Typ
   turn_ok : (k v : ℕ) (s : Scene) → J s → (b : Bool) → is_hostile play v ≡ b → Ok (hostile.does_turn play b k v s)
   unfolding hostile.does_turn
   turn_ok k v s g true h = happens_ok (Idle k) s tt g
-  turn_ok k v s g false h = acted_ok _ s _ (stop s g) g.1 (λ y i. (entering (Turn v) k s.world y (honest_is (is_hostile play v) h) i g.0, turned_extends k v s.world y i))
+  turn_ok k v s g false h = acted_ok _ s _ (stop s g) g.1 (λ y i. (law.entering (Turn v) k s.world y (honest_is (is_hostile play v) h) i g.0, turned_extends k v s.world y i))
 
   notice_ok : (k v w : ℕ) (s : Scene) → J s → (b : Bool) → is_hostile play v ≡ b → Ok (hostile.does_notice play b k v w s)
   unfolding hostile.does_notice
   notice_ok k v w s g true h = happens_ok (NoticedAt k v w) s tt g
-  notice_ok k v w s g false h = acted_ok _ s _ (stop s g) g.1 (λ y i. (entering (NoticeLink v w) k s.world y (honest_is (is_hostile play v) h) i g.0, let x = notice_extends k v w s.world y i in (_, x.1)))
+  notice_ok k v w s g false h = acted_ok _ s _ (stop s g) g.1 (λ y i. (law.entering (NoticeLink v w) k s.world y (honest_is (is_hostile play v) h) i g.0, let x = notice_extends k v w s.world y i in (_, x.1)))
 
   injects_ok : (k h w : ℕ) (bytes : List ℕ) (s : Scene) → J s → (b : Bool) → Ok (hostile.injects play b k h w bytes s)
   unfolding hostile.injects hostile.tells told
@@ -476,7 +432,7 @@ module _ (play : Play) (who : ℕ) (bad : IsHostile play who) (P : World → Typ
   unfolding hostile.tries
   tried_ok (Does (Turn v)) k s g = turn_ok k v s g (is_hostile play v) refl
   tried_ok (Does (Carry v u)) k s g = does_carry_ok k v u s g (is_hostile play v) refl
-  tried_ok (Does (CutLink v u)) k s g = acted_ok _ _ _ (stop s g) g.1 (λ y i. (entering (CutLink v u) k s.world y tt i g.0, let x = cut_extends k v u s.world y i in (_, x.1)))
+  tried_ok (Does (CutLink v u)) k s g = acted_ok _ _ _ (stop s g) g.1 (λ y i. (law.entering (CutLink v u) k s.world y tt i g.0, let x = cut_extends k v u s.world y i in (_, x.1)))
   tried_ok (Does (NoticeLink v u)) k s g = notice_ok k v u s g (is_hostile play v) refl
   tried_ok (Injects h u bytes) k s g = injects_ok k h u bytes s g (world.is_cut h u s.world.links)
 
@@ -506,15 +462,54 @@ module _ (play : Play) (who : ℕ) (bad : IsHostile play who) (P : World → Typ
   unfolding world.open_vat
   open_extends v p w y e = let x = within_extends v w y (Opens v ∷ []) _ _ (slice_get w.vats v) e in (_, x.1)
 
-  open_ok : (v : ℕ) (p : Program) (s : Scene) → J s → (b : Bool) → is_hostile play v ≡ b → Ok (hostile.opens play b v p s)
+  open_ok : (front rest : List Program) (p : Program) (s : Scene) → play.script.vats ≡ front ++ p ∷ rest → J s → (b : Bool) → is_hostile play (length front) ≡ b → Ok (hostile.opens play b (length front) p s)
   unfolding hostile.opens
-  open_ok v p s g true h = g
-  open_ok v p s g false h = acted_ok _ s _ (stop s g) g.1 (λ y i. (opening v p s.world y (honest_is (is_hostile play v) h) i g.0, open_extends v p s.world y i))
+  open_ok front rest p s i g true h = g
+  open_ok front rest p s i g false h = acted_ok _ s _ (stop s g) g.1 (λ y j. (law.opening front rest p s.world y (honest_is (is_hostile play (length front)) h) i j g.0, open_extends (length front) p s.world y j))
 
-  pub opens_ok : (v : ℕ) (ps : List Program) (s : Scene) → J s → Ok (hostile.opens_from play v ps s)
+  pub opens_ok : (front ps rest : List Program) (s : Scene) → play.script.vats ≡ front ++ (ps ++ rest) → J s → Ok (hostile.opens_from play (length front) ps s)
   unfolding hostile.opens_from
-  opens_ok v [] s g = g
-  opens_ok v (p ∷ ps) s g = then_ok (hostile.opens play (is_hostile play v) v p s) (hostile.opens_from play (suc v) ps) (open_ok v p s g (is_hostile play v) refl) (λ x h. opens_ok (suc v) ps x h)
+  opens_ok front [] rest s i g = g
+  opens_ok front (p ∷ ps) rest s i g = then_ok (hostile.opens play (is_hostile play (length front)) (length front) p s) (hostile.opens_from play (suc (length front)) ps) (open_ok front (ps ++ rest) p s i g (is_hostile play (length front)) refl)
+      (λ x h. subst (λ k. Ok (hostile.opens_from play k ps x)) (length_end front p) (opens_ok (front ++ p ∷ []) ps rest x (i ∙ sym (append_assoc front (p ∷ []) (ps ++ rest))) h))
 
   pub plays_ok : (a : Acted) (s : Scene) → a ≡ Plays s → Ok a → J s
   plays_ok a s e h = subst (λ x. Ok x) e h
+
+  -- ---- where a run comes to
+
+  module _ (begun : J (hostile.starts play)) where
+    pub opens_so : (ps rest : List Program) → play.script.vats ≡ ps ++ rest → Ok (hostile.opens_from play zero ps (hostile.starts play))
+    opens_so ps rest i = opens_ok [] ps rest (hostile.starts play) i begun
+
+    pub opened_so : Ok (hostile.opens_from play zero play.script.vats (hostile.starts play))
+    opened_so = opens_so play.script.vats [] (sym (append-nil play.script.vats))
+
+    pub opened_scene : (s : Scene) → come.Opens play s → J s
+    opened_scene s c = plays_ok _ s c.3 (opens_so c.0 c.1 c.2)
+
+    pub gone_scene : (s : Scene) → come.Goes play s → J s
+    gone_scene s c = plays_ok _ s c.5 (doings_ok c.1 1 c.0 (plays_ok _ c.0 c.4 opened_so))
+
+    abbrev Q : Acted → Type 0
+    Q (Plays s) = P s.world
+    Q (Breaks c k s) = Unit {0}
+
+    then_so : (a : Acted) (f : Scene → Acted) → Ok a → ((s : Scene) → J s → Q (f s)) → Q (hostile.then_plays a f)
+    unfolding hostile.then_plays
+    then_so (Plays s) f h g = g s h
+    then_so (Breaks c k s) f h g = tt
+
+    -- the closing list changes no world
+    ends_so : Q (hostile.acts play)
+    unfolding hostile.acts hostile.closes
+    ends_so = then_so (hostile.opens_from play zero play.script.vats (hostile.starts play)) (λ s. hostile.then_plays (hostile.does_all play play.doings 1 s) (hostile.closes play)) opened_so
+        (λ s g. then_so (hostile.does_all play play.doings 1 s) (hostile.closes play) (doings_ok play.doings 1 s g) (λ t h. h.0))
+
+    ended_so : (a : Acted) (s : Scene) → a ≡ Plays s → Q a → P s.world
+    ended_so a s e h = subst (λ z. Q z) e h
+
+    pub in_scenes : (s : Scene) → ComesTo play s → P s.world
+    in_scenes s (inl c) = (opened_scene s c).0
+    in_scenes s (inr (inl c)) = (gone_scene s c).0
+    in_scenes s (inr (inr e)) = ended_so (hostile.acts play) s e ends_so

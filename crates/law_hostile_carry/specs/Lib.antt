@@ -1,0 +1,3 @@
+pub mod Settles
+pub mod Carries
+pub mod Sound

@@ -1,0 +1,5 @@
+pub mod Said
+pub mod Received
+pub mod Scenes
+pub mod Real
+pub mod Reached
