@@ -5,7 +5,7 @@ use Rattle.def_machine.specs.Values.{Name}
 use Rattle.def_machine.specs.State.{Vat, Note, Deliver, is_in}
 use Rattle.def_run.specs.Numbers as run
 use Rattle.def_run.specs.Numbers.{Frame, Way, Vats, severed, way_at, with_way, carried_in, lost_frames, ready}
-use Rattle.def_run.specs.Vats.{Member, connection_for}
+use Rattle.def_run.specs.Vats.{Member}
 use Rattle.def_run.specs.Wire.{connected_at}
 use Rattle.def_run.specs.World as world
 use Rattle.def_run.specs.World.{Script, Event, CutAt, LostCut, Link, World, link_at, with_link, severed_link, is_link, lost_by, readied}
@@ -17,15 +17,11 @@ use Rattle.def_hostile.specs.Numbers as numbers
 use Rattle.def_hostile.specs.Numbers.{Cast, made_after, puts_of}
 use Rattle.def_hostile.specs.Outsiders.{Outsider}
 use Rattle.law_fate.specs.Name.Names.{AllOf}
-use Rattle.law_reference.specs.Reference.Exports.{exported_at}
-use Rattle.law_reference.specs.Reference.Tables.{table_of}
-use Rattle.law_machine.specs.Renamed.Stands.{Table, Is, found, StandsFor}
-use Rattle.law_frame.specs.Frame.Together.{changed_tables}
-use Rattle.law_frame.specs.Local.Mirrors.{VatMirrors, WayMirrors, WaysMirror, FramesDue, LearntAre}
-use Rattle.law_frame.proofs.Local.Cuts.{same_exported}
+use Rattle.law_frame.specs.Local.Mirrors.{WayMirrors, WaysMirror, FramesDue}
 use Rattle.law_frame.proofs.Local.Ways.{MayMirror, Came, at_mirrors, with_mirrors, way_came}
 use Rattle.law_hostile_frame.specs.Cuts.{CutsMirror}
-use Rattle.law_hostile_frame.specs.Mirrors.{HonestMirrors, OutsiderMirrors, SceneMirrors}
+use Rattle.law_hostile_frame.specs.Tables.{table_in}
+use Rattle.law_hostile_frame.specs.Mirrors.{VatMirrors, HonestMirrors, OutsiderMirrors, SceneMirrors}
 
 joined : {ws xs ys zs : List Event} → ws ≡ xs → ys ≡ zs → ws ++ ys ≡ xs ++ zs
 joined e i = cc
@@ -34,10 +30,6 @@ pub lines_joined : {ws xs ys zs : List Line} → ws ≡ xs → ys ≡ zs → ws 
 lines_joined e i = cc
 
 -- ---- what a cut leaves of links and ways
-
-cut_exported : (v u t : ℕ) (ls : List Link) → exported_at (with_link severed_link u v (with_link severed_link v u ls)) t ≡ exported_at ls t
-unfolding severed_link
-cut_exported v u t ls = same_exported severed_link (λ l. refl) (λ l. refl) (λ l. refl) (λ l. refl) u v t (with_link severed_link v u ls) ∙ same_exported severed_link (λ l. refl) (λ l. refl) (λ l. refl) (λ l. refl) v u t ls
 
 severed_mirrors : (l : Link) (x : Way) → WayMirrors l x → WayMirrors (severed_link l) (severed x)
 unfolding severed_link severed
@@ -113,7 +105,7 @@ unfolding with_gifts
 with_all [] cs a = refl
 with_all (g ∷ gs) cs a = ap (λ (b : Bool). with_gifts gs (elim b [ true ↦ cs | false ↦ cs ++ g ∷ [] ])) a.0 ∙ with_all gs cs a.1
 
-some_put : (o : Option Member) (cs : List Claim) → ((m : Member) → o ≡ Some m → AllOf (λ (g : Claim). is_claimed cs g.host g.number ≡ true) (made_by m.vat.outbox)) → with_gifts (puts_of o) cs ≡ cs
+pub some_put : (o : Option Member) (cs : List Claim) → ((m : Member) → o ≡ Some m → AllOf (λ (g : Claim). is_claimed cs g.host g.number ≡ true) (made_by m.vat.outbox)) → with_gifts (puts_of o) cs ≡ cs
 unfolding puts_of with_gifts
 some_put None cs f = refl
 some_put (Some m) cs f = with_all (made_by m.vat.outbox) cs (f m refl)
@@ -133,28 +125,15 @@ module _ (play : Play) (s : Scene) (c : Cast) (h : SceneMirrors play s c) (v u :
   abbrev pub here : Vats
   here = record c.vats { ways = ways; history = fs }
 
-  table_same : (t : ℕ) (r : Vat Name) → table_of now t r ≡ table_of s.world t r
-  unfolding table_of
-  table_same t r = rw (cut_exported v u t s.world.links) refl
-
   vat_cut : (t : ℕ) (r : Vat Name) (m : Member) → VatMirrors s.world c.vats t r m → VatMirrors now here t r m
-  unfolding readied ready
-  vat_cut t r m k = record {
-    placed = k.placed;
-    stands = subst (λ (z : Table). StandsFor t z (ready c.vats m.vat) (readied s.world r)) (sym (table_same t r)) k.stands;
-    known = k.known;
-    mails = k.mails;
-    positions = λ g p j e. k.positions g p j (sym (ap (λ (f : ℕ → ℕ → Option ℕ). f g p) (cut_exported v u t s.world.links)) ∙ e);
-    peers = k.peers;
-    connections = λ z i. subst (λ (x : Table). changed_tables (found t x) (connection_for z m) ≡ changed_tables Is (connected_at t z s.world.connections).tables) (sym (table_same t r)) (k.connections z i);
-    learnt = subst (λ (x : Table). LearntAre t x m.learnt) (sym (table_same t r)) k.learnt;
-  }
+  unfolding table_in readied ready
+  vat_cut t r m k = record { placed = k.placed; stands = k.stands; known = k.known; mails = k.mails; positions = k.positions; peers = k.peers; connections = k.connections; learnt = k.learnt }
 
-  honest_cut : (t : ℕ) (r : Vat Name) (m : Member) → HonestMirrors s.world c.vats t r m → HonestMirrors now here t r m
+  honest_cut : (t : ℕ) (r : Vat Name) (m : Member) → HonestMirrors play s.world c.vats t r m → HonestMirrors play now here t r m
   honest_cut t r m k = record { vat = vat_cut t r m k.vat; knows = k.knows }
 
   outsider_cut : (t : ℕ) (r : Vat Name) (o : Outsider) (g : Member) → OutsiderMirrors s.world c.vats play t r o g → OutsiderMirrors now here play t r o g
-  outsider_cut t r o g k = record { objects = k.objects; promises = k.promises; messages = k.messages; exports = k.exports; peers = k.peers; idle = k.idle; empty = k.empty }
+  outsider_cut t r o g k = record { objects = k.objects; promises = k.promises; messages = k.messages; exports = k.exports; plain = k.plain; peers = k.peers; idle = k.idle; empty = k.empty }
 
   cut_frames : (a b : ℕ) (x : Way) → way_at a b ways ≡ Some x → x.cut ≡ false → FramesDue (connected_at a b s.world.connections) (connected_at b a s.world.connections) x
   cut_frames a b x e d = h.frames a b x (uncut_before v u a b c.vats.ways x (uncut_before u v a b (with_way severed v u c.vats.ways) x e d) d) d

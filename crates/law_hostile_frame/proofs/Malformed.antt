@@ -17,9 +17,9 @@ use Rattle.def_hostile.specs.Judge.{Verdict, Malformed, verdict}
 use Rattle.def_hostile.specs.Numbers as numbers
 use Rattle.def_hostile.specs.Numbers.{Cast}
 use Rattle.def_hostile.specs.NumbersText as numbers_text
-use Rattle.law_reference.specs.Reference.Tables.{table_of}
 use Rattle.law_machine.specs.Renamed.Stands.{IsTable}
-use Rattle.law_hostile_frame.specs.Cuts.{NoticesMirrorIn, MalformedFramesMirror}
+use Rattle.law_hostile_frame.specs.Cuts.{NoticeMirrorsBehindCut, MalformedFramesMirror}
+use Rattle.law_hostile_frame.specs.Tables.{table_in}
 use Rattle.law_hostile_frame.specs.Mirrors.{SceneMirrors, ActsMirror}
 use Rattle.law_hostile_frame.proofs.Counts.{verdicts_agree}
 use Rattle.law_hostile_frame.proofs.Cuts.{now, here, cut_so, cut_told, told_alike, lines_joined}
@@ -70,17 +70,17 @@ module _ (play : Play) (h u place k : ℕ) (s : Scene) (c : Cast) (m : SceneMirr
   noticed_so (Goes z) (Halts f j Z) a = absurd a
   noticed_so (Stopped e n z) (Runs Z) a = absurd a
 
-  pub malformed_so : NoticesMirrorIn play → is_hostile play u ≡ false → ActsMirror play (names.malformed play k h u place s) (numbers.malformed play k h u place c)
+  pub malformed_so : NoticeMirrorsBehindCut play h u k s → is_hostile play u ≡ false → ActsMirror play (names.malformed play k h u place s) (numbers.malformed play k h u place c)
   unfolding names.malformed numbers.malformed names.noticed_after numbers.noticed_after world.cut run.cut
-  malformed_so notices honest = noticed_so (world.step play.script (NoticeLink u h) k between) (run.step play.script (NoticeLink u h) k there) (notices u h k (names.step_of play k) halfway half honest mirrors_halfway)
+  malformed_so notices honest = noticed_so (world.step play.script (NoticeLink u h) k between) (run.step play.script (NoticeLink u h) k there) (notices between half refl mirrors_halfway)
 
-  judged_so : (bytes : List ℕ) (g : Member) (v w : Verdict) → w ≡ v → v ≡ Malformed place → NoticesMirrorIn play → is_hostile play u ≡ false
+  judged_so : (bytes : List ℕ) (g : Member) (v w : Verdict) → w ≡ v → v ≡ Malformed place → NoticeMirrorsBehindCut play h u k s → is_hostile play u ≡ false
       → ActsMirror play (names.judged_frame play k h u bytes s v) (numbers.judged_frame play k h u bytes c g w)
   unfolding names.judged_frame numbers.judged_frame
   judged_so bytes g v w e i notices honest = rw (e, i) (malformed_so notices honest)
 
-  framed_so : (bytes : List ℕ) (t : Vat Name) (g : Member) (o : Option Member) → o ≡ Some g → h < length c.vats.members → slice_get s.world.vats u ≡ Some t → slice_get c.vats.members u ≡ Some g → IsTable u (table_of s.world u t)
-      → verdict (length play.script.vats) u h (counts (connected_at u h s.world.connections).tables) bytes ≡ Malformed place → NoticesMirrorIn play → is_hostile play u ≡ false
+  framed_so : (bytes : List ℕ) (t : Vat Name) (g : Member) (o : Option Member) → o ≡ Some g → h < length c.vats.members → slice_get s.world.vats u ≡ Some t → slice_get c.vats.members u ≡ Some g → IsTable u (table_in s.world u t)
+      → verdict (length play.script.vats) u h (counts (connected_at u h s.world.connections).tables) bytes ≡ Malformed place → NoticeMirrorsBehindCut play h u k s → is_hostile play u ≡ false
       → ActsMirror play (names.judged_frame play k h u bytes s (verdict (length play.script.vats) u h (counts (connected_at u h s.world.connections).tables) bytes)) (numbers.frame_for play k h u bytes c o)
   unfolding numbers.frame_for
   framed_so bytes t g None e below at there good bad notices honest = cc
@@ -89,9 +89,9 @@ module _ (play : Play) (h u place k : ℕ) (s : Scene) (c : Cast) (m : SceneMirr
       let v : Verdict = verdict (length play.script.vats) u h (counts (connected_at u h s.world.connections).tables) bytes in
       let one : verdict (length play.script.vats) u h (counts_in (connection_for h x)) bytes ≡ v =
       ap (λ (y : Member). verdict (length play.script.vats) u h (counts_in (connection_for h y)) bytes) same
-      ∙ verdicts_agree u (table_of s.world u t) good (connection_for h g) (connected_at u h s.world.connections).tables ((m.honest u t g honest at there).vat.connections h below) (length play.script.vats) h bytes in
+      ∙ verdicts_agree u (table_in s.world u t) good (connection_for h g) (connected_at u h s.world.connections).tables ((m.honest u t g honest at there).vat.connections h below) (length play.script.vats) h bytes in
       judged_so bytes x v (verdict (length play.script.vats) u h (counts_in (connection_for h x)) bytes) one bad notices honest
 
 pub malformed_frames_mirror : MalformedFramesMirror
 unfolding names.frame_comes numbers.frame_comes
-malformed_frames_mirror play notices h u place k bytes s c t g honest below m at there good bad = framed_so play h u place k s c m bytes t g (slice_get c.vats.members u) there below at there good bad notices honest
+malformed_frames_mirror play h u place k bytes s c t g notices honest below m at there good bad = framed_so play h u place k s c m bytes t g (slice_get c.vats.members u) there below at there good bad notices honest

@@ -1,14 +1,16 @@
 -- The two runs at the start, where some vats are hostile.
 use Rattle.std.proofs.Common.{◌≡◌, ℕ, zero, suc, Bool, true, false, List, [], ◌∷◌, ◌++◌, Some, refl, sym, ap, ◌∙◌, subst, length, map}
-use Rattle.std.specs.Prelude.{slice_get, is_some, ◌==◌}
+use Rattle.std.specs.Prelude.{slice_get, get_or, is_some, Option, None, ◌==◌}
 use Rattle.std.proofs.lemmas.List.{length-map}
-use Rattle.def_machine.specs.Values.{Name, Gift, Local, same_name}
+use Rattle.def_machine.specs.Values.{Name, Root, Gift, Local, Prom, same_name}
 use Rattle.def_machine.specs.State.{Vat, begun, is_in}
 use Rattle.def_run.specs.Connections.{Connection, learnt_at}
 use Rattle.def_run.specs.Numbers as run
 use Rattle.def_run.specs.Numbers.{Way, Vats, name_at_vat, link_of, left_member}
-use Rattle.def_run.specs.Vats.{Member, connection_for}
-use Rattle.def_run.specs.Wire.{connected_at}
+use Rattle.def_run.specs.Names.{Names}
+use Rattle.def_run.specs.Vats.{Member, connection_for, unconnected}
+use Rattle.def_run.specs.Wire as wire
+use Rattle.def_run.specs.Wire.{Connected, connected_at, connects, is_object}
 use Rattle.def_run.specs.World as world
 use Rattle.def_run.specs.World.{Script, Program, Link, World, has_name, left_vat}
 use Rattle.def_hostile.specs.Claims.{Claim, is_claimed, is_made, made_on, made_in}
@@ -19,12 +21,18 @@ use Rattle.def_hostile.specs.Numbers as numbers
 use Rattle.def_hostile.specs.Outsiders.{Outsider, nobody, starting}
 use Rattle.law_fate.specs.Name.Names.{AllOf, names_in}
 use Rattle.law_fate.proofs.Name.SameNames.{at_all}
+use Rattle.law_reference.specs.Reference.Exports.{exported_at, object_of}
+use Rattle.law_reference.specs.Reference.Logs.{exports, exports_after, questions, log_of, roots_of}
 use Rattle.law_reference.specs.Reference.Tables.{table_of}
 use Rattle.law_machine.specs.Renamed.Stands.{Found}
-use Rattle.law_frame.specs.Local.Mirrors.{Mirrors, VatMirrors, WaysMirror}
+use Rattle.law_machine.proofs.Renamed.Stands.{Extends, still}
+use Rattle.law_frame.specs.Local.Mirrors as mirrors
+use Rattle.law_frame.specs.Local.Mirrors.{Mirrors, WaysMirror}
+use Rattle.law_frame.proofs.Local.Steps.{tables_still, learnt_still}
 use Rattle.law_frame.proofs.Local.Named.{name_is}
 use Rattle.law_frame.proofs.Local.Starts.{start_mirrors, vats_count}
-use Rattle.law_hostile_frame.specs.Mirrors.{HonestMirrors, OutsiderMirrors, SceneMirrors}
+use Rattle.law_hostile_frame.specs.Mirrors.{IsPlain, VatMirrors, HonestMirrors, OutsiderMirrors, SceneMirrors}
+use Rattle.law_hostile_frame.specs.Tables.{had_at, table_in}
 use Rattle.law_hostile_frame.specs.Steps.{StartsMirror}
 use Rattle.law_hostile_frame.proofs.Counts.{named_all}
 
@@ -83,6 +91,98 @@ unfolding has_name same_name world.known_root begun
 no_gift h i [] = refl
 no_gift h i (w ∷ ws) = no_gift h i ws
 
+-- ---- what is exported at the start
+
+-- a link on which nothing was put, and whose roots are no objects
+abbrev RootsAlone : Link → Type 0
+RootsAlone l = IsEmptyLink l × ((p : ℕ) → object_of (slice_get l.roots p) ≡ None)
+
+no_object : (v : ℕ) (p : Program) (k : ℕ) → object_of (slice_get (world.roots_for v p) k) ≡ None
+unfolding world.roots_for object_of
+no_object v p k = by (is_in v p.knows) k
+  where
+    by : (b : Bool) (i : ℕ) → object_of (slice_get (elim b [ true ↦ Root v ∷ [] | false ↦ [] ]) i) ≡ None
+    by true zero = refl
+    by true (suc i) = refl
+    by false i = refl
+
+to_alone : (v u : ℕ) (ps : List Program) → AllOf RootsAlone (world.links_to v u ps)
+unfolding world.links_to
+to_alone v u [] = tt
+to_alone v u (p ∷ ps) =
+    let rest = to_alone v (suc u) ps in
+    by_bool (λ b. AllOf RootsAlone (elim b [ true ↦ world.links_to v (suc u) ps | false ↦ record { from = v; to = u; cut = false; notes = []; roots = world.roots_for v p; log = [] } ∷ world.links_to v (suc u) ps ])) rest ((refl, no_object v p), rest) (v == u)
+
+roots_alone : (all : List Program) (v : ℕ) (ps : List Program) → AllOf RootsAlone (world.links_from all v ps)
+unfolding world.links_from
+roots_alone all v [] = tt
+roots_alone all v (p ∷ ps) = all_join RootsAlone (world.links_to v zero all) (world.links_from all (suc v) ps) (to_alone v zero all) (roots_alone all (suc v) ps)
+
+abbrev NothingPut : Option Link → Type 0
+NothingPut o = (log_of o ≡ []) × ((p : ℕ) → object_of (slice_get (roots_of o) p) ≡ None)
+
+at_alone : (v u : ℕ) (ls : List Link) → AllOf RootsAlone ls → NothingPut (world.link_at v u ls)
+unfolding world.link_at log_of roots_of object_of
+at_alone v u [] h = (refl, λ p. refl)
+at_alone v u (l ∷ ls) h = by_bool (λ b. NothingPut (elim b [ true ↦ Some l | false ↦ world.link_at v u ls ])) h.0 (at_alone v u ls h.1) (world.is_link v u l)
+
+none_or : (b : Bool) (o : Option ℕ) (j : ℕ) → o ≡ None → ◌≡◌ {A = Option ℕ} (elim b [ true ↦ None | false ↦ o ]) (Some j) → ⊥
+none_or true o j e i = cc
+none_or false o j e i = cc
+
+none_exported : (ls : List Link) → AllOf RootsAlone ls → (u h p j : ℕ) → exported_at ls u h p ≡ Some j → ⊥
+unfolding exported_at exports exports_after
+none_exported ls a u h p j e =
+    let f : NothingPut (world.link_at h u ls) = at_alone h u ls a in
+    none_or (u == h) (object_of (slice_get (exports_after h (questions (λ i. i) ls u h) (log_of (world.link_at h u ls)) (roots_of (world.link_at h u ls))) p)) j
+    (ap (λ ns. object_of (slice_get (exports_after h (questions (λ i. i) ls u h) ns (roots_of (world.link_at h u ls))) p)) f.0 ∙ f.1 p) e
+
+-- a connection on which no object was exported
+abbrev Bare : Connected → Type 0
+Bare c = (p : ℕ) → object_of (slice_get c.tables.exports p) ≡ None
+
+to_bare : (v : ℕ) (p : Program) (w : ℕ) (qs : List Program) → AllOf Bare (world.connections_to v p w qs)
+unfolding world.connections_to world.first_connection
+to_bare v p w [] = tt
+to_bare v p w (q ∷ qs) =
+    let rest = to_bare v p (suc w) qs in
+    by_bool (λ b. AllOf Bare (elim b [ true ↦ world.connections_to v p (suc w) qs | false ↦ world.first_connection v w p q ∷ world.connections_to v p (suc w) qs ])) rest (no_object v q, rest) (v == w)
+
+connections_bare : (all : List Program) (v : ℕ) (ps : List Program) → AllOf Bare (world.connections_from all v ps)
+unfolding world.connections_from
+connections_bare all v [] = tt
+connections_bare all v (p ∷ ps) = all_join Bare (world.connections_to v p zero all) (world.connections_from all (suc v) ps) (to_bare v p zero all) (connections_bare all (suc v) ps)
+
+at_bare : (v u : ℕ) (cs : List Connected) → AllOf Bare cs → Bare (connected_at v u cs)
+unfolding connected_at wire.unconnected object_of
+at_bare v u [] h = λ p. refl
+at_bare v u (c ∷ cs) h = by_bool (λ b. Bare (elim b [ true ↦ c | false ↦ connected_at v u cs ])) h.0 (at_bare v u cs h.1) (connects v u c)
+
+none_had : (cs : List Connected) → AllOf Bare cs → (u h p j : ℕ) → had_at cs u h p ≡ Some j → ⊥
+unfolding had_at
+none_had cs a u h p j e = none_or (u == h) (object_of (slice_get (connected_at h u cs).tables.exports p)) j (at_bare h u cs a p) e
+
+-- a number that is exported at the start is that of the root
+plain_if : (v : ℕ) (ns : List Name) → slice_get ns zero ≡ Some (Root v) → (b : Bool) → AllOf (IsPlain ns) (elim b [ true ↦ Prom zero ∷ [] | false ↦ [] ])
+unfolding is_object
+plain_if v ns e true = ((Root v, e, refl), tt)
+plain_if v ns e false = tt
+
+all_plain : (u : ℕ) (p : Program) (v : ℕ) (qs : List Program) (ns : List Name) → slice_get ns zero ≡ Some (Root u) → AllOf (λ (c : Connection Local). AllOf (IsPlain ns) c.exports) (run.connections_from u p v qs)
+unfolding run.connections_from run.first_connection unconnected
+all_plain u p v [] ns e = tt
+all_plain u p v (q ∷ qs) ns e =
+    (by_bool (λ b. AllOf (IsPlain ns) (either b (run.first_connection u v p q)).exports) tt (plain_if u ns e (is_in u q.knows)) (u == v), all_plain u p (suc v) qs ns e)
+  where
+    either : Bool → Connection Local → Connection Local
+    either b c = elim b [ true ↦ unconnected | false ↦ c ]
+
+plain_got : (ns : List Name) (cs : List (Connection Local)) → AllOf (λ (c : Connection Local). AllOf (IsPlain ns) c.exports) cs → (u : ℕ) → AllOf (IsPlain ns) (get_or cs u unconnected).exports
+unfolding unconnected
+plain_got ns [] h u = tt
+plain_got ns (c ∷ cs) h zero = h.0
+plain_got ns (c ∷ cs) h (suc u) = plain_got ns cs h.1 u
+
 -- what is asked of a state in names, and of a member
 pub record FreshState (script : Script) (s : Vat Name) : Type 0 where
   pub gifts : (h i : ℕ) → has_name (names_in s.known) (Gift h i) ≡ false
@@ -94,7 +194,8 @@ pub record FreshState (script : Script) (s : Vat Name) : Type 0 where
 pub record FreshMember (script : Script) (m : Member) : Type 0 where
   pub learnt : m.learnt ≡ []
   pub outbox : m.vat.outbox ≡ []
-  pub left : (ms : List Member) (u : ℕ) → left_member script ms u m ≡ []
+  pub plain : (u : ℕ) → AllOf (IsPlain m.names.known) (connection_for u m).exports
+  pub left : (ms : List Member) (u : ℕ) (t : Names) → left_member script ms u (record m { names = t }) ≡ []
 
 module _ (script : Script) where
   none_held : (v : ℕ) (ws : List ℕ) → world.left_held script v (map world.known_root ws) ≡ []
@@ -127,12 +228,13 @@ module _ (script : Script) where
   none_waits_here u k f (w ∷ ws) = none_waits_here u (suc k) f ws
 
   fresh_member : (v : ℕ) (p : Program) → FreshMember script (run.fresh_member script v p)
-  unfolding run.fresh_member run.fresh_vat left_member run.left_held run.left_wait begun
+  unfolding run.fresh_member run.fresh_vat left_member run.left_held run.left_wait begun connection_for
   fresh_member v p = record {
     learnt = refl;
     outbox = refl;
-    left = λ ms u.
-        let f : Local → Name = name_at_vat ms u (run.fresh_member script v p).names in
+    plain = λ u. plain_got (Root v ∷ map Root p.knows) (run.connections_from v p zero script.vats) (all_plain v p zero script.vats (Root v ∷ map Root p.knows) refl) u;
+    left = λ ms u t.
+        let f : Local → Name = name_at_vat ms u t in
         ap (λ es. es ++ run.left_wait script u f (run.roots_known 1 p.knows)) (none_held_here u 1 f p.knows) ∙ none_waits_here u 1 f p.knows;
   }
 
@@ -166,9 +268,37 @@ module _ (play : Play) where
   unfolding run.begins
   member_at u m e = at_all (FreshMember play.script) (run.fresh_from play.script zero play.script.vats) u m (members_fresh play.script zero play.script.vats) e
 
-  honest_at : (u : ℕ) (t : Vat Name) (m : Member) → slice_get w.vats u ≡ Some t → slice_get W.members u ≡ Some m → HonestMirrors w W u t m
+  -- nothing was exported but roots, by the notes that were put as by tables
+  none_logged : (u h p j : ℕ) → exported_at w.links u h p ≡ Some j → ⊥
+  unfolding world.begins
+  none_logged u h p j e = none_exported (world.links_from play.script.vats zero play.script.vats) (roots_alone play.script.vats zero play.script.vats) u h p j e
+
+  none_told : (u h p j : ℕ) → had_at w.connections u h p ≡ Some j → ⊥
+  unfolding world.begins
+  none_told u h p j e = none_had (world.connections_from play.script.vats zero play.script.vats) (connections_bare play.script.vats zero play.script.vats) u h p j e
+
+  more : (u : ℕ) (t : Vat Name) → Extends (table_of w u t) (table_in w u t)
+  unfolding table_of table_in
+  more u t = record { names = λ k n e. e; mails = λ k n e. e; exports = λ h p j e. absurd (none_logged u h p j e) }
+
+  vat_at : (u : ℕ) (t : Vat Name) (m : Member) → slice_get w.vats u ≡ Some t → slice_get W.members u ≡ Some m → VatMirrors w W u t m
+  vat_at u t m e f = let v = M.vats u t m e f in record {
+    placed = v.placed;
+    stands = still u (table_of w u t) (table_in w u t) (more u t) (run.ready W m.vat) (world.readied w t) v.stands;
+    known = v.known;
+    mails = v.mails;
+    positions = λ h p j i. absurd (none_told u h p j i);
+    peers = v.peers;
+    connections = λ z i. tables_still u (table_of w u t) (table_in w u t) (more u t) (connection_for z m) (connected_at u z w.connections).tables (v.connections z i);
+    learnt = learnt_still u (table_of w u t) (table_in w u t) (more u t) m.learnt v.learnt;
+  }
+
+  honest_at : (u : ℕ) (t : Vat Name) (m : Member) → slice_get w.vats u ≡ Some t → slice_get W.members u ≡ Some m → HonestMirrors play w W u t m
   unfolding learnt_at
-  honest_at u t m e f = record { vat = M.vats u t m e f; knows = λ h i n. (state_at u t e).gifts h i ∙ sym (ap (λ gs. is_some (learnt_at h i gs)) (member_at u m f).learnt) }
+  honest_at u t m e f = record { vat = vat_at u t m e f; knows = λ some h i n k. (state_at u t e).gifts h i ∙ sym (ap (λ gs. is_some (learnt_at h i gs)) (member_at u m f).learnt) }
+
+  plain_at : (u h : ℕ) (g : Member) → slice_get W.members h ≡ Some g → AllOf (IsPlain g.names.known) (connection_for u g).exports
+  plain_at u h g k = (member_at h g k).plain u
 
   outsider_at : (h : ℕ) (r : Vat Name) (o : Outsider) (g : Member) → slice_get w.vats h ≡ Some r → slice_get (starting play.script.vats) h ≡ Some o → slice_get W.members h ≡ Some g → OutsiderMirrors w W play h r o g
   unfolding nobody
@@ -176,15 +306,16 @@ module _ (play : Play) where
       let x = state_at h r e in
       let y = member_at h g k in
       let z : o ≡ nobody = at_all (λ (q : Outsider). q ≡ nobody) (starting play.script.vats) h o (nobody_yet play.script.vats) f in
-      let v : VatMirrors w W h r g = M.vats h r g e k in
+      let v : mirrors.VatMirrors w W h r g = M.vats h r g e k in
       record {
         objects = ap (λ (q : Outsider). q.objects) z ∙ sym (ap length x.things);
         promises = ap (λ (q : Outsider). q.promises) z ∙ sym x.promises;
         messages = ap (λ (q : Outsider). q.messages) z ∙ sym x.messages;
         exports = λ u i. named_all h (table_of w h r) (name_at_vat W.members h g.names) (name_is w W h r g.names v.known v.mails v.positions) (connection_for u g).exports (connected_at h u w.connections).tables.exports (ap (λ (c : Connection Found). c.exports) (v.connections u i));
+        plain = λ u i. plain_at u h g k;
         peers = v.peers;
         idle = x.left;
-        empty = y.left W.members h;
+        empty = λ ms t. y.left ms h t;
       }
 
   made_so : (h i : ℕ) → is_claimed [] h i ≡ is_made play.hostile h i w.links

@@ -10,23 +10,22 @@ use Rattle.def_hostile.specs.Hostile.{Play, Scene, Line, Told, Injected, NotInje
 use Rattle.def_hostile.specs.Numbers as numbers
 use Rattle.def_hostile.specs.Numbers.{Cast}
 use Rattle.def_hostile.specs.Outsiders.{Outsider}
-use Rattle.law_reference.specs.Reference.Tables.{table_of}
-use Rattle.law_frame.specs.Local.Mirrors.{VatMirrors}
 use Rattle.law_frame.proofs.Local.Ways.{same_cut}
-use Rattle.law_hostile_frame.specs.Mirrors.{HonestMirrors, OutsiderMirrors, SceneMirrors, ActsMirror}
+use Rattle.law_hostile_frame.specs.Tables.{table_in}
+use Rattle.law_hostile_frame.specs.Mirrors.{VatMirrors, HonestMirrors, OutsiderMirrors, SceneMirrors, ActsMirror}
 use Rattle.law_hostile_frame.specs.Steps.{LinesMirror, EventsMirror, InjectionsMirror, IdleTurnsMirror, IdleNoticesMirror, UnreadFramesMirror}
 
 -- ---- more lines
 
 vat_told : (w : World) (W : Vats) (es fs : List Event) (u : ℕ) (s : Vat Name) (m : Member) → VatMirrors w W u s m → VatMirrors (record w { history = es }) (record W { history = fs }) u s m
-unfolding table_of readied ready
+unfolding table_in readied ready
 vat_told w W es fs u s m h = record { placed = h.placed; stands = h.stands; known = h.known; mails = h.mails; positions = h.positions; peers = h.peers; connections = h.connections; learnt = h.learnt }
 
-honest_told : (w : World) (W : Vats) (es fs : List Event) (u : ℕ) (s : Vat Name) (m : Member) → HonestMirrors w W u s m → HonestMirrors (record w { history = es }) (record W { history = fs }) u s m
-honest_told w W es fs u s m h = record { vat = vat_told w W es fs u s m h.vat; knows = h.knows }
+honest_told : (w : World) (W : Vats) (play : Play) (es fs : List Event) (u : ℕ) (s : Vat Name) (m : Member) → HonestMirrors play w W u s m → HonestMirrors play (record w { history = es }) (record W { history = fs }) u s m
+honest_told w W play es fs u s m h = record { vat = vat_told w W es fs u s m h.vat; knows = h.knows }
 
 outsider_told : (w : World) (W : Vats) (play : Play) (es fs : List Event) (h : ℕ) (r : Vat Name) (o : Outsider) (g : Member) → OutsiderMirrors w W play h r o g → OutsiderMirrors (record w { history = es }) (record W { history = fs }) play h r o g
-outsider_told w W play es fs h r o g k = record { objects = k.objects; promises = k.promises; messages = k.messages; exports = k.exports; peers = k.peers; idle = k.idle; empty = k.empty }
+outsider_told w W play es fs h r o g k = record { objects = k.objects; promises = k.promises; messages = k.messages; exports = k.exports; plain = k.plain; peers = k.peers; idle = k.idle; empty = k.empty }
 
 -- with these histories, lines and raw frames
 pub told : (play : Play) (s : Scene) (c : Cast) (es fs : List Event) (ls ks : List Line) (rs qs : List Raw) → SceneMirrors play s c → fs ≡ es → ks ≡ ls → qs ≡ rs
@@ -46,7 +45,7 @@ told play s c es fs ls ks rs qs h e i j = record {
   ends = h.ends;
   frames = h.frames;
   references = h.references;
-  honest = λ u t m a b d. honest_told s.world c.vats es fs u t m (h.honest u t m a b d);
+  honest = λ u t m a b d. honest_told s.world c.vats play es fs u t m (h.honest u t m a b d);
   hostile = λ v r o g a b d f. outsider_told s.world c.vats play es fs v r o g (h.hostile v r o g a b d f);
 }
 

@@ -130,7 +130,7 @@ module _ (script : Script) (once : KnowsOnce script) (w x : World) (es : List En
   told : TellsOfGood n → Tells n
   told = told_of n refl
 
-  new_so : Tells n
+  pub new_so : Tells n
   new_so = tells_new n (asks_anew script once w x es k follow opened stepped v u l n ns at uncut notes s there) told
 
   where_new : (IsAmong (draw_word script.key (length x.drawn)) x.drawn → ⊥) → SameOutcome (receive K S v (read_note (names_of s) n) R) (arrive K v (read_note (names_of s) n) R)

@@ -1,0 +1,3 @@
+pub mod Received
+pub mod Next
+pub mod Runs

@@ -1,0 +1,11 @@
+pub mod Gifts
+pub mod Steps
+pub mod Own
+pub mod Receives
+pub mod Sights
+pub mod Links
+pub mod Swallows
+pub mod Made
+pub mod Closing
+pub mod Plays
+pub mod Doings

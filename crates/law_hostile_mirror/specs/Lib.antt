@@ -1,0 +1,9 @@
+pub mod Gifts
+pub mod Steps
+pub mod Own
+pub mod Receives
+pub mod Sights
+pub mod Swallows
+pub mod Made
+pub mod Plays
+pub mod Doings

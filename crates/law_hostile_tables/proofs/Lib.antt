@@ -1,0 +1,11 @@
+pub mod Lift
+pub mod Order
+pub mod Tell
+pub mod Steps
+pub mod Tables
+pub mod Heard
+pub mod Puts
+pub mod Standing
+pub mod Kept
+pub mod Own
+pub mod Positions

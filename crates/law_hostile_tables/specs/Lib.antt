@@ -1,0 +1,4 @@
+pub mod Positions
+pub mod Steps
+pub mod Telling
+pub mod Tables
