@@ -80,9 +80,22 @@ module _ (hostile : List ℕ) (ls : List Link) where
   unnamed_gift h i true = AGift h i
   unnamed_gift h i false = AGift h (spelled_out i)
 
+  unfoldable pub unnamed_key : ℕ → Bool → ℕ
+  unnamed_key i true = i
+  unnamed_key i false = spelled_out i
+
+  -- and one that the frame, or the vat that it comes to, names again
+  unfoldable pub unnamed_again : List Claim → Name → Name
+  unnamed_again cs (Gift h i) = Gift h (unnamed_key i (is_named cs (record { host = h; number = base i })))
+  unnamed_again cs (Root v) = Root v
+  unnamed_again cs (Object v i) = Object v i
+  unnamed_again cs (Promise v i) = Promise v i
+  unnamed_again cs (Answer h m) = Answer h m
+  unnamed_again cs (Sent m) = Sent m
+
   unfoldable mutual
     pub unnamed_passed : List Claim → Passed Name → Passed Name
-    unnamed_passed cs (Plain y) = Plain y
+    unnamed_passed cs (Plain y) = Plain (maps.value (unnamed_again cs) y)
     unnamed_passed cs (AGift h i) = unnamed_gift h i (is_named cs (record { host = h; number = i }))
     unnamed_passed cs (Many ys) = Many (unnamed_all cs ys)
 
@@ -153,5 +166,5 @@ module _ (cs : List Claim) where
 
 -- opens each definition of this file, and of those below
 unfoldable pub opened_claims : Unit {0}
-unfolding is_claim is_claimed gifts_in_passed gifts_in_all gifts_in makes made_in made_on is_made is_named claim_all unnamed_gift unnamed_passed unnamed_all unnamed spelled_if spelled_key spelled spelled_passed spelled_all spelled_note spelled_event opened_marks opened_world
+unfolding is_claim is_claimed gifts_in_passed gifts_in_all gifts_in makes made_in made_on is_made is_named claim_all unnamed_gift unnamed_key unnamed_again unnamed_passed unnamed_all unnamed spelled_if spelled_key spelled spelled_passed spelled_all spelled_note spelled_event opened_marks opened_world
 opened_claims = tt

@@ -8,7 +8,7 @@ use Rattle.def_machine.specs.Arrive.{Incoming, Old, New}
 use Rattle.def_machine.specs.Receive.{is_told, receive}
 use Rattle.def_machine.specs.Maps as maps
 use Rattle.def_run.specs.Connections.{Connection, Newcomers, Heard, note_heard}
-use Rattle.def_run.specs.Wire.{Connected, is_object, connected_at, with_connected, numbered}
+use Rattle.def_run.specs.Wire.{Connected, is_object, connected_at, with_connected, numbered, hear_at, write_all}
 use Rattle.def_run.specs.World.{Script, Program, Entry, Turn, Carry, CutLink, NoticeLink, Event, Carried, Idle, NoticedAt, LeftLink, Ends, Link, World, Run, Goes, Stopped, link_at, with_link, with_notes, within, next_frame, read_note, names, names_of, begins, open_vat, step, cut, is_cut, left_vats}
 use Rattle.def_run.specs.Deeds.{Deed, NewObject, NewPromise, NewMessage, NewLone, Learns, perform_all, hear}
 use Rattle.def_hostile.specs.Judge.{Counts, Verdict, Lawful, Malformed, verdict}
@@ -259,19 +259,25 @@ module _ (play : Play) where
   entered_note true v u w s n = n
   entered_note false v u w s n = entered u v (connected_at v u w.connections).tables.exports (names_of s) n
 
-  unfoldable pub placed_imports : Bool → ℕ → ℕ → World → World
-  placed_imports true v u w = w
-  placed_imports false v u w = record w { connections = imports_placed u v w.connections }
+  -- what vat u put, written behind what it heard
+  unfoldable pub written_behind : ℕ → List Connected → Option (Vat Name) → List Connected
+  written_behind u cs None = cs
+  written_behind u cs (Some r) = write_all u r.outbox cs
 
-  unfoldable pub then_places : ℕ → ℕ → Run → Run
-  then_places v u (Goes y) = Goes (placed_imports (is_empty play.hostile) v u y)
-  then_places v u (Stopped c k y) = Stopped c k y
+  -- World y is left by a step by which vat u heard note n of vat v in world w. What it imported stands there as its entries before what it put is written.
+  unfoldable pub placed_imports : Bool → ℕ → ℕ → Note Name → World → World → World
+  placed_imports true v u n w y = y
+  placed_imports false v u n w y = record y { connections = written_behind u (imports_placed u v (hear_at v u n w.connections)) (slice_get y.vats u) }
+
+  unfoldable pub then_places : ℕ → ℕ → Note Name → World → Run → Run
+  then_places v u n w (Goes y) = Goes (placed_imports (is_empty play.hostile) v u n w y)
+  then_places v u n w (Stopped c k y) = Stopped c k y
 
   -- ---- a note comes to an honest vat, which receives it by its own entries
 
   unfoldable pub receives : ℕ → ℕ → ℕ → World → Note Name → Vat Name → Run
   receives k v u w n s =
-      then_places v u (within u w (Carried k v u n (next_frame v u w.connections) ∷ []) zero
+      then_places v u n w (within u w (Carried k v u n (next_frame v u w.connections) ∷ []) zero
       (receive (names play.script u) (sight_by (names_of s) (connected_at u v w.connections).tables) v (read_note (names_of s) n)) (Some s))
 
   unfoldable pub receives_at : ℕ → ℕ → ℕ → World → Note Name → Option (Vat Name) → Run
@@ -436,5 +442,5 @@ module _ (play : Play) where
 
 -- opens each definition of this file, and of those below
 unfoldable pub opened_hostile : Unit {0}
-unfolding then_plays or_leaves is_raw frames_at with_frames raws_cut told_since acted tells happens new_names counts newcomers name_in object_host shortened_host answer_if names_passed names_all names_value names_in_note makes_new message_deed message_deeds deeds_for asked_for said_on is_resolve subject_of is_empty is_hostile honest_before step_of entered_note placed_imports then_places receives receives_at swallows comes carry_notes carry_link noticed_after lines_behind severed_by malformed completed read_op tells_again said_beside said carries_said spoken heard_note lawful judged_frame frame_comes carry does_carry does_turn does_notice injects tries does does_all opens opens_from raw_of starts left_links closes acts opened_deeds opened_judge opened_entered opened_claims
+unfolding then_plays or_leaves is_raw frames_at with_frames raws_cut told_since acted tells happens new_names counts newcomers name_in object_host shortened_host answer_if names_passed names_all names_value names_in_note makes_new message_deed message_deeds deeds_for asked_for said_on is_resolve subject_of is_empty is_hostile honest_before step_of entered_note written_behind placed_imports then_places receives receives_at swallows comes carry_notes carry_link noticed_after lines_behind severed_by malformed completed read_op tells_again said_beside said carries_said spoken heard_note lawful judged_frame frame_comes carry does_carry does_turn does_notice injects tries does does_all opens opens_from raw_of starts left_links closes acts opened_deeds opened_judge opened_entered opened_claims
 opened_hostile = tt

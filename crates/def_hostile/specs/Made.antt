@@ -1,8 +1,9 @@
 -- The names of gifts where no log of notes is kept: which gifts draws made, and which frames named before.
 use Rattle.std.specs.Prelude.{ℕ, Bool, true, false, List, [], ◌∷◌, ◌++◌, ◌||◌}
-use Rattle.def_machine.specs.Values.{Local, Name}
+use Rattle.def_machine.specs.Values.{Local, Name, Root, Object, Promise, Answer, Gift, Sent}
 use Rattle.def_machine.specs.State.{Passed, Passeds, Plain, AGift, Many, NoMore, More, Note, Deliver, Open, Ask, SettledTo, Elsewhere, Shorten, Put}
-use Rattle.def_run.specs.Marks.{spelled_out}
+use Rattle.def_machine.specs.Maps as maps
+use Rattle.def_run.specs.Marks.{base, spelled_out}
 use Rattle.def_hostile.specs.Claims.{Claim, is_claimed}
 use Rattle.def_hostile.specs.Claims.{opened_claims}
 
@@ -42,9 +43,22 @@ module _ (made : List Claim) where
   unnamed_gift h i true = AGift h i
   unnamed_gift h i false = AGift h (spelled_out i)
 
+  unfoldable pub unnamed_key : ℕ → Bool → ℕ
+  unnamed_key i true = i
+  unnamed_key i false = spelled_out i
+
+  -- and one that the frame, or the vat that it comes to, names again
+  unfoldable pub unnamed_again : List Claim → Name → Name
+  unnamed_again cs (Gift h i) = Gift h (unnamed_key i (is_named cs (record { host = h; number = base i })))
+  unnamed_again cs (Root v) = Root v
+  unnamed_again cs (Object v i) = Object v i
+  unnamed_again cs (Promise v i) = Promise v i
+  unnamed_again cs (Answer h m) = Answer h m
+  unnamed_again cs (Sent m) = Sent m
+
   unfoldable mutual
     pub unnamed_passed : List Claim → Passed Name → Passed Name
-    unnamed_passed cs (Plain y) = Plain y
+    unnamed_passed cs (Plain y) = Plain (maps.value (unnamed_again cs) y)
     unnamed_passed cs (AGift h i) = unnamed_gift h i (is_named cs (record { host = h; number = i }))
     unnamed_passed cs (Many ys) = Many (unnamed_all cs ys)
 
@@ -62,5 +76,5 @@ module _ (made : List Claim) where
 
 -- opens each definition of this file, and of those below
 unfoldable pub opened_made : Unit {0}
-unfolding made_in made_by with_gifts is_named claim_all unnamed_gift unnamed_passed unnamed_all unnamed opened_claims
+unfolding made_in made_by with_gifts is_named claim_all unnamed_gift unnamed_key unnamed_again unnamed_passed unnamed_all unnamed opened_claims
 opened_made = tt

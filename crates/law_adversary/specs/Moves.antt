@@ -6,7 +6,7 @@ use Rattle.def_machine.specs.State.{Note, Vat, Gives, send_out}
 use Rattle.def_machine.specs.Receive.{Sight, receive}
 use Rattle.def_run.specs.Deeds.{Deed}
 use Rattle.def_run.specs.Entered.{entered, imports_placed, sight_by}
-use Rattle.def_run.specs.Wire.{connected_at, with_connected}
+use Rattle.def_run.specs.Wire.{connected_at, with_connected, hear_at, write_all}
 use Rattle.def_run.specs.World.{Script, Event, Carried, Link, World, link_at, next_frame, readied, begins, names, names_of, read_note}
 use Rattle.def_hostile.specs.Hostile.{said_on}
 use Rattle.law_machine.specs.Run.Moves.{Move, Performs, went, without}
@@ -19,9 +19,9 @@ sight_at w a v s = sight_by (names_of s) (connected_at v a w.connections).tables
 abbrev pub entered_at : World → ℕ → ℕ → Vat Name → Note Name → Note Name
 entered_at w a v s n = entered v a (connected_at a v w.connections).tables.exports (names_of s) n
 
--- the world once vat v imports what came from vat a as those entries
-abbrev pub placed_from : ℕ → ℕ → World → World
-placed_from a v w = record w { connections = imports_placed v a w.connections }
+-- World y, in which vat v, being t, has heard that note of vat a in world w: what it imported stands there as its entries, and what it put is written behind that.
+abbrev pub placed_from : ℕ → ℕ → Note Name → World → Vat Name → World → World
+placed_from a v n w t y = record y { connections = write_all v t.outbox (imports_placed v a (hear_at a v n w.connections)) }
 
 -- The world y in which a vat v of the world w put a frame for u: on its connection stand the operation, the names that the frame makes, and what it asks for.
 abbrev pub framed_on : World → ℕ → ℕ → Operation → Note Name → List Name → World → World
@@ -39,7 +39,7 @@ module _ (script : Script) (Hostile : ℕ → Type 0) (MayNotice : World → ℕ
     -- where a vat is hostile: a note comes to an honest vat, which receives it by its own entries, and imports what is new as those
     Received : (h : ℕ) → Hostile h → (k a v : ℕ) (l : Link) (n : Note Name) (ns : List (Note Name)) (s t : Vat Name) → (Hostile v → ⊥) → link_at a v w.links ≡ Some l → l.cut ≡ false → l.notes ≡ n ∷ ns → slice_get w.vats v ≡ Some s
         → receive (names script v) (sight_at w a v s) a (read_note (names_of s) (entered_at w a v s n)) (readied w s) ≡ Gives tt t
-        → y ≡ placed_from a v (went v (without a v ns w) (Carried k a v (entered_at w a v s n) (next_frame a v w.connections) ∷ []) t) → FrameMove w y
+        → y ≡ placed_from a v (entered_at w a v s n) w t (went v (without a v ns w) (Carried k a v (entered_at w a v s n) (next_frame a v w.connections) ∷ []) t) → FrameMove w y
 
   -- by such moves that world follows on those, the last first
   abbrev pub FramesFollow : List World → World → Type 0

@@ -277,7 +277,7 @@ module _ (script : Script) (hs : List ℕ) where
   move_holds w y p r own (Framed v u s t z ds n op new o i q l f e) h = let x : World = went v w [] z in
       is_so (framed_on w v u op n new x) y (beside_holds x x.history (framed_on w v u op n new x).connections (usual_holds w x p (before_frames x y _ r e) own (Says v u s t z ds n o i q l f refl) h)) e
   move_holds w y p r own (Received b z k a v l n ns s t o i c j q f e) h = let head : List Event = Carried k a v (entered_at w a v s n) (next_frame a v w.connections) ∷ [] in let x : World = went v (without a v ns w) head t in
-      is_so (placed_from a v x) y (beside_holds x x.history (placed_from a v x).connections (received_holds w x p (before_frames x y _ r e) a v l n ns s t head i j q refl h (comes script w a v s t n _ (sight_at w a v s) f))) e
+      is_so (placed_from a v (entered_at w a v s n) w t x) y (beside_holds x x.history (placed_from a v (entered_at w a v s n) w t x).connections (received_holds w x p (before_frames x y _ r e) a v l n ns s t head i j q refl h (comes script w a v s t n _ (sight_at w a v s) f))) e
 
   module _ (once : (v : ℕ) (p : Program) → slice_get script.vats v ≡ Some p → Once (v ∷ p.knows)) where
     past : (w : World) → IsReachedInOrder script hs w → Past script w

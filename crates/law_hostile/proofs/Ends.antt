@@ -215,7 +215,7 @@ module _ (script : Script) where
     move_fits w y g h (Framed v u s t r ds n op new o i p l f e) = let x : World = went v w [] r in
         is_so (framed_on w v u op n new x) y (beside_all x x.history _ (rw e at g) (usual_fits w x (before_frames x y _ g e) h (Says v u s t r ds n o i p l f refl))) e
     move_fits w y g h (Received u z k a v l n ns s t o i c j q f e) = let x : World = went v (without a v ns w) (Carried k a v (entered_at w a v s n) (world.next_frame a v w.connections) ∷ []) t in
-        is_so (placed_from a v x) y (beside_all x x.history _ (rw e at g) (came_fits w a v l n ns s t _ i j q h f (before_frames x y _ g e))) e
+        is_so (placed_from a v (entered_at w a v s n) w t x) y (beside_all x x.history _ (rw e at g) (came_fits w a v l n ns s t _ i j q h f (before_frames x y _ g e))) e
 
     pub reached_fits : ((v : ℕ) (p : Program) → slice_get script.vats v ≡ Some p → Once (v ∷ p.knows)) → (w : World) → IsReached script hs w → All w
     reached_fits once w r = frames_lifted script (IsHostile hs) AnyNotice (λ w v s d. May script w v s d) (λ w v u s n. Lawful script w v u s n) (λ w v u s n op new. Lawful script w v u s n) All (begins_all script once) (λ w y q h m. move_fits w y (move_stands script hs w y h.0 m) h m) w r

@@ -213,7 +213,7 @@ module _ (script : Script) where
     move_stands w y h (Recorded b o es e) = is_so _ y (beside_stands w (w.history ++ es) w.connections h) e
     move_stands w y h (Framed v u s t r ds n op new o i p l f e) = let x : World = went v w [] r in is_so (framed_on w v u op n new x) y (beside_stands x x.history _ (usual_stands w x h (Says v u s t r ds n o i p l f refl))) e
     move_stands w y h (Received b p k a v l n ns s t o i c j q f e) = let x : World = went v (without a v ns w) (Carried k a v (entered_at w a v s n) (world.next_frame a v w.connections) ∷ []) t in
-        is_so (placed_from a v x) y (beside_stands x x.history _ (came_stands w k a v l n ns s t _ i j q h f)) e
+        is_so (placed_from a v (entered_at w a v s n) w t x) y (beside_stands x x.history _ (came_stands w k a v l n ns s t _ i j q h f)) e
 
     pub reached_stands : ((v : ℕ) (p : Program) → slice_get script.vats v ≡ Some p → Once (v ∷ p.knows)) → (w : World) → IsReached script hs w → Stands script w
     reached_stands once w r = frames_lifted script (IsHostile hs) AnyNotice (λ w v s d. May script w v s d) (λ w v u s n. Lawful script w v u s n) (λ w v u s n op new. Lawful script w v u s n) (Stands script) (begins_stand script once) (λ w y q h m. move_stands w y h m) w r

@@ -175,7 +175,7 @@ module _ (script : Script) (hs : List ℕ) where
     move_each w y (Recorded h b es e) = each_is w _ y (beside_each w w (w.history ++ es) w.connections ((each_kept script R runs).same w)) e
     move_each w y (Framed v u s t r ds n op new o i p l f e) = let x : World = went v w [] r in each_is w (framed_on w v u op n new x) y (beside_each w x x.history (framed_on w v u op n new x).connections (usual_each w x (Says v u s t r ds n o i p l f refl))) e
     move_each w y (Received h b k a v l n ns s t o i c j q f e) = let head : List Event = Carried k a v (entered_at w a v s n) (world.next_frame a v w.connections) ∷ [] in let z : World = went v (without a v ns w) head t in
-        each_is w (placed_from a v z) y (beside_each w z z.history (placed_from a v z).connections (left_each a v ns w z (went_each (without a v ns w) v head s t (without_there a v ns w v s q) (runs.trans v s (readied w s) t (runs.ready v w s) (received v (readied w s) t _ (receives v a (sight_at w a v s) _ (readied w s)) f))))) e
+        each_is w (placed_from a v (entered_at w a v s n) w t z) y (beside_each w z z.history (placed_from a v (entered_at w a v s n) w t z).connections (left_each a v ns w z (went_each (without a v ns w) v head s t (without_there a v ns w v s q) (runs.trans v s (readied w s) t (runs.ready v w s) (received v (readied w s) t _ (receives v a (sight_at w a v s) _ (readied w s)) f))))) e
 
     pub leads_each : (w : World) (ys : List World) (x : World) → Leads script hs w ys x → EachVat R w x
     leads_each w [] x e = each_is w w x ((each_kept script R runs).same w) (sym e)
@@ -235,7 +235,7 @@ module _ (script : Script) (hs : List ℕ) where
     move_all w y g h (Recorded b o es e) = is_so _ y (beside_all w (w.history ++ es) w.connections h) e
     move_all w y g h (Framed v u s t r ds n op new o i p l f e) = let x : World = went v w [] r in is_so (framed_on w v u op n new x) y (beside_all x x.history (framed_on w v u op n new x).connections (usual_all w x g h (Says v u s t r ds n o i p l f refl))) e
     move_all w y g h (Received b p k a v l n ns s t o i c j q f e) = let head : List Event = Carried k a v (entered_at w a v s n) (world.next_frame a v w.connections) ∷ [] in let x : World = went v (without a v ns w) head t in
-        let one : All x = went_all (without a v ns w) v head t (left_all a v ns w h) (received_all w a v s t n g (left_stands script a v l n ns w i j g).1 q (h v s q) (comes script w a v s t n _ (sight_at w a v s) f)) in is_so (placed_from a v x) y (beside_all x x.history (placed_from a v x).connections one) e
+        let one : All x = went_all (without a v ns w) v head t (left_all a v ns w h) (received_all w a v s t n g (left_stands script a v l n ns w i j g).1 q (h v s q) (comes script w a v s t n _ (sight_at w a v s) f)) in is_so (placed_from a v (entered_at w a v s n) w t x) y (beside_all x x.history (placed_from a v (entered_at w a v s n) w t x).connections one) e
 
     pub reached_all : ((v : ℕ) (p : Program) → slice_get script.vats v ≡ Some p → Once (v ∷ p.knows)) → All (world.begins script) → (w : World) → IsReached script hs w → All w
     reached_all once begun w r = frames_lifted script (IsHostile hs) AnyNotice (λ w v s d. May script w v s d) (λ w v u s n. Lawful script w v u s n) (λ w v u s n op new. Lawful script w v u s n) All begun (λ w y q h m. move_all w y (reached_stands script hs once w q) h m) w r

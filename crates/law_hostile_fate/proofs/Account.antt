@@ -484,9 +484,9 @@ module _ (play : Play) (x : Name) where
   unfolding sent_by took_by lost_by left_by brought_by arrives_by
   carried_plain c k v u n frame i b = plain_one (where_so c (of_note x n)) 0 (Carried k v u n frame) refl refl refl refl (ap (λ d. where_so d (of_note x n)) i) (where_false (is_in u hs) (of_note x n) b)
 
-  placed_fated : (v u : ℕ) (y : World) → Fated y → Fated (placed_from v u y)
+  placed_fated : (v u : ℕ) (n : Note Name) (w : World) (t : Vat Name) (y : World) → Fated y → Fated (placed_from v u n w t y)
   unfolding places
-  placed_fated v u y g = record { kept = g.kept; unlisted = g.unlisted; fresh = g.fresh; apart = g.apart; silent = g.silent }
+  placed_fated v u n w t y g = record { kept = g.kept; unlisted = g.unlisted; fresh = g.fresh; apart = g.apart; silent = g.silent }
 
   -- so much is in hand of its message, and is still to be told of
   arrived : (c : Bool) (k v u due : ℕ) (w y : World) (n : Note Name) (ns : List (Note Name)) → (is_in v hs && not (is_in u hs)) ≡ c → due ≡ where_so c (of_note x n) → Receiving play k v u w y n ns → Holds (of_note x n) due (without v u ns w) → Fated y
@@ -495,7 +495,7 @@ module _ (play : Play) (x : Name) where
       let d : Received (λ to. world.is_cut u to z.links) u n s t = received_did _ w v u s t n (comes script w v u s t n _ (sight_at w v u s) r.receives) in let less = d.1 in
       let next : Fated (went u z (Carried k v u m (world.next_frame v u w.connections) ∷ []) t) = stepped u z (Carried k v u m (world.next_frame v u w.connections) ∷ []) (of_note x n) due (where_so c (of_note x m)) 0 d.0 s s t there (in_place (of_note x n) due u z s there h) refl
       (carried_plain c k v u m _ i (not_true (is_in u hs) o)) (omega (arith, less, b)) (omega (arith, b)) d.2 (pushed_silent hs u o t.outbox z.links h.silent) in
-      subst (λ a. Fated a) (sym r.is) (placed_fated v u _ next)
+      subst (λ a. Fated a) (sym r.is) (placed_fated v u m w t _ next)
 
   received : (k v u : ℕ) (w y : World) (l : Link) (n : Note Name) (ns : List (Note Name)) → world.link_at v u w.links ≡ Some l → l.notes ≡ n ∷ ns → Receiving play k v u w y n ns → Fated w → Fated y
   received k v u w y l n ns i j r h = arrived false k v u 0 w y n ns (first_false (is_in v hs) (is_in u hs) (not_true (is_in v hs) (sender_honest v u w l n ns i j h))) (sym (where_false false (of_note x n) refl)) r (from_link v u w l n ns i j h)

@@ -161,14 +161,14 @@ module _ (script : Script) (Hostile : ℕ → Type 0) (May : World → ℕ → V
   recorded : (es : List Event) (w : World) → WorldSound script w → WorldSound script (record w { history = w.history ++ es })
   recorded es w h = record { vats = h.vats; links = h.links }
 
-  placed : (a v : ℕ) (w : World) → WorldSound script w → WorldSound script (placed_from a v w)
-  placed a v w h = record { vats = h.vats; links = h.links }
+  placed : (a v : ℕ) (n : Note Name) (w : World) (t : Vat Name) (y : World) → WorldSound script y → WorldSound script (placed_from a v n w t y)
+  placed a v n w t y h = record { vats = h.vats; links = h.links }
 
   moved : (w y : World) → WorldSound script w → FrameMove script Hostile AnyNotice May Lawful Frames w y → WorldSound script y
   moved w y h (Usual m) = usual_moved w y h m
   moved w y h (Recorded b bad es e) = subst (λ x. WorldSound script x) (sym e) (recorded es w h)
   moved w y h (Framed v u s t r ds n op new i q p l o e) = subst (λ x. WorldSound script x) (sym e) (framed v u op n new w (went v w [] r) (went_sound script Hostile v w [] r h (said script Hostile v u n t r (framing w v u t n op new l) (performed script Hostile v May Lawful w ds (readied w s) t (ready script Hostile v w s (h.vats v s q)) p) o)))
-  moved w y h (Received b bad k a v l n ns s t o i c j q f e) = subst (λ x. WorldSound script x) (sym e) (placed a v (went v (without a v ns w) (Carried k a v (entered_at w a v s n) (next_frame a v w.connections) ∷ []) t) (went_sound script Hostile v (without a v ns w) (Carried k a v (entered_at w a v s n) (next_frame a v w.connections) ∷ []) t (left script w a v l n ns i j h)
+  moved w y h (Received b bad k a v l n ns s t o i c j q f e) = subst (λ x. WorldSound script x) (sym e) (placed a v (entered_at w a v s n) w t (went v (without a v ns w) (Carried k a v (entered_at w a v s n) (next_frame a v w.connections) ∷ []) t) (went_sound script Hostile v (without a v ns w) (Carried k a v (entered_at w a v s n) (next_frame a v w.connections) ∷ []) t (left script w a v l n ns i j h)
       (received v a w s t (entered_at w a v s n) (sight_at w a v s) (h.vats v s q) (entered_passes v a _ (names_of s) n (first_passes w a v l n ns i j h)) f)))
 
   -- a fact of each world that is so reached

@@ -16,7 +16,7 @@ use Rattle.law_machine.specs.Machine.Receiving.{Receiving, Ignored, BrokenBack, 
 use Rattle.law_machine.proofs.Machine.ReceivingLaws.{each_receiving}
 use Rattle.law_machine.specs.Machine.Steps.{Step, Opens as Starts, Takes, Receives, Notices, does}
 use Rattle.law_machine.specs.Run.Moves.{IsAlone, Does, went, without}
-use Rattle.law_adversary.specs.Moves.{sight_at, entered_at}
+use Rattle.law_adversary.specs.Moves.{sight_at, entered_at, placed_from}
 use Rattle.law_fate.specs.Name.Names.{AllOf, IsAmong, IsEventual, IsMessageName, NoteOk, names_in}
 use Rattle.law_fate.proofs.Fates.Leads.{Leads, Ends, leads_then}
 use Rattle.law_fate.proofs.Name.Among.{all_among, among_last, get_put}
@@ -211,9 +211,9 @@ module _ (play : Play) (w : World) (reached : IsReached play w) (v : ℕ) (s : V
 
         pub received_fit : VatFits play AnyWord (went v (without a v ns w) (Carried 0 a v (entered_at w a v s n) [] ∷ []) t) v t
         unfolding without
-        received_fit = put_fits (went v (without a v ns w) (Carried 0 a v (entered_at w a v s n) [] ∷ []) t) t
-            (received_fits play AnyWord w a v 0 l n ns s t [] (connected_at a v w.connections).tables.exports (names_of s) fits honest at notes there (comes play.script w a v s t n (connected_at a v w.connections).tables.exports (sight_at w a v s) gives))
-            (went_there (without a v ns w) t (Carried 0 a v (entered_at w a v s n) [] ∷ []) there)
+        received_fit = let f = put_fits (placed_from a v (entered_at w a v s n) w t (went v (without a v ns w) (Carried 0 a v (entered_at w a v s n) [] ∷ []) t)) t
+            (received_fits play AnyWord w a v l n ns s t (Carried 0 a v (entered_at w a v s n) [] ∷ []) (connected_at a v w.connections).tables.exports (names_of s) fits honest at notes there (comes play.script w a v s t n (connected_at a v w.connections).tables.exports (sight_at w a v s) gives))
+            (went_there (without a v ns w) t (Carried 0 a v (entered_at w a v s n) [] ∷ []) there) in record { parts = f.parts; own = f.own }
 
         pub received_stands : Standing v t
         received_stands = let y : World = went v (without a v ns w) (Carried 0 a v (entered_at w a v s n) [] ∷ []) t in let f = received_fit in let parts = f.parts in

@@ -4,13 +4,13 @@ use Rattle.def_op.specs.Frames.{Operation}
 use Rattle.def_machine.specs.Values.{Name, Sent, host_of}
 use Rattle.def_machine.specs.State.{Note, Vat}
 use Rattle.def_run.specs.Entered.{import_placed, imports_placed}
-use Rattle.def_run.specs.Wire.{Connected, connected_at, with_connected, unconnected}
+use Rattle.def_run.specs.Wire.{Connected, connected_at, with_connected, unconnected, hear_at, received, write_all}
 use Rattle.def_run.specs.World as world
 use Rattle.def_run.specs.World.{CutLink, Event, Carried, World, Goes, with_link, with_notes}
 use Rattle.def_hostile.specs.Hostile.{Play, said_on}
 use Rattle.law_machine.specs.Run.Moves.{Moved, Still, Severs, Drops, Steps, Arrives, Hears, Tells, AnyNotice, went, without}
 use Rattle.law_machine.proofs.Run.Told.{moves_told}
-use Rattle.law_adversary.specs.Moves.{Usual, Recorded, Framed, Received, entered_at, placed_from}
+use Rattle.law_adversary.specs.Moves.{Usual, Recorded, Framed, Received, entered_at}
 use Rattle.law_fate.specs.Name.Names.{AllOf}
 use Rattle.law_fate.proofs.Name.Facts.{all_map}
 use Rattle.law_frame.specs.Frame.Growing.{IsFront}
@@ -51,6 +51,10 @@ placed_exports : (u a h v : ℕ) (cs : List Connected) → IsFront (Exports h v 
 unfolding imports_placed import_placed
 placed_exports u a h v cs = with_exports import_placed (λ c. refl) (λ c. refl) (λ c. front_same c.tables.exports) u a h v cs
 
+heard_exports : (a u h v : ℕ) (n : Note Name) (cs : List Connected) → IsFront (Exports h v cs) (Exports h v (hear_at a u n cs))
+unfolding hear_at received
+heard_exports a u h v n cs = with_exports (received (connected_at a u cs) n) (λ c. refl) (λ c. refl) (λ c. front_same c.tables.exports) u a h v cs
+
 said_exports : (u : ℕ) (o : Operation) (n : Note Name) (new : List Name) (a b h v : ℕ) (cs : List Connected) → IsFront (Exports h v cs) (Exports h v (with_connected (said_on u o n new) a b cs))
 unfolding said_on
 said_exports u o n new a b h v cs = with_exports (said_on u o n new) (λ c. refl) (λ c. refl) (λ c. (new, refl)) a b h v cs
@@ -60,6 +64,12 @@ said_exports u o n new a b h v cs = with_exports (said_on u o n new) (λ c. refl
 went_exports : (u : ℕ) (w : World) (head : List Event) (t : Vat Name) → ExportsGrow w (went u w head t)
 unfolding went
 went_exports u w head t h v = let g = after_grows u t head h v w.connections in let k = g.tables in k.exports
+
+-- what vat u put is written behind what it heard and imported
+placed_grows : (a u h v : ℕ) (n : Note Name) (t : Vat Name) (cs : List Connected) → IsFront (Exports h v cs) (Exports h v (write_all u t.outbox (imports_placed u a (hear_at a u n cs))))
+unfolding world.connections_after world.heard_by
+placed_grows a u h v n t cs = let heard : List Connected = hear_at a u n cs in let placed : List Connected = imports_placed u a heard in
+    front_on (Exports h v cs) (Exports h v heard) _ (heard_exports a u h v n cs) (front_on (Exports h v heard) (Exports h v placed) _ (placed_exports u a h v heard) (let g = after_grows u t [] h v placed in let k = g.tables in k.exports))
 
 grow_on : (w x y : World) → ExportsGrow w x → ExportsGrow x y → ExportsGrow w y
 grow_on w x y f g h v = front_on (Exports h v w.connections) (Exports h v x.connections) (Exports h v y.connections) (f h v) (g h v)
@@ -102,8 +112,7 @@ module _ (play : Play) where
   move_grows w y (Usual m) = usual_grows w y (moves_told play.script (IsHostile play) AnyNotice AnyDeed NothingSaid w y m)
   move_grows w y (Recorded b bad es e) = still w y (connections_is _ y e)
   move_grows w y (Framed v u s t z ds n op new bad i p x f e) = is_so w _ y (λ h c. said_exports u op n new v u h c w.connections) e
-  move_grows w y (Received b bad k a v l n ns s t o i c j q f e) = let head : List Event = Carried k a v (entered_at w a v s n) (world.next_frame a v w.connections) ∷ [] in let z : World = went v (without a v ns w) head t in
-      is_so w (placed_from a v z) y (grow_on w z (placed_from a v z) (left_grows a v ns w z (went_exports v (without a v ns w) head t)) (λ h c. placed_exports v a h c z.connections)) e
+  move_grows w y (Received b bad k a v l n ns s t o i c j q f e) = is_so w _ y (λ h c. placed_grows a v h c (entered_at w a v s n) t w.connections) e
 
 pub positions_kept : PositionsAreKept
 positions_kept play h bad ds k s t e = all_reached play h bad (λ y. ExportsGrow s.world y) (λ w y g m. grow_on s.world w y g (move_grows play w y m)) ds k s t (still s.world s.world refl) e

@@ -133,7 +133,7 @@ module _ (play : Play) where
     move_each w y (Recorded h b es e) = each_is w _ y (beside_each w w (w.history ++ es) w.connections ((each_kept script R keeps).same w)) e
     move_each w y (Framed v u s t r ds n op new o i p l f e) = let x : World = went v w [] r in each_is w (framed_on w v u op n new x) y (beside_each w x x.history (framed_on w v u op n new x).connections (said_each w v u s t r ds n i p f)) e
     move_each w y (Received h b k a v l n ns s t o i c j q f e) = let head : List Event = Carried k a v (entered_at w a v s n) (world.next_frame a v w.connections) ∷ [] in let z : World = went v (without a v ns w) head t in
-        each_is w (placed_from a v z) y (beside_each w z z.history (placed_from a v z).connections (left_each a v ns w z (went_alone (without a v ns w) v _ s t (without_there a v ns w v s q) (keeps.trans v s (readied w s) t (keeps.ready v w s) (receive_keeps v (R v) (law v) (under v) (sight_at w a v s) a _ (readied w s) t f))))) e
+        each_is w (placed_from a v (entered_at w a v s n) w t z) y (beside_each w z z.history (placed_from a v (entered_at w a v s n) w t z).connections (left_each a v ns w z (went_alone (without a v ns w) v _ s t (without_there a v ns w v s q) (keeps.trans v s (readied w s) t (keeps.ready v w s) (receive_keeps v (R v) (law v) (under v) (sight_at w a v s) a _ (readied w s) t f))))) e
 
     pub doings_keep : (who : ℕ) → IsHostile play who → (ds : List Doing) (k : ℕ) (s t : Scene) → hostile.does_all play ds k s ≡ Plays t → EachVat R s.world t.world
     doings_keep who bad ds k s t e = all_reached play who bad (EachVat R s.world) (λ w y h m. (each_kept script R keeps).trans s.world w y h (move_each w y m)) ds k s t ((each_kept script R keeps).same s.world) e

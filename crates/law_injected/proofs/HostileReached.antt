@@ -7,7 +7,8 @@ use Rattle.def_machine.specs.State as state
 use Rattle.def_machine.specs.State.{Note, Vat, Done, Gives, Throws, Ejects, Stops, Act, send_out, ◌>>◌, is_in}
 use Rattle.def_machine.specs.Arrive.{Incoming}
 use Rattle.def_run.specs.Connections.{Heard}
-use Rattle.def_run.specs.Wire.{connected_at}
+use Rattle.def_run.specs.Entered.{imports_placed}
+use Rattle.def_run.specs.Wire.{connected_at, hear_at}
 use Rattle.def_run.specs.World as world
 use Rattle.def_run.specs.World.{Program, Entry, Turn, Carry, CutLink, NoticeLink, Event, Carried, Idle, NoticedAt, Link, World, Run, Goes as Going, Stopped, names, names_of, read_note, readied}
 use Rattle.law_machine.specs.Run.Moves.{Move, Performs, Opened, Stepped, Swallowed, AnyNotice, went, without}
@@ -50,6 +51,22 @@ then_gives (Gives a r) f t e = (r, refl, e)
 then_gives (Throws p r) f t e = cc
 then_gives (Ejects i x r) f t e = cc
 then_gives (Stops c r) f t e = cc
+
+put_there : (vats : List (Vat Name)) (u : ℕ) (s t : Vat Name) → slice_get vats u ≡ Some s → slice_get (world.put_at u t vats) u ≡ Some t
+unfolding world.put_at
+put_there [] u s t e = cc
+put_there (x ∷ xs) zero s t e = refl
+put_there (x ∷ xs) (suc u) s t e = put_there xs u s t e
+
+-- a world in which what vat u put, if it is there, is written behind what it heard and imported
+abbrev written_from : Play → ℕ → ℕ → Note Name → World → Option (Vat Name) → World → World
+written_from play v u n w o y = record y { connections = hostile.written_behind play u (imports_placed u v (hear_at v u n w.connections)) o }
+
+-- what the vat of that step put is what it put by it
+written_so : (play : Play) (v u : ℕ) (ns : List (Note Name)) (n : Note Name) (w : World) (s t : Vat Name) (head : List Event) → slice_get w.vats u ≡ Some s
+    → written_from play v u n (without v u ns w) (slice_get (went u (without v u ns w) head t).vats u) (went u (without v u ns w) head t) ≡ placed_from v u n w t (went u (without v u ns w) head t)
+unfolding without went hostile.written_behind
+written_so play v u ns n w s t head q = ap (λ o. written_from play v u n (without v u ns w) o (went u (without v u ns w) head t)) (put_there w.vats u s t q)
 
 -- a move of a play
 abbrev pub Moves : Play → World → World → Type 0
@@ -112,22 +129,22 @@ module _ (play : Play) (who : ℕ) (bad : IsHostile play who) (R : World → Typ
   enters_so true e v u w ns s n = cc
   enters_so false e v u w ns s n = refl
 
-  placed_so : (b : Bool) → b ≡ false → (v u : ℕ) (z : World) → hostile.placed_imports play b v u z ≡ placed_from v u z
+  placed_so : (b : Bool) → b ≡ false → (v u : ℕ) (n : Note Name) (w z : World) → hostile.placed_imports play b v u n w z ≡ written_from play v u n w (slice_get z.vats u) z
   unfolding hostile.placed_imports
-  placed_so true e v u z = cc
-  placed_so false e v u z = refl
+  placed_so true e v u n w z = cc
+  placed_so false e v u n w z = refl
 
-  placed_goes : (v u : ℕ) (run : Run) (y : World) → hostile.then_places play v u run ≡ Going y → (z : World) × (run ≡ Going z) × (y ≡ placed_from v u z)
+  placed_goes : (v u : ℕ) (n : Note Name) (w : World) (run : Run) (y : World) → hostile.then_places play v u n w run ≡ Going y → (z : World) × (run ≡ Going z) × (y ≡ written_from play v u n w (slice_get z.vats u) z)
   unfolding hostile.then_places
-  placed_goes v u (Going z) y e = (z, refl, sym (going_is _ y e) ∙ placed_so (hostile.is_empty play.hostile) not_empty v u z)
-  placed_goes v u (Stopped c k z) y e = cc
+  placed_goes v u n w (Going z) y e = (z, refl, sym (going_is _ y e) ∙ placed_so (hostile.is_empty play.hostile) not_empty v u n w z)
+  placed_goes v u n w (Stopped c k z) y e = cc
 
   receives_reached : (k v u : ℕ) (w y : World) (l : Link) (n : Note Name) (ns : List (Note Name)) (s : Vat Name) → R w → (H u → ⊥) → world.link_at v u w.links ≡ Some l → l.cut ≡ false → l.notes ≡ n ∷ ns → slice_get w.vats u ≡ Some s
       → hostile.receives play k v u (without v u ns w) (entered_at w v u s n) s ≡ Going y → R y
   unfolding hostile.receives without readied
   receives_reached k v u w y l n ns s x h i c j q e =
-      let p = placed_goes v u _ y e in let g = within_went u (without v u ns w) p.0 _ _ s p.1 in
-      on w y x (Received who bad k v u l n ns s g.0 h i c j q g.1 (p.2 ∙ ap (λ (z : World). placed_from v u z) g.2))
+      let m : Note Name = entered_at w v u s n in let p = placed_goes v u m (without v u ns w) _ y e in let g = within_went u (without v u ns w) p.0 _ _ s p.1 in
+      on w y x (Received who bad k v u l n ns s g.0 h i c j q g.1 (p.2 ∙ ap (λ (z : World). written_from play v u m (without v u ns w) (slice_get z.vats u) z) g.2 ∙ written_so play v u ns m w s g.0 _ q))
 
   receives_at_reached : (k v u : ℕ) (w y : World) (l : Link) (n : Note Name) (ns : List (Note Name)) → R w → (H u → ⊥) → world.link_at v u w.links ≡ Some l → l.cut ≡ false → l.notes ≡ n ∷ ns → (o : Option (Vat Name)) → slice_get w.vats u ≡ o
       → hostile.receives_at play k v u (without v u ns w) n o ≡ Going y → R y

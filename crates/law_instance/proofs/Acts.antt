@@ -153,17 +153,17 @@ module _ (script : Script) where
     Head = Carried k v u n (next_frame v u x.connections) ∷ []
 
     -- a step in the world without the note, told with the number of another step
-    numbered : (j : ℕ) (d : Done Name (Unit {0})) → ComesTo script (world.put_back u Left Head j d) (hostile.acted j (scene_of script x) [] (hostile.then_places play v u (world.put_back u Left Head zero d)))
+    numbered : (j : ℕ) (d : Done Name (Unit {0})) → ComesTo script (world.put_back u Left Head j d) (hostile.acted j (scene_of script x) [] (hostile.then_places play v u n Left (world.put_back u Left Head zero d)))
     unfolding world.put_back hostile.then_places hostile.placed_imports hostile.is_empty hostile.acted
     numbered j (Gives a t) = acted_so j x (world.put_back u Left Head j (Gives a t)) (put_from u j x Left Head (Gives a t) refl left)
     numbered j other = (x, left, refl)
 
-    both_stop : (j : ℕ) (c : Stop) (p q : Vat Name) → ComesTo script (world.put_back u Left Head j (Stops c q)) (hostile.acted j (scene_of script x) [] (hostile.then_places play v u (world.put_back u Left Head zero (Stops c p))))
+    both_stop : (j : ℕ) (c : Stop) (p q : Vat Name) → ComesTo script (world.put_back u Left Head j (Stops c q)) (hostile.acted j (scene_of script x) [] (hostile.then_places play v u n Left (world.put_back u Left Head zero (Stops c p))))
     unfolding world.put_back hostile.then_places hostile.acted
     both_stop j c p q = (x, left, refl)
 
-    same_so : (j : ℕ) (d e : Done Name (Unit {0})) → SameOutcome d e → ComesTo script (world.put_back u Left Head j e) (hostile.acted j (scene_of script x) [] (hostile.then_places play v u (world.put_back u Left Head zero d)))
-    same_so j d e (inl f) = subst (λ z. ComesTo script (world.put_back u Left Head j e) (hostile.acted j (scene_of script x) [] (hostile.then_places play v u (world.put_back u Left Head zero z)))) (sym f) (numbered j e)
+    same_so : (j : ℕ) (d e : Done Name (Unit {0})) → SameOutcome d e → ComesTo script (world.put_back u Left Head j e) (hostile.acted j (scene_of script x) [] (hostile.then_places play v u n Left (world.put_back u Left Head zero d)))
+    same_so j d e (inl f) = subst (λ z. ComesTo script (world.put_back u Left Head j e) (hostile.acted j (scene_of script x) [] (hostile.then_places play v u n Left (world.put_back u Left Head zero z)))) (sym f) (numbered j e)
     same_so j d e (inr f) = rw f.3 (rw f.4 (both_stop j f.0 f.1 f.2))
 
     abbrev Received : Type 0
@@ -171,7 +171,7 @@ module _ (script : Script) where
 
     received_so : Received → ComesTo script (world.arrives script k v u Left n (Some s)) (hostile.acted (hostile.step_of play k) (scene_of script x) [] (hostile.receives_at play k v u Left n (Some s)))
     unfolding hostile.receives_at hostile.receives hostile.entered_note hostile.is_empty world.arrives world.within readied
-    received_so f = subst (λ j. ComesTo script (world.put_back u Left Head (world.step_number script k) (arrive (names script u) v (read_note (names_of s) n) (readied Left s))) (hostile.acted j (scene_of script x) [] (hostile.then_places play v u (world.put_back u Left Head zero (receive (names script u) (sight_by (names_of s) (connected_at u v x.connections).tables) v (read_note (names_of s) n) (readied x s))))))
+    received_so f = subst (λ j. ComesTo script (world.put_back u Left Head (world.step_number script k) (arrive (names script u) v (read_note (names_of s) n) (readied Left s))) (hostile.acted j (scene_of script x) [] (hostile.then_places play v u n Left (world.put_back u Left Head zero (receive (names script u) (sight_by (names_of s) (connected_at u v x.connections).tables) v (read_note (names_of s) n) (readied x s))))))
         (sym (same_number k)) (same_so (world.step_number script k) _ _ f)
 
   comes_so : (x : World) (k v u : ℕ) (n : Note Name) (ns : List (Note Name)) (s : Vat Name) (left : LeavesOf x (record x { links = with_link (with_notes ns) v u x.links })) (o : Option (Vat Name)) → o ≡ Some s → Received x k v u n ns s left

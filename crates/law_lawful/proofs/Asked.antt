@@ -158,15 +158,16 @@ module _ (play : Play) where
   framed_agrees w v u r n o new e h = subst (λ ps. Agree (world.push_all v ps w.links) (with_connected (said_on u o n new) v u w.connections)) (sym e)
       (put_agree n (world.pushed n) (said_on u o n new) (pushed_from n) (pushed_to n) (pushed_log n) (said_from o u n new) (said_to o u n new) v u (λ c i. said_asks o u n new c) w.links w.connections h)
 
-  placed : (a v : ℕ) (x : World) → AsLogged x → AsLogged (placed_from a v x)
-  placed a v x h = placed_agrees v a x.links x.connections h
+  placed : (w : World) (a v k : ℕ) (ns : List (Note Name)) (n : Note Name) (head : List Event) (frame : List ℕ) (t : Vat Name) → AsLogged w → AsLogged (placed_from a v n w t (went v (without a v ns w) head t))
+  unfolding went without world.heard_by
+  placed w a v k ns n head frame t h = let ls : List Link = with_link (with_notes ns) a v w.links in
+      puts_agree v t.outbox ls (entering.imports_placed v a (wire.hear_at a v n w.connections)) (placed_agrees v a ls (wire.hear_at a v n w.connections) (hear_agrees a v k n frame ls w.connections (notes_agree a v ns w.links w.connections h)))
 
   move_agrees : (w y : World) → AsLogged w → FrameMove play.script (IsHostile play) AnyNotice AnyDeed NothingSaid (IsSpoken play) w y → AsLogged y
   move_agrees w y h (Usual m) = usual_agrees w y h (moves_told play.script (IsHostile play) AnyNotice AnyDeed NothingSaid w y m)
   move_agrees w y h (Recorded b bad es e) = is_so (record w { history = w.history ++ es }) y h e
   move_agrees w y h (Framed v u s t r ds n o new bad i p x f e) = is_so _ y (framed_agrees w v u r n o new (one_put w v u t r n o new x f) h) e
-  move_agrees w y h (Received b bad k a v l n ns s t o i c j q f e) = let x : World = went v (without a v ns w) (Carried k a v (entered_at w a v s n) (world.next_frame a v w.connections) ∷ []) t in
-      is_so (placed_from a v x) y (placed a v x (carried (without a v ns w) a v k (entered_at w a v s n) (world.next_frame a v w.connections) t (without_agrees a v ns w h))) e
+  move_agrees w y h (Received b bad k a v l n ns s t o i c j q f e) = is_so _ y (placed w a v k ns (entered_at w a v s n) (Carried k a v (entered_at w a v s n) (world.next_frame a v w.connections) ∷ []) (world.next_frame a v w.connections) t h) e
 
 -- ---- the start
 

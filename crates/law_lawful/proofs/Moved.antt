@@ -10,14 +10,15 @@ use Rattle.def_machine.proofs.Keys.{word_key}
 use Rattle.def_kernel.specs.declared.node.Node.{Node}
 use Rattle.def_run.specs.Draws.{draw_word}
 use Rattle.def_run.specs.Deeds.{Learns, perform, hear, hear_message}
-use Rattle.def_run.specs.Entered.{entered}
+use Rattle.def_run.specs.Entered.{entered, imports_placed}
 use Rattle.def_run.specs.Marks as marks
-use Rattle.def_run.specs.Wire.{Connected}
+use Rattle.def_run.specs.Wire.{Connected, hear_at}
 use Rattle.def_run.specs.World as world
 use Rattle.def_run.specs.World.{Script, Program, CutLink, Event, Carried, Link, World, Goes, put_at, readied, names, names_of, read_note, link_at, with_link, with_notes}
 use Rattle.def_hostile.specs.Hostile.{Play}
 use Rattle.law_machine.specs.Machine.Steps.{Step, Opens as Starts, Takes, Receives, Notices, does}
 use Rattle.law_machine.specs.Run.Moves.{IsAlone, Does, TellsOfNoNote, went, without}
+use Rattle.law_adversary.specs.Moves.{placed_from}
 use Rattle.law_fate.specs.Name.Names.{Bit, Named, Drew, AllOf, IsAmong, NoteOk, MessageOk, Parts}
 use Rattle.law_fate.proofs.Name.Among.{among_more}
 use Rattle.law_fate.proofs.Name.Facts.{all_map, note_up, message_up, Nothing, IsMessage, NoteDoes, nothing}
@@ -36,8 +37,8 @@ use Rattle.law_lawful.specs.Tables.{TablesFit}
 use Rattle.law_lawful.proofs.Arrives.{fine_note, fine_turn, fine_noticed, fine_open}
 use Rattle.law_lawful.proofs.Claimed.{claimed, is_made_up}
 use Rattle.law_lawful.proofs.Prepared.{Prepared, on, learns}
-use Rattle.law_lawful.proofs.Steps.{MadeIn, NoteFits, LinkFits, VatFits, Fits, linked_fits, stepped_fits, ready_holds, note_free}
-use Rattle.law_lawful.proofs.Tables.{fit_up, hear_fits}
+use Rattle.law_lawful.proofs.Steps.{MadeIn, NoteFits, LinkFits, VatFits, Fits, beside_fits, linked_fits, stepped_fits, ready_holds, note_free}
+use Rattle.law_lawful.proofs.Tables.{fit_up, hear_fits, imports_placed_fit}
 
 given : (a x b : Vat Name) → Prepared a x 0 0 → Gives (tt {0}) x ≡ Gives (tt {0}) b → Prepared a b 0 0
 given a x b h e = let same : x ≡ b = cc in rw same at h
@@ -156,18 +157,24 @@ module _ (play : Play) (Claim : ℕ → Type 0) where
   unfolding world.heard_by
   heard_fits x a v z k frame told vats d up cs i = hear_fits Claim vats d a v z cs (note_up (MadeIn play Claim x) (IsMade Claim vats d) up z told.0) told.1 i
 
-  module _ (x : World) (h : Fits play Claim x) (a v : ℕ) (s t : Vat Name) (there : slice_get x.vats v ≡ Some s) (honest : IsHostile play v → ⊥) (z : Note Name) (k : ℕ) (frame : List ℕ) (told : NoteFits play Claim x a v z) where
-    pub arrived_fits : (m : Note Name) → NoteOk (MadeIn play Claim x) m → arrive.arrive (names play.script v) a (read_note (names_of s) m) (readied x s) ≡ Gives tt t → Fits play Claim (went v x (Carried k a v z frame ∷ []) t)
+  -- a note arrives from vat a at vat v, being s, which is then t; what these lines tell arrives on connections that fit
+  module _ (x : World) (h : Fits play Claim x) (a v : ℕ) (s t : Vat Name) (there : slice_get x.vats v ≡ Some s) (honest : IsHostile play v → ⊥) (head : List Event)
+      (heard : (vats : List (Vat Name)) (d : List ℕ) → ((b : Bit Name) → MadeIn play Claim x b → IsMade Claim vats d b) → (cs : List Connected) → AllOf (TablesFit (WasMade Claim vats d)) cs → AllOf (TablesFit (WasMade Claim vats d)) (world.heard_by head cs)) where
+    arrives_by : (m : Note Name) → NoteOk (MadeIn play Claim x) m → arrive.arrive (names play.script v) a (read_note (names_of s) m) (readied x s) ≡ Gives tt t → Fits play Claim (went v x head t)
     unfolding names names_of readied
-    arrived_fits m ok e = let g = h.vats v s there honest in stepped_fits play Claim x v s s there h honest (omega arith) (omega arith) g.parts g.own (NoteDoes m) (arrive.arrive (naming Word v) a (read_note (names_of s) m)) t (Carried k a v z frame ∷ [])
+    arrives_by m ok e = let g = h.vats v s there honest in stepped_fits play Claim x v s s there h honest (omega arith) (omega arith) g.parts g.own (NoteDoes m) (arrive.arrive (naming Word v) a (read_note (names_of s) m)) t head
         (fine_note Claim x.vats v s there Word a (names_of s) m)
         (note_up (MadeIn play Claim x) _ (ready_holds play Claim x v s s there h honest (omega arith) (omega arith) g.parts g.own) m ok)
-        (own_arrive Word v Each a (readied x s) m (note_free Word v Claim x.vats x.drawn (names_of s) m ok)) e (λ cs up i. heard_fits x a v z k frame told _ _ up cs i)
+        (own_arrive Word v Each a (readied x s) m (note_free Word v Claim x.vats x.drawn (names_of s) m ok)) e (λ cs up i. heard _ _ up cs i)
 
-    pub passed_fits : readied x s ≡ t → Fits play Claim (went v x (Carried k a v z frame ∷ []) t)
+    passes_by : readied x s ≡ t → Fits play Claim (went v x head t)
     unfolding give
-    passed_fits e = let g = h.vats v s there honest in stepped_fits play Claim x v s s there h honest (omega arith) (omega arith) g.parts g.own Nothing (give (tt {0})) t (Carried k a v z frame ∷ [])
-        (fine_give _ (tt {0}) (record { at = λ r c. tt })) tt ((own_give Word v Each (tt {0})).after (readied x s)) (ap (λ y. Gives (tt {0}) y) e) (λ cs up i. heard_fits x a v z k frame told _ _ up cs i)
+    passes_by e = let g = h.vats v s there honest in stepped_fits play Claim x v s s there h honest (omega arith) (omega arith) g.parts g.own Nothing (give (tt {0})) t head
+        (fine_give _ (tt {0}) (record { at = λ r c. tt })) tt ((own_give Word v Each (tt {0})).after (readied x s)) (ap (λ y. Gives (tt {0}) y) e) (λ cs up i. heard _ _ up cs i)
+
+  module _ (x : World) (h : Fits play Claim x) (a v : ℕ) (s t : Vat Name) (there : slice_get x.vats v ≡ Some s) (honest : IsHostile play v → ⊥) (z : Note Name) (k : ℕ) (frame : List ℕ) (told : NoteFits play Claim x a v z) where
+    pub arrived_fits : (m : Note Name) → NoteOk (MadeIn play Claim x) m → arrive.arrive (names play.script v) a (read_note (names_of s) m) (readied x s) ≡ Gives tt t → Fits play Claim (went v x (Carried k a v z frame ∷ []) t)
+    arrived_fits m ok e = arrives_by x h a v s t there honest (Carried k a v z frame ∷ []) (heard_fits x a v z k frame told) m ok e
 
   -- ---- a note is received by its entries
 
@@ -204,24 +211,46 @@ module _ (play : Play) (Claim : ℕ → Type 0) where
   unfolding went
   drawn_apart w i v head t h = h
 
-  readied_apart : (w : World) (i v : ℕ) (s t : Vat Name) (a : ℕ) (ns : List (Note Name)) (m : Note Name) → arrive.arrive (names play.script v) a (read_note (names_of s) m) (readied (record w { drawn = w.drawn ++ i ∷ [] }) s) ≡ Gives tt t
-      → arrive.arrive (names play.script v) a (read_note (names_of s) m) (readied (record (without a v ns w) { drawn = (without a v ns w).drawn ++ i ∷ [] }) s) ≡ Gives tt t
-  unfolding readied without
-  readied_apart w i v s t a ns m e = e
+  -- the world once the note left its link, and was heard, and vat v imported as its entries what came with it
+  abbrev pub Imported : ℕ → ℕ → List (Note Name) → Note Name → World → World
+  Imported a v ns m w = record w { links = with_link (with_notes ns) a v w.links; connections = imports_placed v a (hear_at a v m w.connections) }
 
-  readied_without : (w : World) (v : ℕ) (s t : Vat Name) (a : ℕ) (ns : List (Note Name)) (m : Note Name) → arrive.arrive (names play.script v) a (read_note (names_of s) m) (readied w s) ≡ Gives tt t → arrive.arrive (names play.script v) a (read_note (names_of s) m) (readied (without a v ns w) s) ≡ Gives tt t
-  unfolding readied without
-  readied_without w v s t a ns m e = e
+  imported_fits : (a v : ℕ) (ns : List (Note Name)) (m : Note Name) (w : World) → Fits play Claim (without a v ns w) → NoteFits play Claim w a v m → Fits play Claim (Imported a v ns m w)
+  unfolding without
+  imported_fits a v ns m w h told = beside_fits play Claim (without a v ns w) w.history (imports_placed v a (hear_at a v m w.connections))
+      (imports_placed_fit Claim w.vats w.drawn v a (hear_at a v m w.connections) (hear_fits Claim w.vats w.drawn a v m w.connections told.0 told.1 h.connections)) h
 
-  passed_without : (w : World) (v : ℕ) (s t : Vat Name) (a : ℕ) (ns : List (Note Name)) → readied w s ≡ t → readied (without a v ns w) s ≡ t
-  unfolding readied without
-  passed_without w v s t a ns e = e
+  none_heard : (x : World) (vats : List (Vat Name)) (d : List ℕ) → ((b : Bit Name) → MadeIn play Claim x b → IsMade Claim vats d b) → (cs : List Connected) → AllOf (TablesFit (WasMade Claim vats d)) cs → AllOf (TablesFit (WasMade Claim vats d)) (world.heard_by [] cs)
+  unfolding world.heard_by
+  none_heard x vats d up cs i = i
 
-  pub received_fits : (w : World) (a v k : ℕ) (l : Link) (n : Note Name) (ns : List (Note Name)) (s t : Vat Name) (frame : List ℕ) (exports ks : List Name) → Fits play Claim w → (IsHostile play v → ⊥) → link_at a v w.links ≡ Some l → l.notes ≡ n ∷ ns → slice_get w.vats v ≡ Some s → Coming play.script w a v s t n
-      → Fits play Claim (went v (without a v ns w) (Carried k a v (entered v a exports ks n) frame ∷ []) t)
-  received_fits w a v k l n ns s t frame exports ks h o i j q (Passes none e) = let left = left_fits a v l n ns w i j h in let x : World = without a v ns w in
-      passed_fits x left.0 a v s t (without_there a v ns w v s q) o (entered v a exports ks n) k frame (entered_fits x a v exports ks n (without_note a v ns w n left.1)) (passed_without w v s t a ns e)
-  received_fits w a v k l n ns s t frame exports ks h o i j q (Lands _ m as_before alike f) = let left = left_fits a v l n ns w i j h in let x : World = without a v ns w in let told = without_note a v ns w n left.1 in
-      arrived_fits x left.0 a v s t (without_there a v ns w v s q) o (entered v a exports ks n) k frame (entered_fits x a v exports ks n told) m (alike.names (MadeIn play Claim x) (entries_made x) told.0) (readied_without w v s t a ns m f)
-  received_fits w a v k l n ns s t frame exports ks h o i j q (Lands _ m (one_more d) alike f) = let left = left_fits a v l n ns w i j h in let x : World = without a v ns w in let z : World = record x { drawn = x.drawn ++ d ∷ [] } in let told = drawn_note x d a v n (without_note a v ns w n left.1) in
-      drawn_apart x d v _ t (arrived_fits z (drawn_fits x d left.0) a v s t (without_there a v ns w v s q) o (entered v a exports ks n) k frame (entered_fits z a v exports ks n told) m (alike.names (MadeIn play Claim z) (entries_made z) told.0) (readied_apart w d v s t a ns m f))
+  readied_apart : (w : World) (i v : ℕ) (s t : Vat Name) (a : ℕ) (ns : List (Note Name)) (z m : Note Name) → arrive.arrive (names play.script v) a (read_note (names_of s) m) (readied (record w { drawn = w.drawn ++ i ∷ [] }) s) ≡ Gives tt t
+      → arrive.arrive (names play.script v) a (read_note (names_of s) m) (readied (record (Imported a v ns z w) { drawn = w.drawn ++ i ∷ [] }) s) ≡ Gives tt t
+  unfolding readied
+  readied_apart w i v s t a ns z m e = e
+
+  readied_imported : (w : World) (v : ℕ) (s t : Vat Name) (a : ℕ) (ns : List (Note Name)) (z m : Note Name) → arrive.arrive (names play.script v) a (read_note (names_of s) m) (readied w s) ≡ Gives tt t → arrive.arrive (names play.script v) a (read_note (names_of s) m) (readied (Imported a v ns z w) s) ≡ Gives tt t
+  unfolding readied
+  readied_imported w v s t a ns z m e = e
+
+  passed_imported : (w : World) (v : ℕ) (s t : Vat Name) (a : ℕ) (ns : List (Note Name)) (z : Note Name) → readied w s ≡ t → readied (Imported a v ns z w) s ≡ t
+  unfolding readied
+  passed_imported w v s t a ns z e = e
+
+  -- what vat v puts is written behind what it heard and imported; the lines of that do not matter
+  placed_fits : (a v : ℕ) (ns : List (Note Name)) (m : Note Name) (w : World) (head : List Event) (t : Vat Name) → Fits play Claim (went v (Imported a v ns m w) [] t) → Fits play Claim (placed_from a v m w t (went v (without a v ns w) head t))
+  unfolding went without world.connections_after world.heard_by
+  placed_fits a v ns m w head t h = beside_fits play Claim (went v (Imported a v ns m w) [] t) (went v (without a v ns w) head t).history (went v (Imported a v ns m w) [] t).connections h.connections h
+
+  imported_next : (w : World) (a v : ℕ) (l : Link) (n m : Note Name) (ns : List (Note Name)) (s t : Vat Name) → Fits play Claim w → (IsHostile play v → ⊥) → NoteFits play Claim w a v n → Fits play Claim (Imported a v ns m w) → slice_get w.vats v ≡ Some s → Coming play.script w a v s t n
+      → Fits play Claim (went v (Imported a v ns m w) [] t)
+  imported_next w a v l n z ns s t h o told fits q (Passes none e) = let x : World = Imported a v ns z w in passes_by x fits a v s t q o [] (none_heard x) (passed_imported w v s t a ns z e)
+  imported_next w a v l n z ns s t h o told fits q (Lands _ m as_before alike f) = let x : World = Imported a v ns z w in
+      arrives_by x fits a v s t q o [] (none_heard x) m (alike.names (MadeIn play Claim x) (entries_made x) told.0) (readied_imported w v s t a ns z m f)
+  imported_next w a v l n z ns s t h o told fits q (Lands _ m (one_more d) alike f) = let x : World = Imported a v ns z w in let y : World = record x { drawn = x.drawn ++ d ∷ [] } in let more = drawn_note x d a v n told in
+      drawn_apart x d v [] t (arrives_by y (drawn_fits x d fits) a v s t q o [] (none_heard y) m (alike.names (MadeIn play Claim y) (entries_made y) more.0) (readied_apart w d v s t a ns z m f))
+
+  pub received_fits : (w : World) (a v : ℕ) (l : Link) (n : Note Name) (ns : List (Note Name)) (s t : Vat Name) (head : List Event) (exports ks : List Name) → Fits play Claim w → (IsHostile play v → ⊥) → link_at a v w.links ≡ Some l → l.notes ≡ n ∷ ns → slice_get w.vats v ≡ Some s → Coming play.script w a v s t n
+      → Fits play Claim (placed_from a v (entered v a exports ks n) w t (went v (without a v ns w) head t))
+  received_fits w a v l n ns s t head exports ks h o i j q c = let left = left_fits a v l n ns w i j h in let m : Note Name = entered v a exports ks n in
+      placed_fits a v ns m w head t (imported_next w a v l n m ns s t h o left.1 (imported_fits a v ns m w left.0 (entered_fits w a v exports ks n left.1)) q c)

@@ -5,7 +5,6 @@ use Rattle.def_op.specs.Frames.{Operation}
 use Rattle.def_machine.specs.Values.{Name, Root, host_of}
 use Rattle.def_machine.specs.State.{Note, Put, Vat, Gives, send_out, begun, is_in}
 use Rattle.def_run.specs.Deeds.{hear}
-use Rattle.def_run.specs.Entered.{imports_placed}
 use Rattle.def_run.specs.Wire.{Connected, connected_at, with_connected}
 use Rattle.def_run.specs.World as world
 use Rattle.def_run.specs.World.{Script, Program, Event, Carried, Link, World, put_at, readied, names, names_of, read_note, link_at, next_frame, with_link, with_notes}
@@ -13,7 +12,7 @@ use Rattle.def_hostile.specs.Hostile.{Play, said_on}
 use Rattle.law_machine.specs.Machine.Steps.{Receives, does}
 use Rattle.law_machine.specs.Run.Moves.{AnyNotice, Moved, Still, Severs, Drops, Steps, Arrives, Hears, Tells, Does, went, without}
 use Rattle.law_machine.proofs.Run.Told.{moves_told}
-use Rattle.law_adversary.specs.Moves.{FrameMove, Usual, Recorded, Framed, Received, sight_at, framed_on, placed_from}
+use Rattle.law_adversary.specs.Moves.{FrameMove, Usual, Recorded, Framed, Received, entered_at, sight_at, framed_on}
 use Rattle.law_adversary.proofs.Lift.{frames_lifted}
 use Rattle.law_fate.specs.Name.Names.{Bit, Named, AllOf, IsAmong, NoteOk, Parts, KnownOk, Everywhere}
 use Rattle.law_fate.proofs.Name.Facts.{all_end, all_append, all_map, all_so, note_up}
@@ -33,7 +32,7 @@ use Rattle.law_lawful.proofs.Heard.{OpClaims}
 use Rattle.law_lawful.proofs.Moved.{left_fits, cut_fits, alone_fits, arrived_fits, received_fits, heard_quiet, heard_fits, sent_is}
 use Rattle.law_lawful.proofs.Spoken.{Fine, counts, news_fit, spoken_fine}
 use Rattle.law_lawful.proofs.Steps.{MadeIn, NoteFits, LinkFits, Fits, beside_fits, went_fits, made_next, tables_next}
-use Rattle.law_lawful.proofs.Tables.{any_op, imports_placed_fit, framed_fits}
+use Rattle.law_lawful.proofs.Tables.{any_op, framed_fits}
 
 module _ (play : Play) (Claim : ℕ → Type 0) (claims : (w : World) (h u : ℕ) (t : Vat Name) (n : Note Name) (o : Operation) (new : List Name) → IsSpoken play w h u t n o new → OpClaims Claim o) where
   abbrev F : World → Type 0
@@ -135,15 +134,12 @@ module _ (play : Play) (Claim : ℕ → Type 0) (claims : (w : World) (h u : ℕ
   usual_fits w y h (Hears a v s t n ns l k frame bad i c j q f e) = is_so _ y (swallowed_fits w a v k l n ns s t frame h bad i j q f) e
   usual_fits w y h (Tells v u s t r ds n bad i p l f e) = absurd l
 
-  placed_at : (a v : ℕ) (x : World) → F x → F (placed_from a v x)
-  placed_at a v x h = beside_fits play Claim x x.history (imports_placed v a x.connections) (imports_placed_fit Claim x.vats x.drawn v a x.connections h.connections) h
-
   pub move_fits : (w y : World) → F w → FrameMove play.script (IsHostile play) AnyNotice AnyDeed NothingSaid (IsSpoken play) w y → F y
   move_fits w y h (Usual m) = usual_fits w y h (moves_told play.script (IsHostile play) AnyNotice AnyDeed NothingSaid w y m)
   move_fits w y h (Recorded b bad es e) = is_so _ y (beside_fits play Claim w (w.history ++ es) w.connections h.connections h) e
   move_fits w y h (Framed v u s t r ds n o new bad i p x f e) = is_so _ y (framed_at w v u t r n o new h bad x f) e
-  move_fits w y h (Received b bad k a v l n ns s t o i c j q f e) = is_so _ y (placed_at a v _ (received_fits play Claim w a v k l n ns s t (next_frame a v w.connections) (connected_at a v w.connections).tables.exports (names_of s) h o i j q
-      (comes play.script w a v s t n (connected_at a v w.connections).tables.exports (sight_at w a v s) f))) e
+  move_fits w y h (Received b bad k a v l n ns s t o i c j q f e) = is_so _ y (received_fits play Claim w a v l n ns s t (Carried k a v (entered_at w a v s n) (next_frame a v w.connections) ∷ []) (connected_at a v w.connections).tables.exports (names_of s) h o i j q
+      (comes play.script w a v s t n (connected_at a v w.connections).tables.exports (sight_at w a v s) f)) e
 
 -- ---- the start
 

@@ -8,7 +8,8 @@ use Rattle.def_machine.specs.State.{Note, Deliver, Open, Ask, SettledTo, Elsewhe
 use Rattle.def_machine.specs.Arrive.{Incoming}
 use Rattle.def_run.specs.Connections.{Heard}
 use Rattle.def_run.specs.Deeds.{perform_all}
-use Rattle.def_run.specs.Wire.{connected_at}
+use Rattle.def_run.specs.Entered.{imports_placed}
+use Rattle.def_run.specs.Wire.{connected_at, hear_at}
 use Rattle.def_run.specs.World as world
 use Rattle.def_run.specs.World.{Program, Opens, Entry, Turn, Carry, CutLink, NoticeLink, Event, Turned, Carried, Idle, CutAt, NoticedAt, Link, World, Run, Goes as Going, Stopped, names, names_of, read_note, readied}
 use Rattle.def_hostile.specs.Claims as claims
@@ -20,11 +21,22 @@ use Rattle.law_machine.specs.Run.Moves.{went, without}
 use Rattle.law_adversary.specs.Moves.{entered_at, framed_on, placed_from}
 use Rattle.law_fate.specs.Fates.Fate.{total, of_note, in_note}
 use Rattle.law_fate.proofs.Fates.RunCounts.{total_append}
+use Rattle.law_fate.proofs.Name.Among.{get_put}
 use Rattle.law_injected.specs.HostileRuns.{IsHostile, IsSpoken}
 use Rattle.def_hostile.specs.Plays as come
 use Rattle.def_hostile.specs.Plays.{ComesTo}
 use Rattle.law_scenes.specs.Doings.{told, IsQuiet, IsOwn, Swallowing, Receiving, Saying, Unheard}
 use Rattle.law_scenes.proofs.Said.{speaks}
+
+-- a world in which what vat u put, if it is there, is written behind what it heard and imported
+abbrev written_from : Play → ℕ → ℕ → Note Name → World → Option (Vat Name) → World → World
+written_from play v u n w o y = record y { connections = hostile.written_behind play u (imports_placed u v (hear_at v u n w.connections)) o }
+
+-- what the vat of that step put is what it put by it
+written_so : (play : Play) (v u : ℕ) (ns : List (Note Name)) (n : Note Name) (w : World) (s t : Vat Name) (head : List Event) → slice_get w.vats u ≡ Some s
+    → written_from play v u n (without v u ns w) (slice_get (went u (without v u ns w) head t).vats u) (went u (without v u ns w) head t) ≡ placed_from v u n w t (went u (without v u ns w) head t)
+unfolding without went hostile.written_behind
+written_so play v u ns n w s t head q = ap (λ o. written_from play v u n (without v u ns w) o (went u (without v u ns w) head t)) (get_put w.vats u s t q)
 
 -- ---- lines
 
@@ -178,20 +190,20 @@ module _ (play : Play) (who : ℕ) (bad : IsHostile play who) (P : World → Typ
   enters_so true e v u w ns s n = cc
   enters_so false e v u w ns s n = refl
 
-  placed_so : (b : Bool) → b ≡ false → (v u : ℕ) (z : World) → hostile.placed_imports play b v u z ≡ placed_from v u z
+  placed_so : (b : Bool) → b ≡ false → (v u : ℕ) (n : Note Name) (w z : World) → hostile.placed_imports play b v u n w z ≡ written_from play v u n w (slice_get z.vats u) z
   unfolding hostile.placed_imports
-  placed_so true e v u z = cc
-  placed_so false e v u z = refl
+  placed_so true e v u n w z = cc
+  placed_so false e v u n w z = refl
 
-  placed_goes : (v u : ℕ) (run : Run) (y : World) → hostile.then_places play v u run ≡ Going y → (z : World) × (run ≡ Going z) × (y ≡ placed_from v u z)
+  placed_goes : (v u : ℕ) (n : Note Name) (w : World) (run : Run) (y : World) → hostile.then_places play v u n w run ≡ Going y → (z : World) × (run ≡ Going z) × (y ≡ written_from play v u n w (slice_get z.vats u) z)
   unfolding hostile.then_places
-  placed_goes v u (Going z) y e = (z, refl, going_is _ y e ∙ placed_so (hostile.is_empty play.hostile) not_empty v u z)
-  placed_goes v u (Stopped c k z) y e = cc
+  placed_goes v u n w (Going z) y e = (z, refl, going_is _ y e ∙ placed_so (hostile.is_empty play.hostile) not_empty v u n w z)
+  placed_goes v u n w (Stopped c k z) y e = cc
 
   receives_is : (k v u : ℕ) (w y : World) (n : Note Name) (ns : List (Note Name)) (s : Vat Name) → (IsHostile play u → ⊥) → slice_get w.vats u ≡ Some s → hostile.receives play k v u (without v u ns w) (entered_at w v u s n) s ≡ Going y → Receiving play k v u w y n ns
   unfolding hostile.receives without readied
-  receives_is k v u w y n ns s h q e = let p = placed_goes v u _ y e in let g = within_went u (without v u ns w) p.0 _ _ _ s p.1 in
-      record { honest = h; before = s; after = g.0; there = q; receives = g.1; is = p.2 ∙ ap (λ (z : World). placed_from v u z) g.2 }
+  receives_is k v u w y n ns s h q e = let m : Note Name = entered_at w v u s n in let p = placed_goes v u m (without v u ns w) _ y e in let g = within_went u (without v u ns w) p.0 _ _ _ s p.1 in
+      record { honest = h; before = s; after = g.0; there = q; receives = g.1; is = p.2 ∙ ap (λ (z : World). written_from play v u m (without v u ns w) (slice_get z.vats u) z) g.2 ∙ written_so play v u ns m w s g.0 _ q }
 
   receives_at_is : (k v u : ℕ) (w y : World) (n : Note Name) (ns : List (Note Name)) → (IsHostile play u → ⊥) → (o : Option (Vat Name)) → slice_get w.vats u ≡ o → hostile.receives_at play k v u (without v u ns w) n o ≡ Going y → Receiving play k v u w y n ns
   unfolding hostile.receives_at

@@ -51,7 +51,7 @@ module _ (play : Play) where
     pub after : Vat Name
     pub there : slice_get w.vats u ≡ Some before
     pub receives : receive (names play.script u) (sight_at w v u before) v (read_note (names_of before) (entered_at w v u before n)) (readied w before) ≡ Gives tt after
-    pub is : y ≡ placed_from v u (went u (without v u ns w) (Carried k v u (entered_at w v u before n) (world.next_frame v u w.connections) ∷ []) after)
+    pub is : y ≡ placed_from v u (entered_at w v u before n) w after (went u (without v u ns w) (Carried k v u (entered_at w v u before n) (world.next_frame v u w.connections) ∷ []) after)
 
   -- hostile vat h says a note to u, an honest one, in a frame
   pub record Saying (h u : ℕ) (w y : World) : Type 0 where

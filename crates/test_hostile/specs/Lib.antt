@@ -88,3 +88,5 @@ pub mod OrderUnderWayLedOn
 pub mod OrderHandedOn
 pub mod AskedForByAGuessedWord
 pub mod AskedForAndNotOpened
+pub mod NamedTwiceInNothing
+pub mod NamedToItsSender

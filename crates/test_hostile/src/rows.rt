@@ -89,6 +89,8 @@ ghost use Rattle.test_hostile.specs.OrderUnderWayLedOn.{Holds as OrderUnderWayLe
 ghost use Rattle.test_hostile.specs.OrderHandedOn.{Holds as OrderHandedOnHolds};
 ghost use Rattle.test_hostile.specs.AskedForByAGuessedWord.{Holds as AskedForByAGuessedWordHolds};
 ghost use Rattle.test_hostile.specs.AskedForAndNotOpened.{Holds as AskedForAndNotOpenedHolds};
+ghost use Rattle.test_hostile.specs.NamedTwiceInNothing.{Holds as NamedTwiceInNothingHolds};
+ghost use Rattle.test_hostile.specs.NamedToItsSender.{Holds as NamedToItsSenderHolds};
 
 /// MessageOfAFrame
 #[tactic(auto, unfolding(def_hostile::specs::HostileText::opened_hostile_text, crate::specs::Lines::opened_more, crate::specs::MessageOfAFrame::opened))]
@@ -625,4 +627,16 @@ pub fn asked_for_by_a_guessed_word()
 #[tactic(auto, unfolding(def_hostile::specs::HostileText::opened_hostile_text, crate::specs::Lines::opened_more, crate::specs::AskedForAndNotOpened::opened))]
 pub fn asked_for_and_not_opened()
     ensures text { AskedForAndNotOpenedHolds }
+{}
+
+/// A Resolve that does nothing names a gift twice that has no name: it prints by its word both times.
+#[tactic(auto, unfolding(def_hostile::specs::HostileText::opened_hostile_text, crate::specs::Lines::opened_more, crate::specs::NamedTwiceInNothing::opened))]
+pub fn named_twice_in_nothing()
+    ensures text { NamedTwiceInNothingHolds }
+{}
+
+/// A vat learns a gift of the sender by a position, and names it to that sender in the same step: its frame tells the position of the gift.
+#[tactic(auto, unfolding(def_hostile::specs::HostileText::opened_hostile_text, crate::specs::Lines::opened_more, crate::specs::NamedToItsSender::opened))]
+pub fn named_to_its_sender()
+    ensures text { NamedToItsSenderHolds }
 {}

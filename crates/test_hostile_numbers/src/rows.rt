@@ -88,6 +88,8 @@ ghost use Rattle.test_hostile.specs.OrderHandedOn.{due as orderhandedon_due, pla
 ghost use Rattle.test_hostile.specs.OrderLostOnTheWay.{due as orderlostontheway_due, play as orderlostontheway_play};
 ghost use Rattle.test_hostile.specs.OrderUnderWayAllSettled.{due as orderunderwayallsettled_due, play as orderunderwayallsettled_play};
 ghost use Rattle.test_hostile.specs.OrderUnderWayLedOn.{due as orderunderwayledon_due, play as orderunderwayledon_play};
+ghost use Rattle.test_hostile.specs.NamedTwiceInNothing.{due as namedtwiceinnothing_due, play as namedtwiceinnothing_play};
+ghost use Rattle.test_hostile.specs.NamedToItsSender.{due as namedtoitssender_due, play as namedtoitssender_play};
 
 /// MessageOfAFrame
 #[tactic(auto, unfolding(def_hostile::specs::NumbersText::opened_numbers_text, test_hostile::specs::Lines::opened_more, test_hostile::specs::MessageOfAFrame::opened))]
@@ -609,4 +611,16 @@ pub fn orderunderwayallsettled()
 #[tactic(auto, unfolding(def_hostile::specs::NumbersText::opened_numbers_text, test_hostile::specs::Lines::opened_more, test_hostile::specs::OrderUnderWayLedOn::opened))]
 pub fn orderunderwayledon()
     ensures told { TellsSo orderunderwayledon_play orderunderwayledon_due }
+{}
+
+/// NamedTwiceInNothing
+#[tactic(auto, unfolding(def_hostile::specs::NumbersText::opened_numbers_text, test_hostile::specs::Lines::opened_more, test_hostile::specs::NamedTwiceInNothing::opened))]
+pub fn namedtwiceinnothing()
+    ensures told { TellsFramesSo namedtwiceinnothing_play namedtwiceinnothing_due }
+{}
+
+/// NamedToItsSender
+#[tactic(auto, unfolding(def_hostile::specs::NumbersText::opened_numbers_text, test_hostile::specs::Lines::opened_more, test_hostile::specs::NamedToItsSender::opened))]
+pub fn namedtoitssender()
+    ensures told { TellsFramesSo namedtoitssender_play namedtoitssender_due }
 {}
